@@ -1,0 +1,89 @@
+-- Document 01, "Codes", on the digits alone: where a rooted code ends, the children's codes in it, and the edges that it decodes to;
+-- then rows 3 and 10 to 13 of "Refusal numbers" for a digit code lent by itself.
+--
+-- What the rooted code of a skeleton is, and that a right digit code is one, is in the crate `tree`. Assumes nothing.
+use mathlib.Core.Path.{_≡_}
+use mathlib.Core.Logic.{_⊎_}
+use mathlib.Core.List.{List, [], _∷_, _++_, flatten}
+use Prim.Native.Nat.{ℕ, zero, suc, _+_, _-_, _*_, _≤_, _<_}
+use lib.ListN.{length, getD, take, drop, replicate}
+use Rattle.laws.specs.Order.{_≽_}
+use Rattle.refusal.specs.Table.{Row, Outside, row15}
+
+-- digit number p, from 1
+abbrev pub digit : List ℕ → ℕ → ℕ
+digit c p = getD c (p - 1) 0
+
+unfoldable pub sum : List ℕ → ℕ
+sum [] = 0
+sum (k ∷ ds) = k + sum ds
+
+-- "The code ends at the first position where the sum of the digits so far is less than the position."
+pub record EndsAt (c : List ℕ) (e : ℕ) : Type 0 where
+  pub within : e ≤ length c
+  pub less : sum (take e c) < e
+  pub not-before : (i : ℕ) → i < e → i ≤ sum (take i c)
+
+-- the codes that the digits make, one behind the other: digit k takes the next k of those behind it for its children
+unfoldable pub codes : List ℕ → List (List ℕ)
+codes [] = []
+codes (k ∷ ds) = (k ∷ flatten (take k (codes ds))) ∷ drop k (codes ds)
+
+-- the codes of the children of digit v
+unfoldable pub childCodes : List ℕ → ℕ → List (List ℕ)
+childCodes c v = take (digit c v) (codes (drop v c))
+
+-- "The vertex of the i-th digit gets number i." W: the places still open, nearest first, each by the number of the vertex whose
+-- child is to stand there; j: the vertex of the next digit.
+unfoldable pub edgesFrom : List ℕ → ℕ → List ℕ → List ℕ
+edgesFrom W j [] = []
+edgesFrom [] j (k ∷ ds) = []
+edgesFrom (p ∷ W) j (k ∷ ds) = p ∷ j ∷ edgesFrom (replicate k j ++ W) (suc j) ds
+
+-- "Decoding gives the edges (parent, child) for child 2 to N in that order."
+unfoldable pub decode : List ℕ → List ℕ
+decode [] = []
+decode (k ∷ ds) = edgesFrom (replicate k 1) 2 ds
+
+-- the root's digit is at most R, every other at most R - 1
+abbrev pub cap : ℕ → ℕ → ℕ
+cap R zero = R
+cap R (suc zero) = R
+cap R (suc (suc p)) = R - 1
+
+-- at digit p begins a child's code that is larger than that of the sibling before it
+pub record Larger (c : List ℕ) (p : ℕ) : Type 0 where
+  pub parent : ℕ
+  pub before : ℕ
+  pub some : 1 ≤ parent
+  pub siblings : suc before < length (childCodes c parent)
+  pub larger : getD (childCodes c parent) before [] ≽ getD (childCodes c parent) (suc before) [] → ⊥
+  pub begins : p ≡ parent + 1 + length (flatten (take (suc before) (childCodes c parent)))
+
+-- 3: a digit code lent by itself is empty or over `most`
+abbrev pub row3 : ℕ → List ℕ → Row
+row3 most c = record { number = 3; applies = λ p. (p ≡ 0) × Outside most (length c) }
+
+-- 10: a digit is above R at the root or above R - 1 elsewhere; the place is the digit
+abbrev pub row10 : ℕ → List ℕ → Row
+row10 R c = record { number = 10; applies = λ p. (1 ≤ p) × (p ≤ length c) × (cap R p < digit c p) }
+
+-- 11: the code has ended and more follows; the place is the first digit number after the end
+abbrev pub row11 : List ℕ → Row
+row11 c = record { number = 11; applies = λ p. (p ≤ length c) × EndsAt c (p - 1) }
+
+-- 12: the code has not ended where the input does; the place is the whole digits read
+abbrev pub row12 : List ℕ → Row
+row12 c = record { number = 12; applies = λ p. (p ≡ length c) × ((e : ℕ) → EndsAt c e → ⊥) }
+
+-- 13: a child's code is larger than that of the sibling before it; the place is its first digit
+abbrev pub row13 : List ℕ → Row
+row13 c = record { number = 13; applies = λ p. Larger c p }
+
+-- what is refused of digits, whatever carries them
+abbrev pub digitRows : ℕ → List ℕ → List Row
+digitRows R c = row10 R c ∷ row11 c ∷ row12 c ∷ row13 c ∷ []
+
+-- what is refused of a digit code lent by itself
+abbrev pub codeRows : ℕ → ℕ → List ℕ → List Row
+codeRows most R c = row3 most c ∷ digitRows R c

@@ -1,0 +1,1 @@
+// Rooted digit codes.

@@ -1,0 +1,3 @@
+-- Laws of lists that more than one crate cites. Assumes nothing.
+pub mod Order
+pub mod Laid

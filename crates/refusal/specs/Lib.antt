@@ -1,0 +1,3 @@
+-- Refusals, once, for every call of every crate. Assumes nothing.
+pub mod Table
+pub mod Outcome

@@ -1,0 +1,12 @@
+-- Document 01, "Places and their forms": "Where an answer is an enum, a definition gives this paper's number and values for each
+-- of the enum's cases, and the promises use this definition."
+-- Assumes nothing.
+use Prim.Native.Nat.{ℕ}
+use Rattle.refusal.specs.Table.{Outcome, gives, refuses}
+use Rattle.refusal.specs.declared.Answer.{Answer}
+use Rattle.refusal.specs.declared.Answer.the-variants.{Done, Refused}
+
+-- `Done n`: n bytes are written; `Refused k p`: number k at place p
+abbrev pub told : Answer → Outcome ℕ
+told (Done n) = gives n
+told (Refused k p) = refuses k p

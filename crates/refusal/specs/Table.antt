@@ -1,0 +1,62 @@
+-- Document 01, "Refusal numbers": "Where several apply, the lowest number wins, then its first place."
+--
+-- In order: a row of the table; the answer that a table allows; the promise of a call with a lent output.
+-- What each row says stands with the input it speaks of. That a table allows one answer, and how checks are put together, is
+-- in `Laws`. Assumes nothing.
+use mathlib.Core.Path.{_≡_}
+use mathlib.Core.Logic.{_⊎_}
+use mathlib.Core.List.{List, [], _∷_}
+use Prim.Native.Nat.{ℕ, _≤_, _<_}
+use lib.ListN.{length}
+use Rattle.laws.specs.Laid.{laidOver}
+use Rattle.refusal.specs.declared.Check.{Check}
+use Rattle.refusal.specs.declared.Check.the-variants.{Passed, Refuse}
+
+-- a row: its number, and the places of the input at which it applies
+pub record Row : Type 1 where
+  pub number : ℕ
+  pub applies : ℕ → Type 0
+
+-- one of the rows has the number k and applies at the place p
+abbrev pub Applies : List Row → ℕ → ℕ → Type 0
+Applies [] k p = ⊥
+Applies (r ∷ rs) k p = ((k ≡ r .number) × r .applies p) ⊎ Applies rs k p
+
+-- no row applies
+pub record Clear (rs : List Row) : Type 0 where
+  pub nowhere : (k p : ℕ) → Applies rs k p → ⊥
+
+-- k is the lowest number that applies, and p its first place
+pub record Lowest (rs : List Row) (k p : ℕ) : Type 0 where
+  pub applies : Applies rs k p
+  pub first : (j q : ℕ) → Applies rs j q → (k < j) ⊎ ((k ≡ j) × (p ≤ q))
+
+-- what one check among several may answer
+pub data Answers (rs : List Row) : Check → Type 0 where
+  passes : Clear rs → Answers rs Passed
+  fails : {k p : ℕ} → Lowest rs k p → Answers rs (Refuse k p)
+
+-- what a call answers: the value that was asked for, or a refusal's number and place
+pub data Outcome (A : Type 0) : Type 0 where
+  gives : A → Outcome A
+  refuses : ℕ → ℕ → Outcome A
+
+-- What a table allows. `right a new`: a is the value asked for, and what was lent holds new. A refusal leaves it as it was, old.
+pub data Promise {A S : Type 0} (rs : List Row) (right : A → S → Type 0) (old new : S) : Outcome A → Type 0 where
+  kept : {a : A} → Clear rs → right a new → Promise rs right old new (gives a)
+  left : {k p : ℕ} → Lowest rs k p → new ≡ old → Promise rs right old new (refuses k p)
+
+-- the result c is right, n is its length, and it is written from the start of what was lent
+pub record Writes (Right : List ℕ → Type 0) (old : List ℕ) (n : ℕ) (new : List ℕ) : Type 0 where
+  pub result : List ℕ
+  pub right : Right result
+  pub count : n ≡ length result
+  pub lies : new ≡ laidOver result old
+
+-- the number v is outside 1 to most
+abbrev pub Outside : ℕ → ℕ → Type 0
+Outside most v = (v ≡ 0) ⊎ (most < v)
+
+-- 15: the lent output is too short; the place is the length needed
+abbrev pub row15 : ℕ → List ℕ → Row
+row15 need out = record { number = 15; applies = λ p. (p ≡ need) × (length out < need) }

@@ -1,0 +1,15 @@
+// What a call answers. The meaning of each case, and of "the lowest number, then its first place", is in specs/Table.antt.
+
+// Of a call that writes a result into a lent output, or only looks at its input.
+pub enum Answer {
+    // Done: so many bytes are written at the start of the lent output (0 where none is lent).
+    Done(usize),
+    // Refused: the number of document 01's table, and the place.
+    Refused(u8, usize),
+}
+
+// Of one check among several: nothing applies, or the lowest number that does, at its first place.
+pub enum Check {
+    Passed,
+    Refuse(u8, usize),
+}

@@ -1,0 +1,4 @@
+-- Skeletons and their rooted codes. Assumes nothing.
+pub mod Skeleton
+pub mod Forest
+pub mod Examples
