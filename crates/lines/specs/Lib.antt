@@ -1,0 +1,6 @@
+-- Lines: what a line is, what is refused of it, and what damage can do to a text. Assumes nothing.
+pub mod Line
+pub mod Damage
+pub mod Cuts
+pub mod Edits
+pub mod Bodies

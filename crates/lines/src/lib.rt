@@ -1,0 +1,1 @@
+// Lines: the form of a line, read and written.
