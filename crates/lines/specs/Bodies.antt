@@ -84,8 +84,8 @@ one-count (two d f p q r g s) (two d′ f′ p′ q′ r′ g′ s′) =
 pub formed-once : {b : List ℕ} {n m : ℕ} {ds es : List ℕ} → Formed b n ds → Formed b m es → (n ≡ m) × (ds ≡ es)
 formed-once {b} {n} {m} {ds} {es} f g =
     let h =
-      cut-only 32 (f .count) (figures ds) (g .count) (figures es) (count-free 32 (omega arith) (g .counts))
-      (free-figures 32 es (inl (omega arith)) (g .digits)) (sym (f .parts) ∙ g .parts) in
+    cut-only 32 (f .count) (figures ds) (g .count) (figures es) (count-free 32 (omega arith) (g .counts))
+    (free-figures 32 es (inl (omega arith)) (g .digits)) (sym (f .parts) ∙ g .parts) in
     (one-count (f .counts) (rw (h .0) (g .counts)), same-figures ds es (h .1))
 
 pub formed-body : {b : List ℕ} {n : ℕ} {ds : List ℕ} → Formed b n ds → length ds ≡ n → b ≡ body ds
@@ -100,13 +100,13 @@ pub record Fits (c : List ℕ) : Type 0 where
 module _ (c : List ℕ) (fits : Fits c) where
   pub body-formed : Formed (body c) (length c) c
   unfolding body
-  body-formed = record
-    { count = decimal (length c)
-    ; counts = decimal-counts (length c) (fits .few)
-    ; some = fits .code .some
-    ; digits = fits .code .digits
-    ; parts = refl
-    }
+  body-formed = record {
+    count = decimal (length c);
+    counts = decimal-counts (length c) (fits .few);
+    some = fits .code .some;
+    digits = fits .code .digits;
+    parts = refl;
+  }
 
   pub decimal-free : (k : ℕ) → k < 48 → Free k (decimal (length c))
   decimal-free k l = count-free k l (decimal-counts (length c) (fits .few))
@@ -117,14 +117,14 @@ module _ (c : List ℕ) (fits : Fits c) where
   pub body-free : Free 10 (body c)
   unfolding body
   body-free =
-    free-join 10 (decimal (length c)) (32 ∷ figures c) (decimal-free 10 (omega arith))
-    ((λ e. omega arith), digits-free 10 (omega arith))
+      free-join 10 (decimal (length c)) (32 ∷ figures c) (decimal-free 10 (omega arith))
+      ((λ e. omega arith), digits-free 10 (omega arith))
 
   -- the line of c is cut at its space in one way
   pub body-space : (x y : List ℕ) → x ++ (32 ∷ y) ≡ body c → (x ≡ decimal (length c)) × (y ≡ figures c)
   unfolding body
   body-space x y e =
-    cut-only 32 x y (decimal (length c)) (figures c) (decimal-free 32 (omega arith)) (digits-free 32 (omega arith)) e
+      cut-only 32 x y (decimal (length c)) (figures c) (decimal-free 32 (omega arith)) (digits-free 32 (omega arith)) e
 
 front-all : (s z t : List ℕ) → s ++ z ≡ t → length s ≡ length t → (s ≡ t) × (z ≡ [])
 front-all [] z [] e l = (refl, e)
@@ -144,47 +144,51 @@ module _ (c d : List ℕ) (fits : Fits c) (fits′ : Fits d) where
     where
       go : Around (decimal (length c)) 32 (figures c) (body d) → ⊥
       go (before x′ f q) =
-        let h = body-space d fits′ x′ (figures c) (sym q) in
-        let g : c ≡ d = same-figures c d (h .1) in
-        let k : decimal (length c) ≡ x′ = ap (λ (z : List ℕ). decimal (length z)) g ∙ sym (h .0) in
-        edit-shows f (ap length k) (ap sum k)
+          let h = body-space d fits′ x′ (figures c) (sym q) in
+          let g : c ≡ d = same-figures c d (h .1) in
+          let k : decimal (length c) ≡ x′ = ap (λ (z : List ℕ). decimal (length z)) g ∙ sym (h .0) in
+          edit-shows f (ap length k) (ap sum k)
       go (on m f q) =
-        let g =
+          let g =
           free-join 32 (decimal (length c)) (m ++ figures c) (decimal-free c fits 32 (omega arith))
           (free-join 32 m (figures c) f (digits-free c fits 32 (omega arith))) in
-        not-free 32 (decimal (length d)) (figures d) (rw q g)
+          not-free 32 (decimal (length d)) (figures d) (rw q g)
       go (behind y′ f q) =
-        let h = body-space d fits′ (decimal (length c)) y′ (sym q) in
-        let n = same-length (h .0) in
-        let l = fits .code .total in
-        let r = fits′ .code .total in
-        let g : Edit (figures c) (figures d) = rw (h .1) at f in
-        edit-shows g (omega (arith, length-figures c, length-figures d)) (omega (arith, sum-figures c, sum-figures d))
+          let h = body-space d fits′ (decimal (length c)) y′ (sym q) in
+          let n = same-length (h .0) in
+          let l = fits .code .total in
+          let r = fits′ .code .total in
+          let g : Edit (figures c) (figures d) = rw (h .1) at f in
+          edit-shows g (omega (arith, length-figures c, length-figures d)) (omega (arith, sum-figures c, sum-figures d))
 
   -- a line that begins with the line of a code is that line
   pub starts : (z : List ℕ) → body c ++ z ≡ body d → (c ≡ d) × (z ≡ [])
   unfolding body
   starts z e =
-    let h =
+      let h =
       body-space d fits′ (decimal (length c)) (figures c ++ z)
       (sym (append-assoc (decimal (length c)) (32 ∷ figures c) z) ∙ e) in
-    let n = same-length (h .0) in
-    let g = front-all (figures c) z (figures d) (h .1) (omega (arith, length-figures c, length-figures d)) in
-    (same-figures c d (g .0), g .1)
+      let n = same-length (h .0) in
+      let g = front-all (figures c) z (figures d) (h .1) (omega (arith, length-figures c, length-figures d)) in
+      (same-figures c d (g .0), g .1)
 
   -- a line that ends with the line of a code carries that code
   pub ends : (x : List ℕ) → x ++ body c ≡ body d → c ≡ d
   unfolding body
   ends x e =
-    same-figures c d
-    (body-space d fits′ (x ++ decimal (length c)) (figures c) (append-assoc x (decimal (length c)) (32 ∷ figures c) ∙ e) .1)
+      same-figures c d
+      (body-space d fits′ (x ++ decimal (length c)) (figures c) (append-assoc x (decimal (length c)) (32 ∷ figures c) ∙ e) .1)
 
 -- no line holds two lines
 pub doubled : (c d e m : List ℕ) → Fits e → body c ++ (m ++ body d) ≡ body e → ⊥
 unfolding body
 doubled c d e m fits q =
     let h =
-      body-space e fits (decimal (length c)) (figures c ++ (m ++ body d))
-      (sym (append-assoc (decimal (length c)) (32 ∷ figures c) (m ++ body d)) ∙ q) in
+    body-space e fits (decimal (length c)) (figures c ++ (m ++ body d))
+    (sym (append-assoc (decimal (length c)) (32 ∷ figures c) (m ++ body d)) ∙ q) in
     let f = rw (← h .1) at (digits-free e fits 32 (omega arith)) in
     not-free 32 (decimal (length d)) (figures d) (free-right 32 m (body d) (free-right 32 (figures c) (m ++ body d) f))
+
+pub body-some : (c : List ℕ) → 1 ≤ length (body c)
+unfolding body
+body-some c = simp length-append (omega arith)

@@ -3,9 +3,10 @@
 use mathlib.Core.Path.{_≡_, refl, sym, ap}
 use mathlib.Core.Logic.{_⊎_, inl, inr}
 use mathlib.Core.List.{List, [], _∷_, _++_}
-use Prim.Native.Nat.{ℕ}
+use Prim.Native.Nat.{ℕ, _≤_}
 use native.Mathlib.Decide.{ℕ-discrete}
 use native.Mathlib.Omega.{arith}
+use lib.ListN.{length, length-append}
 use Rattle.lines.specs.Line.{Free, Cut}
 
 -- both parts of a join are free of k
@@ -39,6 +40,9 @@ meet k (c ∷ x) y (a ∷ b) rest f e = onward (meet k x y b rest (f .1) (cc))
     onward : Meet k x y b rest → Meet k (c ∷ x) y (a ∷ b) rest
     onward (same p q) = same (cc) q
     onward (further z p q) = further z (cc) q
+
+pub cut-some : {k : ℕ} {t b rest : List ℕ} → Cut k t b rest → 1 ≤ length t
+cut-some c = omega (arith, simp length-append at (ap length (c .parts)))
 
 -- a list has one first k
 pub cut-once : (k : ℕ) (t b rest d more : List ℕ) → Cut k t b rest → Cut k t d more → (b ≡ d) × (rest ≡ more)

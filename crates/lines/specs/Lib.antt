@@ -4,3 +4,6 @@ pub mod Damage
 pub mod Cuts
 pub mod Edits
 pub mod Bodies
+pub mod Answered
+pub mod Texts
+pub mod Robustness

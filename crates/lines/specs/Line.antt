@@ -107,14 +107,14 @@ abbrev pub judged : List DigitRow → List ℕ → List Row
 judged rows c = map (judging c) rows
 
 -- the row for a line's digits
-abbrev pub under : List ℕ → DigitRow → Row
-under t r = record { number = r .number; applies = λ p. Where t (λ n ds. r .applies ds p) }
+abbrev pub ofLine : List ℕ → DigitRow → Row
+ofLine t r = record { number = r .number; applies = λ p. Where t (λ n ds. r .applies ds p) }
 
 -- "Reading a line takes a text up to its first line feed, looks at nothing behind it": most is the largest N, rows judge the digits
 module _ (most : ℕ) (rows : List DigitRow) where
   -- what is refused of a line
   abbrev pub lineRows : List ℕ → List Row
-  lineRows t = row1 t ∷ row2 t ∷ row3 most t ∷ row5 t ∷ map (under t) rows
+  lineRows t = row1 t ∷ row2 t ∷ row3 most t ∷ row5 t ∷ map (ofLine t) rows
 
   -- the answers to the first line of t: its digits, or a refusal
   abbrev pub LineAnswers : List ℕ → Outcome (List ℕ) → Type 0
@@ -125,4 +125,4 @@ module _ (most : ℕ) (rows : List DigitRow) where
     none : TextAnswers [] []
     unfinished : {t : List ℕ} {o : Outcome (List ℕ)} → 1 ≤ length t → Free 10 t → LineAnswers t o → TextAnswers t (o ∷ [])
     next : {t b rest : List ℕ} {o : Outcome (List ℕ)} {os : List (Outcome (List ℕ))} → Cut 10 t b rest → LineAnswers t o →
-           TextAnswers rest os → TextAnswers t (o ∷ os)
+        TextAnswers rest os → TextAnswers t (o ∷ os)
