@@ -8,7 +8,7 @@ use native.Mathlib.Decide.{ℕ-discrete}
 use native.Mathlib.Omega.{arith}
 use lib.ListN.{length}
 use Rattle.refusal.specs.Table.{Row, Applies, Clear, Lowest, Outcome, gives, refuses, Promise, kept, left, Outside}
-use Rattle.refusal.specs.Laws.{never, others}
+use Rattle.refusal.specs.Laws.{one-result, never, others}
 use Rattle.lines.specs.Line.{body, Free, Cut, Formed, Shaped, Where, DigitRow, judging, judged, ofLine, lineRows, LineAnswers}
 use Rattle.lines.specs.Damage.{Code, Accept}
 use Rattle.lines.specs.Cuts.{not-free, cut-once}
@@ -106,6 +106,9 @@ answer-moves most rows c d (left {k} {p} l e) =
     })
     e
 
+pub answered-once : (most : ℕ) (rows : List DigitRow) {t : List ℕ} {o p : Outcome (List ℕ)} → LineAnswers most rows t o → LineAnswers most rows t p → o ≡ p
+answered-once most rows h k = one-result (λ ds es s r. (shaped-once (s .1) (r .1) .1, refl)) h k .0
+
 -- ---- what a line is answered
 
 -- a line without its line feed, and its answer: it is the line of the code that is given, or of no accepted code
@@ -117,6 +120,12 @@ module _ (most : ℕ) (rows : List DigitRow) (bound : most ≤ 99) (lawful : (c 
   -- an accepted code fits a line
   pub fits : {c : List ℕ} → Accept most rows c → Fits c
   fits {c} a = record { code = lawful c (a .clear); few = omega (arith, a .few) }
+
+  -- the line of an accepted code can be answered with it
+  pub gives-code : {c t rest : List ℕ} → Accept most rows c → Cut 10 t (body c) rest → LineAnswers most rows t (gives c)
+  gives-code {c} {t} {rest} a u =
+      let s : Shaped t (length c) c = record { text = body c; rest = rest; feed = u; formed = body-formed c (fits a) } in
+      kept (line-clear most rows s refl (fits a .code .some) a) (length c, s)
 
   pub look : {t b rest : List ℕ} {o : Outcome (List ℕ)} → Cut 10 t b rest → LineAnswers most rows t o → Look most rows b o
   look {t} {b} {rest} c (kept h r) =

@@ -7,3 +7,6 @@ pub mod Bodies
 pub mod Answered
 pub mod Texts
 pub mod Robustness
+pub mod Lawful
+pub mod Theorems
+pub mod Examples

@@ -98,6 +98,10 @@ pub record DigitRow : Type 1 where
   pub number : ℕ
   pub applies : List ℕ → ℕ → Type 0
 
+-- a row of a table for digits, whose number is the same for all of them
+abbrev pub digitRow : (List ℕ → Row) → DigitRow
+digitRow r = record { number = r [] .number; applies = λ c. r c .applies }
+
 -- the row for the digits c
 abbrev pub judging : List ℕ → DigitRow → Row
 judging c r = record { number = r .number; applies = r .applies c }

@@ -1,6 +1,6 @@
 -- What a text is answered, from its first line on: `first` and `last` take the answers apart, `answers-cut` cuts them at any line
 -- feed, and a clean text is read back. Assumes nothing.
-use mathlib.Core.Path.{_≡_, refl, sym, ap, _∙_}
+use mathlib.Core.Path.{_≡_, refl, sym, ap, ap₂, _∙_}
 use mathlib.Core.List.{List, [], _∷_, _++_, map, append-assoc}
 use Prim.Native.Nat.{ℕ, _≤_}
 use native.Mathlib.Omega.{arith}
@@ -10,7 +10,7 @@ use Rattle.lines.specs.Line.{body, line, written, Free, Cut, DigitRow, j
 use Rattle.lines.specs.Damage.{Code, Accept, Accepted, Recovers}
 use Rattle.lines.specs.Cuts.{not-free, cut-some, cut-once, Meet, same, further, meet}
 use Rattle.lines.specs.Bodies.{Fits, body-free}
-use Rattle.lines.specs.Answered.{shaped-fed, answer-moves, fits, look, sure}
+use Rattle.lines.specs.Answered.{shaped-fed, answer-moves, fits, gives-code, answered-once, look, sure}
 
 -- the text of codes is cut behind the first one's line
 pub cut-line : (c : List ℕ) (cs : List (List ℕ)) → Fits c → Cut 10 (written (c ∷ cs)) (body c) (written cs)
@@ -39,16 +39,28 @@ module _ (most : ℕ) (rows : List DigitRow) where
   no-line (next c a h) e = let l = cut-some c in let n = ap length e in absurd (omega arith)
 
   -- an unfinished line is refused
-  pub record Last (os : List (Outcome (List ℕ))) : Type 0 where
+  pub record Last (t : List ℕ) (os : List (Outcome (List ℕ))) : Type 0 where
     pub number : ℕ
     pub place : ℕ
     pub only : os ≡ refuses number place ∷ []
+    pub line : LineAnswers most rows t (refuses number place)
 
-  pub last : {t : List ℕ} {os : List (Outcome (List ℕ))} → 1 ≤ length t → Free 10 t → TextAnswers most rows t os → Last os
+  pub last : {t : List ℕ} {os : List (Outcome (List ℕ))} → 1 ≤ length t → Free 10 t → TextAnswers most rows t os → Last t os
   last l f none = absurd (omega arith)
   last l f (unfinished h g (kept u r)) = absurd (shaped-fed (r .1) f)
-  last l f (unfinished h g (left {k} {p} u e)) = record { number = k; place = p; only = refl }
+  last l f (unfinished h g (left {k} {p} u e)) = record { number = k; place = p; only = refl; line = left u e }
   last l f (next {b} {rest} c a h) = absurd (not-free 10 b rest (rw (c .parts) at f))
+
+  pub texts-once : {t : List ℕ} {os ps : List (Outcome (List ℕ))} → TextAnswers most rows t os → TextAnswers most rows t ps → os ≡ ps
+  texts-once none k = sym (no-line k refl)
+  texts-once (unfinished l f a) k =
+      let g = last l f k in
+      let e = answered-once most rows a (g .line) in
+      ap (λ o. o ∷ []) e ∙ sym (g .only)
+  texts-once (next c a h) k =
+      let g = first c k in
+      let e = answered-once most rows a (g .line) in
+      ap₂ _∷_ e (texts-once h (g .text)) ∙ sym (g .parts)
 
   -- the answers to a text with a line feed in it: to the front, and to what is behind
   pub record Halves (z y : List ℕ) (os : List (Outcome (List ℕ))) : Type 0 where
@@ -106,6 +118,13 @@ module _ (most : ℕ) (rows : List DigitRow) (bound : most ≤ 99) (lawful : (c 
   reads-back (c ∷ cs) a e h =
       let g = given (a .0) (cut-line c cs (fits most rows bound lawful (a .0))) (rw e at h) in
       g .parts ∙ ap (λ os. gives c ∷ os) (reads-back cs (a .1) refl (g .text))
+
+  pub reads : (cs : List (List ℕ)) → Accepted most rows cs → TextAnswers most rows (written cs) (map gives cs)
+  unfolding written
+  reads [] a = none
+  reads (c ∷ cs) a =
+      let u = cut-line c cs (fits most rows bound lawful (a .0)) in
+      next u (gives-code most rows bound lawful (a .0) u) (reads cs (a .1))
 
   -- a line feed of a clean text is the end of a line
   pub record Ends (cs : List (List ℕ)) (y : List ℕ) : Type 0 where
