@@ -2,4 +2,5 @@
 pub mod Limits
 pub mod Code
 pub mod Ends
+pub mod Compare
 pub mod Examples
