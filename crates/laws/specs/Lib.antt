@@ -1,5 +1,6 @@
 -- Laws of lists that more than one crate cites. Assumes nothing.
 pub mod Order
 pub mod Laid
+pub mod Laying
 pub mod Perms
 pub mod Part

@@ -8,9 +8,10 @@ use native.Mathlib.Decide.{decLt}
 use native.Mathlib.Omega.{arith}
 use lib.ListN.{length, length-append}
 use Rattle.code.specs.Code.{sum}
-use Rattle.lines.specs.Line.{figures, decimal, body, Free, Digits, IsCount, one, two, Formed}
+use Rattle.lines.specs.Line.{figures, decimal, body, Other, Free, Digits, IsCount, one, two, Formed}
 use Rattle.lines.specs.Damage.{Code}
-use Rattle.lines.specs.Cuts.{free-join, free-right, not-free, cut-only}
+use Rattle.lines.specs.Cuts.{not-free, cut-only}
+use Rattle.lines.specs.Each.{each-join, each-right}
 use Rattle.lines.specs.Edits.{Edit, edit-shows, Around, before, on, behind, around}
 
 pub length-figures : (ds : List ℕ) → length (figures ds) ≡ length ds
@@ -117,7 +118,7 @@ module _ (c : List ℕ) (fits : Fits c) where
   pub body-free : Free 10 (body c)
   unfolding body
   body-free =
-      free-join 10 (decimal (length c)) (32 ∷ figures c) (decimal-free 10 (omega arith))
+      each-join (Other 10) (decimal (length c)) (32 ∷ figures c) (decimal-free 10 (omega arith))
       ((λ e. omega arith), digits-free 10 (omega arith))
 
   -- the line of c is cut at its space in one way
@@ -150,8 +151,8 @@ module _ (c d : List ℕ) (fits : Fits c) (fits′ : Fits d) where
           edit-shows f (ap length k) (ap sum k)
       go (on m f q) =
           let g =
-          free-join 32 (decimal (length c)) (m ++ figures c) (decimal-free c fits 32 (omega arith))
-          (free-join 32 m (figures c) f (digits-free c fits 32 (omega arith))) in
+          each-join (Other 32) (decimal (length c)) (m ++ figures c) (decimal-free c fits 32 (omega arith))
+          (each-join (Other 32) m (figures c) f (digits-free c fits 32 (omega arith))) in
           not-free 32 (decimal (length d)) (figures d) (rw q g)
       go (behind y′ f q) =
           let h = body-space d fits′ (decimal (length c)) y′ (sym q) in
@@ -187,7 +188,7 @@ doubled c d e m fits q =
     body-space e fits (decimal (length c)) (figures c ++ (m ++ body d))
     (sym (append-assoc (decimal (length c)) (32 ∷ figures c) (m ++ body d)) ∙ q) in
     let f = rw (← h .1) at (digits-free e fits 32 (omega arith)) in
-    not-free 32 (decimal (length d)) (figures d) (free-right 32 m (body d) (free-right 32 (figures c) (m ++ body d) f))
+    not-free 32 (decimal (length d)) (figures d) (each-right (Other 32) m (body d) (each-right (Other 32) (figures c) (m ++ body d) f))
 
 pub body-some : (c : List ℕ) → 1 ≤ length (body c)
 unfolding body

@@ -7,24 +7,12 @@ use Prim.Native.Nat.{ℕ, _≤_}
 use native.Mathlib.Decide.{ℕ-discrete}
 use native.Mathlib.Omega.{arith}
 use lib.ListN.{length, length-append}
-use Rattle.lines.specs.Line.{Free, Cut}
-
--- both parts of a join are free of k
-pub free-left : (k : ℕ) (s t : List ℕ) → Free k (s ++ t) → Free k s
-free-left k [] t f = tt
-free-left k (a ∷ s) t f = (f .0, free-left k s t (f .1))
-
-pub free-right : (k : ℕ) (s t : List ℕ) → Free k (s ++ t) → Free k t
-free-right k [] t f = f
-free-right k (a ∷ s) t f = free-right k s t (f .1)
-
-pub free-join : (k : ℕ) (s t : List ℕ) → Free k s → Free k t → Free k (s ++ t)
-free-join k [] t f g = g
-free-join k (a ∷ s) t f g = (f .0, free-join k s t (f .1) g)
+use Rattle.lines.specs.Line.{Other, Free, Cut}
+use Rattle.lines.specs.Each.{each-right}
 
 -- what holds k is not free of it
 pub not-free : (k : ℕ) (s t : List ℕ) → Free k (s ++ (k ∷ t)) → ⊥
-not-free k s t f = free-right k s (k ∷ t) f .0 refl
+not-free k s t f = each-right (Other k) s (k ∷ t) f .0 refl
 
 -- two cuts of one list at k, of which the second is at the first k: they are the same, or the first is further back
 pub data Meet (k : ℕ) (x y b rest : List ℕ) : Type 0 where

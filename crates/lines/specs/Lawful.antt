@@ -10,12 +10,9 @@ use Rattle.code.specs.Code.{sum, EndsAt, cap, row10, row11, row12}
 use Rattle.code.specs.Ends.{ends-iff, ends-sum}
 use Rattle.refusal.specs.Table.{Row, Clear}
 use Rattle.refusal.specs.Laws.{never, others}
-use Rattle.lines.specs.Line.{Digits}
+use Rattle.lines.specs.Line.{Digit}
+use Rattle.lines.specs.Each.{each-of}
 use Rattle.lines.specs.Damage.{Code}
-
-digits-at : (c : List ℕ) → ((i : ℕ) → i < length c → getD c i 0 ≤ 9) → Digits c
-digits-at [] h = tt
-digits-at (d ∷ c) h = (h 0 (omega arith), digits-at c (λ i l. h (suc i) (omega arith)))
 
 cap-most : (R p : ℕ) → cap R p ≤ R
 cap-most R zero = omega arith
@@ -23,7 +20,7 @@ cap-most R (suc zero) = omega arith
 cap-most R (suc (suc p)) = omega arith
 
 pub lawful : (R : ℕ) → R ≤ 9 → (c : List ℕ) {rows : List Row} → Clear (row10 R c ∷ row11 c ∷ row12 c ∷ rows) → Code c
-lawful R h c {rows} k = record { some = omega (arith, sums); digits = digits-at c low; total = sums }
+lawful R h c {rows} k = record { some = omega (arith, sums); digits = each-of Digit c low; total = sums }
   where
     low : (i : ℕ) → i < length c → getD c i 0 ≤ 9
     low i l =

@@ -15,8 +15,7 @@ use Rattle.refusal.specs.Table.{Row, Clear, Outcome, Promise, Outside}
 
 -- digits as they are written, bytes 48 to 57
 unfoldable pub figures : List ℕ → List ℕ
-figures [] = []
-figures (d ∷ ds) = (48 + d) ∷ figures ds
+figures ds = map (λ d. 48 + d) ds
 
 -- the count n as it is written, in one digit or two
 unfoldable pub decimal : ℕ → List ℕ
@@ -35,20 +34,29 @@ unfoldable pub written : List (List ℕ) → List ℕ
 written [] = []
 written (c ∷ cs) = line c ++ written cs
 
+-- P holds of each number of t
+abbrev pub Each : (ℕ → Type 0) → List ℕ → Type 0
+Each P [] = Unit {0}
+Each P (a ∷ t) = P a × Each P t
+
+abbrev pub Other : ℕ → ℕ → Type 0
+Other k a = a ≡ k → ⊥
+
 -- no byte of t is k
 abbrev pub Free : ℕ → List ℕ → Type 0
-Free k [] = Unit {0}
-Free k (a ∷ t) = (a ≡ k → ⊥) × Free k t
+Free k t = Each (Other k) t
 
 -- t is cut at its first k: b stands before it, rest behind it
 pub record Cut (k : ℕ) (t b rest : List ℕ) : Type 0 where
   pub parts : t ≡ b ++ (k ∷ rest)
   pub free : Free k b
 
+abbrev pub Digit : ℕ → Type 0
+Digit d = d ≤ 9
+
 -- each is a digit
 abbrev pub Digits : List ℕ → Type 0
-Digits [] = Unit {0}
-Digits (d ∷ ds) = (d ≤ 9) × Digits ds
+Digits ds = Each Digit ds
 
 -- "a count of one digit, or of two with the first not 0": b is such a count, and says n
 pub data IsCount (b : List ℕ) (n : ℕ) : Type 0 where

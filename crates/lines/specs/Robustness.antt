@@ -6,9 +6,10 @@ use Prim.Native.Nat.{ℕ, _+_, _≤_}
 use native.Mathlib.Omega.{arith}
 use lib.ListN.{length, length-append}
 use Rattle.refusal.specs.Table.{Clear, Outcome, gives, refuses}
-use Rattle.lines.specs.Line.{body, written, Free, Cut, DigitRow, judged, TextAnswers}
+use Rattle.lines.specs.Line.{body, written, Other, Free, Cut, DigitRow, judged, TextAnswers}
 use Rattle.lines.specs.Damage.{Code, Among, end, keep, skip, records, refusals, Robust, Accept, Accepted}
-use Rattle.lines.specs.Cuts.{free-join, free-right, not-free, Seek, nowhere, found, seek}
+use Rattle.lines.specs.Cuts.{not-free, Seek, nowhere, found, seek}
+use Rattle.lines.specs.Each.{each-join, each-right}
 use Rattle.lines.specs.Edits.{Edit, more, edit-back, Around, before, on, behind, around}
 use Rattle.lines.specs.Bodies.{Fits, body-free, body-some, apart, starts, ends, doubled}
 use Rattle.lines.specs.Answered.{fits, Look, good, bad, look}
@@ -123,7 +124,7 @@ module _ (most : ℕ) (rows : List DigitRow) (bound : most ≤ 99) (lawful : (c 
       split b s k (before b′ f r) os h = absurd (not-free 10 b′ s (rw r at (body-free c (fit a))))
       split b s k (behind s′ f r) os h = absurd (not-free 10 b s′ (rw r at (body-free c (fit a))))
       split b s k (on m f r) os h =
-          let free = free-right 10 m s (free-right 10 b (m ++ s) (rw r at (body-free c (fit a)))) in
+          let free = each-right (Other 10) m s (each-right (Other 10) b (m ++ s) (rw r at (body-free c (fit a)))) in
           let cut : Cut 10 u b (s ++ (10 ∷ written cs)) =
           record { parts = q ∙ ap (λ (z : List ℕ). z ++ (10 ∷ written cs)) (k .parts) ∙ append-assoc b (10 ∷ s) (10 ∷ written cs); free = k .free } in
           let cut′ : Cut 10 (s ++ (10 ∷ written cs)) s (written cs) = record { parts = refl; free = free } in
@@ -142,7 +143,7 @@ module _ (most : ℕ) (rows : List DigitRow) (bound : most ≤ 99) (lawful : (c 
   joined : (c : List ℕ) (cs : List (List ℕ)) (m : List ℕ) {u : List ℕ} → Accept most rows c → Accepted most rows cs → Free 10 m → u ≡ body c ++ (m ++ written cs) → Told (c ∷ cs) u
   unfolding records refusals written
   joined c [] m a acc f q os h =
-      let free = free-join 10 (body c) (m ++ []) (body-free c (fit a)) (free-join 10 m [] f tt) in
+      let free = each-join (Other 10) (body c) (m ++ []) (body-free c (fit a)) (each-join (Other 10) m [] f tt) in
       let l = simp length-append at (ap length q) in
       rw (last most rows (omega (arith, body-some c)) (rw q free) h .only)
       (record { refuses = omega arith; ordered = skip end; loses = omega arith })
@@ -155,7 +156,7 @@ module _ (most : ℕ) (rows : List DigitRow) (bound : most ≤ 99) (lawful : (c 
       cut = record {
         parts =
             q ∙ ap (λ (z : List ℕ). body c ++ (m ++ z)) (rest .parts) ∙ simp append-assoc;
-        free = free-join 10 (body c) (m ++ body d) (body-free c (fit a)) (free-join 10 m (body d) f (rest .free));
+        free = each-join (Other 10) (body c) (m ++ body d) (body-free c (fit a)) (each-join (Other 10) m (body d) f (rest .free));
       }
 
   pub one-edit : (cs : List (List ℕ)) {u : List ℕ} → Accepted most rows cs → Edit (written cs) u → Told cs u

@@ -1,1 +1,132 @@
-// Lines: the form of a line, read and written.
+// Lines: the form of a line, found and written. What a line is stands in specs/Line.antt, and what these functions promise in
+// specs/Form.antt.
+ghost use mathlib.Core.Path.{_≡_};
+ghost use Prim.Native.Nat.{_≤_};
+ghost use lib.ListN.{length};
+ghost use Rattle.laws.specs.Laid.{laidOver};
+ghost use Rattle.lines.specs.Line.{Digits, figures, decimal, line};
+ghost use Rattle.lines.specs.Form.{UpTo, Value, Figures, values, Figured, Opens, Forms, extent};
+
+// How a line begins.
+pub enum Opening {
+    // what its count says, and where what follows the space begins
+    At(usize, usize),
+    // with no count and space
+    Nothing,
+}
+
+// The place of the first line feed, or the length where there is none.
+pub fn feed(text: &[u8]) -> usize
+    ensures { λ r. ⌜ UpTo (now (text .entry)) r ⌝ }
+{
+    let mut i = 0;
+    while i < text.len() {
+        if text[i] == 10 {
+            return i;
+        }
+        i += 1;
+    }
+    i
+}
+
+// The value of a digit's byte, and 10 of any other byte.
+fn value(b: u8) -> u8
+    ensures { λ r. ⌜ Value b r ⌝ }
+{
+    if b < 48 {
+        return 10;
+    }
+    if 57 < b {
+        return 10;
+    }
+    b - 48
+}
+
+// Whether `t` is one or more digits.
+fn digits(t: &[u8]) -> bool
+    ensures { λ r. ⌜ Figured (now (t .entry)) r ⌝ }
+{
+    if t.len() == 0 {
+        return false;
+    }
+    let mut i = 0;
+    while i < t.len() {
+        if value(t[i]) == 10 {
+            return false;
+        }
+        i += 1;
+    }
+    true
+}
+
+// The count and the space that `b` begins with.
+fn begin(b: &[u8]) -> Opening
+    ensures { λ r. ⌜ Opens (now (b .entry)) r ⌝ }
+{
+    if b.len() < 2 {
+        return Opening::Nothing;
+    }
+    let tens = value(b[0]);
+    if tens == 10 {
+        return Opening::Nothing;
+    }
+    if b[1] == 32 {
+        return Opening::At(tens as usize, 2);
+    }
+    if tens == 0 {
+        return Opening::Nothing;
+    }
+    let ones = value(b[1]);
+    if ones == 10 {
+        return Opening::Nothing;
+    }
+    if b.len() < 3 {
+        return Opening::Nothing;
+    }
+    if b[2] == 32 {
+        return Opening::At(10 * tens as usize + ones as usize, 3);
+    }
+    Opening::Nothing
+}
+
+// The form of a line without its line feed.
+pub fn form(b: &[u8]) -> Opening
+    ensures { λ r. ⌜ Forms (now (b .entry)) r ⌝ }
+{
+    match begin(b) {
+        Opening::Nothing => Opening::Nothing,
+        Opening::At(n, start) => {
+            if digits(&b[start..]) {
+                Opening::At(n, start)
+            } else {
+                Opening::Nothing
+            }
+        }
+    }
+}
+
+// Written digits as values, to the start of what is lent.
+pub fn read_digits(t: &[u8], out: &mut [u8])
+    requires figures { ⌜ Figures (now t) ⌝ }
+    requires room { ⌜ length (now t) ≤ length (now out) ⌝ }
+    ensures { λ _. ⌜ now (out .exit) ≡ laidOver (values (now (t .entry))) (now (out .entry)) ⌝ }
+{
+    let mut i = 0;
+    while i < t.len() {
+        out[i] = t[i] - 48;
+        i += 1;
+    }
+}
+
+// Values as written digits, to the start of what is lent.
+fn write_digits(code: &[u8], out: &mut [u8])
+    requires digits { ⌜ Digits (now code) ⌝ }
+    requires room { ⌜ length (now code) ≤ length (now out) ⌝ }
+    ensures { λ _. ⌜ now (out .exit) ≡ laidOver (figures (now (code .entry))) (now (out .entry)) ⌝ }
+{
+    let mut i = 0;
+    while i < code.len() {
+        out[i] = 48 + code[i];
+        i += 1;
+    }
+}
