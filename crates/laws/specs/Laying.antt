@@ -25,8 +25,9 @@ laid-at [] (y ∷ old) b h = refl
 laid-at (x ∷ c) (y ∷ old) b h = ap (λ (l : List ℕ). x ∷ l) (laid-at c old b (omega arith))
 
 -- one more number, behind the n that are written
-pub laid-more : (c old : List ℕ) (n b : ℕ) → length c ≡ n → n < length old → set (laidOver c old) n b ≡ laidOver (c ++ (b ∷ [])) old
-laid-more c old n b e h = rw (← e) (laid-at c old b (omega arith))
+pub laid-more :
+    (c old out : List ℕ) (n b : ℕ) → out ≡ laidOver c old → length c ≡ n → n < length old → set out n b ≡ laidOver (c ++ (b ∷ [])) old
+laid-more c old out n b q e h = rw (q, ← e) (laid-at c old b (omega arith))
 
 -- A loop that writes what f maps each number of t to, one store a turn: before turn i.
 pub record Mapped (f : ℕ → ℕ) (t old out : List ℕ) (i : ℕ) : Type 0 where
@@ -46,7 +47,7 @@ module _ (f : ℕ → ℕ) (t old : List ℕ) (room : length t ≤ length old) w
       record {
         within = omega arith;
         long = simp length-set (m .long);
-        lies = rw (e, m .lies) (laid-more (map f (take i t)) old i (f (getD t i 0)) n (omega arith));
+        lies = rw e (laid-more (map f (take i t)) old out i (f (getD t i 0)) (m .lies) n (omega arith));
       }
 
   pub mapped-all : {out : List ℕ} {i : ℕ} → Mapped f t old out i → length t ≤ i → out ≡ laidOver (map f t) old

@@ -1,2 +1,3 @@
 -- Laws that more than one proof of this crate cites. Assumes nothing.
 pub mod Forming
+pub mod Writing

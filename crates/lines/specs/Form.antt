@@ -4,9 +4,10 @@ use mathlib.Core.Bool.{Bool, true, false}
 use mathlib.Core.List.{List, [], _∷_, _++_, map}
 use Prim.Native.Nat.{ℕ, _+_, _-_, _≤_, _<_}
 use lib.ListN.{length, getD, take, drop}
+use Rattle.laws.specs.Laid.{laidOver}
 use Rattle.lines.specs.declared.Opening.{Opening}
 use Rattle.lines.specs.declared.Opening.the-variants.{At, Nothing}
-use Rattle.lines.specs.Line.{decimal, Each, Free, IsCount, Formed}
+use Rattle.lines.specs.Line.{Each, Free, IsCount, Formed}
 
 -- i is the place of the first line feed, or the length where there is none
 pub record UpTo (t : List ℕ) (i : ℕ) : Type 0 where
@@ -54,6 +55,7 @@ pub data Forms (b : List ℕ) : Opening → Type 0 where
   formed : {n s : ℕ} → s ≤ length b → Figures (drop s b) → Formed b n (values (drop s b)) → Forms b (At n s)
   unformed : ((n : ℕ) (ds : List ℕ) → Formed b n ds → ⊥) → Forms b Nothing
 
--- how many bytes the line of n digits takes
-unfoldable pub extent : ℕ → ℕ
-extent n = length (decimal n) + n + 2
+-- c is written from the start of what was lent, and n is its length
+pub record Written (c old : List ℕ) (n : ℕ) (new : List ℕ) : Type 0 where
+  pub count : n ≡ length c
+  pub lies : new ≡ laidOver c old

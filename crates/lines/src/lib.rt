@@ -1,11 +1,12 @@
 // Lines: the form of a line, found and written. What a line is stands in specs/Line.antt, and what these functions promise in
 // specs/Form.antt.
 ghost use mathlib.Core.Path.{_≡_};
-ghost use Prim.Native.Nat.{_≤_};
+ghost use mathlib.Core.List.{List};
+ghost use Prim.Native.Nat.{ℕ, _≤_};
 ghost use lib.ListN.{length};
 ghost use Rattle.laws.specs.Laid.{laidOver};
 ghost use Rattle.lines.specs.Line.{Digits, figures, decimal, line};
-ghost use Rattle.lines.specs.Form.{UpTo, Value, Figures, values, Figured, Opens, Forms, extent};
+ghost use Rattle.lines.specs.Form.{UpTo, Value, Figures, values, Figured, Opens, Forms, Written};
 
 // How a line begins.
 pub enum Opening {
@@ -129,4 +130,45 @@ fn write_digits(code: &[u8], out: &mut [u8])
         out[i] = 48 + code[i];
         i += 1;
     }
+}
+
+// The count of n digits, to the start of what is lent; how many bytes that is.
+fn write_count(n: usize, out: &mut [u8]) -> usize
+    requires few { ⌜ n ≤ 99 ⌝ }
+    requires room { ⌜ length (decimal n) ≤ length (now out) ⌝ }
+    ensures { λ r. ⌜ Written (decimal n) (now (out .entry)) r (now (out .exit)) ⌝ }
+{
+    if n < 10 {
+        out[0] = 48 + n as u8;
+        return 1;
+    }
+    out[0] = 48 + (n / 10) as u8;
+    out[1] = 48 + (n % 10) as u8;
+    2
+}
+
+// The line of a code, to the start of what is lent; how many bytes that is.
+pub fn write(code: &[u8], out: &mut [u8]) -> usize
+    requires few { ⌜ length (now code) ≤ 99 ⌝ }
+    requires digits { ⌜ Digits (now code) ⌝ }
+    requires room { ⌜ length (line (now code)) ≤ length (now out) ⌝ }
+    ensures { λ r. ⌜ Written (line (now (code .entry))) (now (out .entry)) r (now (out .exit)) ⌝ }
+{
+    let n = code.len();
+    let at = write_count(n, out);
+    out[at] = 32;
+    write_digits(code, &mut out[at + 1..]);
+    out[at + 1 + n] = 10;
+    at + n + 2
+}
+
+// How many bytes the line of n digits takes.
+pub fn extent(n: usize) -> usize
+    requires { ⌜ n ≤ 99 ⌝ }
+    ensures { λ r. ⌜ ((c : List ℕ) → length c ≡ n → length (line c) ≡ r) ⌝ }
+{
+    if n < 10 {
+        return n + 3;
+    }
+    n + 4
 }
