@@ -2,5 +2,8 @@
 pub mod Skeleton
 pub mod Forest
 pub mod Label
+pub mod Forests
 pub mod Codes
+pub mod Decoding
+pub mod Sorted
 pub mod Examples
