@@ -52,6 +52,10 @@ edges-arcs p (tree v d f) E = ap (λ l. (p, v) ∷ (v, p) ∷ l) (
     ∙ sym (append-assoc (hung v d) (hung p f) (arcs E))
     )
 
+pub edges-hung : (p : ℕ) (f : Forest) → arcs (edgesOf p f) ≡ hung p f
+unfolding arcs
+edges-hung p f = ap arcs (sym (append-nil (edgesOf p f))) ∙ edges-arcs p f [] ∙ append-nil (hung p f)
+
 -- digits that are a forest's, and then others: the forest's edges, then those of the others
 pub edges-forest : (p : ℕ) (f : Forest) (W : List ℕ) (j : ℕ) (ds : List ℕ)
     → edgesFrom (replicate (width f) p ++ W) j (shape f ++ ds) ≡ edgesOf p (number j f) ++ edgesFrom W (j + count f) ds

@@ -6,4 +6,6 @@ pub mod Forests
 pub mod Codes
 pub mod Decoding
 pub mod Sorted
+pub mod Renumber
+pub mod Numbered
 pub mod Examples
