@@ -8,4 +8,5 @@ pub mod Decoding
 pub mod Sorted
 pub mod Renumber
 pub mod Numbered
+pub mod Right
 pub mod Examples
