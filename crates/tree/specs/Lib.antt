@@ -2,3 +2,5 @@
 pub mod Skeleton
 pub mod Forest
 pub mod Examples
+pub mod Walks
+pub mod Grow
