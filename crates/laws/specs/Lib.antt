@@ -4,3 +4,4 @@ pub mod Sorting
 pub mod Laid
 pub mod Perms
 pub mod Once
+pub mod Places

@@ -1,78 +1,88 @@
--- Lists in which nothing stands twice, and the place of a number in such a list. Assumes nothing.
-use mathlib.Core.Path.{_≡_, refl, ap, sym, _∙_}
-use mathlib.Core.Logic.{_↔_, ⊎-elim, ite, if-pos, if-neg}
-use mathlib.Core.List.{List, [], _∷_, _++_, map, List·Memᴰ, List·Memᴰ·head, List·Memᴰ·tail, List·Memᴰ·append-cases, List·Memᴰ·cases-cons, List·Memᴰ·not-nil, Memᴰ·cast, Memᴰ·append-left, Memᴰ·append-right, Memᴰ·of-map, List·Permᴰ, List·Permᴰ·nil, List·Permᴰ·cons, List·Permᴰ·swap, List·Permᴰ·trans, Permᴰ·symm}
-use Prim.Native.Nat.{ℕ, zero, suc, _<_}
+-- Lists in which nothing stands twice.
+--
+-- In order: what that is; how rearranging and joining keep it; that such a list is no longer than one that holds its members;
+-- the numbers 1 to n as such a list. Assumes nothing.
+use mathlib.Core.Path.{_≡_, refl, sym, _∙_}
+use mathlib.Core.Logic.{_⊎_, inl, inr, ⊎-elim}
+use mathlib.Core.List.{List, [], _∷_, _++_, List·Memᴰ, List·Memᴰ·head, List·Memᴰ·tail, List·Memᴰ·cases-cons, List·Memᴰ·not-nil, Memᴰ·cast, Memᴰ·append-left, Memᴰ·append-right, List·Permᴰ, List·Permᴰ·nil, List·Permᴰ·cons, List·Permᴰ·swap, List·Permᴰ·trans, Permᴰ·refl, Permᴰ·symm}
+use Prim.Native.Nat.{ℕ, zero, suc, _≤_}
 use native.Mathlib.Decide.{ℕ-discrete}
 use native.Mathlib.Omega.{arith}
-use lib.ListN.{length, getD}
-use Rattle.laws.specs.Perms.{perm-in}
+use lib.ListN.{length}
+use Rattle.laws.specs.Perms.{perm-in, perm-length}
 
 module _ {A : Type 0} where
-  -- nothing twice
+  -- nothing stands twice in it
   abbrev pub Once : List A → Type 0
   Once [] = Unit {0}
-  Once (x ∷ l) = (List·Memᴰ x l → ⊥) × Once l
+  Once (a ∷ l) = (List·Memᴰ a l → ⊥) × Once l
 
-  pub perm-once : {l m : List A} → List·Permᴰ l m → Once l → Once m
-  perm-once List·Permᴰ·nil o = o
-  perm-once (List·Permᴰ·cons e d) o = (λ h. o .0 (perm-in (Permᴰ·symm d) (Memᴰ·cast e h)), perm-once d (o .1))
-  perm-once (List·Permᴰ·swap e f) o = (
-    λ h. ⊎-elim (λ p. o .0 (List·Memᴰ·head (e ∙ sym p ∙ sym f))) (λ k. o .1 .0 (Memᴰ·cast f k)) (List·Memᴰ·cases-cons h),
+  pub once-perm : {l m : List A} → List·Permᴰ l m → Once l → Once m
+  once-perm List·Permᴰ·nil o = tt
+  once-perm (List·Permᴰ·cons e d) o = (λ h. o .0 (Memᴰ·cast e (perm-in (Permᴰ·symm d) h)), once-perm d (o .1))
+  once-perm (List·Permᴰ·swap e f) o = (
+    λ h. ⊎-elim (λ p. o .0 (List·Memᴰ·head (e ∙ sym p ∙ sym f))) (λ m. o .1 .0 (Memᴰ·cast f m)) (List·Memᴰ·cases-cons h),
     (λ h. o .0 (List·Memᴰ·tail (Memᴰ·cast e h)), o .1 .1),
   )
-  perm-once (List·Permᴰ·trans d e) o = perm-once e (perm-once d o)
+  once-perm (List·Permᴰ·trans d e) o = once-perm e (once-perm d o)
 
-  pub once-append : (l m : List A) → Once (l ++ m) ↔ (Once l × Once m × ((x : A) → List·Memᴰ x l → List·Memᴰ x m → ⊥))
-  once-append [] m = (λ o. (tt, o, λ x h. absurd (List·Memᴰ·not-nil h)), λ t. t .1)
-  once-append (x ∷ l) m = (
-    λ o. let (a, b, c) = once-append l m .0 (o .1) in (
-      (λ h. o .0 (Memᴰ·append-left m h), a),
-      b,
-      λ y h k. ⊎-elim (λ e. o .0 (Memᴰ·append-right l (Memᴰ·cast (sym e) k))) (λ g. c y g k) (List·Memᴰ·cases-cons h),
-    ),
-    λ t. (
-      λ h. ⊎-elim (t .0 .0) (λ k. t .2 x (List·Memᴰ·head refl) k) (List·Memᴰ·append-cases l h),
-      once-append l m .1 (t .0 .1, t .1, λ y h k. t .2 y (List·Memᴰ·tail h) k),
-    ),
-  )
+  pub once-left : (l m : List A) → Once (l ++ m) → Once l
+  once-left [] m o = tt
+  once-left (a ∷ l) m o = (λ h. o .0 (Memᴰ·append-left m h), once-left l m (o .1))
 
-  pub at-in : (l : List A) (i : ℕ) (d : A) → i < length l → List·Memᴰ (getD l i d) l
-  at-in [] i d h = let z : ⊥ = omega arith in absurd z
-  at-in (x ∷ l) zero d h = List·Memᴰ·head refl
-  at-in (x ∷ l) (suc i) d h = List·Memᴰ·tail (at-in l i d (omega arith))
+  pub once-right : (l m : List A) → Once (l ++ m) → Once m
+  once-right [] m o = o
+  once-right (a ∷ l) m o = once-right l m (o .1)
 
-pub once-map : {A B : Type 0} (g : A → B) (l : List A) → ((x y : A) → List·Memᴰ x l → List·Memᴰ y l → g x ≡ g y → x ≡ y) → Once l → Once (map g l)
-once-map g [] h o = tt
-once-map g (x ∷ l) h o = (
-  λ m. let (y, k, e) = Memᴰ·of-map g l m in o .0 (Memᴰ·cast (h x y (List·Memᴰ·head refl) (List·Memᴰ·tail k) (sym e)) k),
-  once-map g l (λ a b p q. h a b (List·Memᴰ·tail p) (List·Memᴰ·tail q)) (o .1),
-)
+  pub once-apart : (l : List A) {m : List A} {a : A} → Once (l ++ m) → List·Memᴰ a l → List·Memᴰ a m → ⊥
+  once-apart [] o h k = List·Memᴰ·not-nil h
+  once-apart (x ∷ l) o h k = ⊎-elim (λ e. o .0 (Memᴰ·append-right l (Memᴰ·cast (sym e) k))) (λ j. once-apart l (o .1) j k) (List·Memᴰ·cases-cons h)
 
--- the place of v in a list, from 0
-unfoldable pub place : ℕ → List ℕ → ℕ
-place v [] = 0
-place v (x ∷ l) = ite (ℕ-discrete v x) 0 (suc (place v l))
+  -- a member, and the others
+  pub pick : {a : A} {l : List A} → List·Memᴰ a l → (r : List A) × List·Permᴰ l (a ∷ r)
+  pick (List·Memᴰ·head {xs = xs} e) = (xs, List·Permᴰ·cons (sym e) (Permᴰ·refl xs))
+  pick (List·Memᴰ·tail {x} m) =
+      let (r, d) = pick m in
+      (x ∷ r, List·Permᴰ·trans (List·Permᴰ·cons refl d) (List·Permᴰ·swap refl refl))
 
-pub place-here : (v x : ℕ) (l : List ℕ) → v ≡ x → place v (x ∷ l) ≡ 0
-unfolding place
-place-here v x l e = if-pos (ℕ-discrete v x) e 0 (suc (place v l))
+  -- what holds all its members is at least as long
+  pub fits : (l m : List A) → Once l → ((a : A) → List·Memᴰ a l → List·Memᴰ a m) → length l ≤ length m
+  fits [] m o s = omega arith
+  fits (a ∷ l) m o s =
+      let (r, d) = pick (s a (List·Memᴰ·head refl)) in
+      let others : (b : A) → List·Memᴰ b l → List·Memᴰ b r =
+      λ b h. ⊎-elim (λ e. absurd (o .0 (Memᴰ·cast (sym e) h))) (λ k. k) (List·Memᴰ·cases-cons (perm-in d (s b (List·Memᴰ·tail h)))) in
+      omega (arith, perm-length d, fits l r (o .1) others)
 
-pub place-past : (v x : ℕ) (l : List ℕ) → (v ≡ x → ⊥) → place v (x ∷ l) ≡ suc (place v l)
-unfolding place
-place-past v x l n = if-neg (ℕ-discrete v x) n 0 (suc (place v l))
+-- the numbers n to 1
+unfoldable pub upTo : ℕ → List ℕ
+upTo zero = []
+upTo (suc n) = suc n ∷ upTo n
 
--- where it is, there it stands
-pub place-at : (v : ℕ) (l : List ℕ) → List·Memᴰ v l → (place v l < length l) × (getD l (place v l) 0 ≡ v)
-unfolding place
-place-at v [] m = absurd (List·Memᴰ·not-nil m)
-place-at v (x ∷ l) m = step (ℕ-discrete v x) (place-at v l)
+pub upTo-length : (n : ℕ) → length (upTo n) ≡ n
+unfolding upTo
+upTo-length zero = refl
+upTo-length (suc n) = omega (arith, upTo-length n)
+
+pub in-upTo : (n v : ℕ) → List·Memᴰ v (upTo n) → (1 ≤ v) × (v ≤ n)
+unfolding upTo
+in-upTo zero v h = absurd (List·Memᴰ·not-nil h)
+in-upTo (suc n) v h = step (List·Memᴰ·cases-cons h) (in-upTo n v)
   where
-    step : (d : Dec (v ≡ x)) → (List·Memᴰ v l → (place v l < length l) × (getD l (place v l) 0 ≡ v)) → (ite d 0 (suc (place v l)) < suc (length l)) × (getD (x ∷ l) (ite d 0 (suc (place v l))) 0 ≡ v)
-    step (yes e) r = (omega arith, sym e)
-    step (no n) r = let (a, b) = r (⊎-elim (λ e. absurd (n e)) (λ h. h) (List·Memᴰ·cases-cons m)) in (omega arith, b)
+    step : (v ≡ suc n) ⊎ List·Memᴰ v (upTo n) → (List·Memᴰ v (upTo n) → (1 ≤ v) × (v ≤ n)) → (1 ≤ v) × (v ≤ suc n)
+    step (inl e) f = omega arith
+    step (inr m) f = omega (arith, f m)
 
-pub at-place : (l : List ℕ) (i : ℕ) → Once l → i < length l → place (getD l i 0) l ≡ i
-at-place [] i o h = let z : ⊥ = omega arith in absurd z
-at-place (x ∷ l) zero o h = place-here x x l refl
-at-place (x ∷ l) (suc i) o h = place-past (getD l i 0) x l (λ e. o .0 (Memᴰ·cast (sym e) (at-in l i 0 (omega arith)))) ∙ ap suc (at-place l i (o .1) (omega arith))
+pub upTo-in : (n v : ℕ) → 1 ≤ v → v ≤ n → List·Memᴰ v (upTo n)
+unfolding upTo
+upTo-in zero v h k = let z : ⊥ = omega arith in absurd z
+upTo-in (suc n) v h k = step (ℕ-discrete v (suc n)) (upTo-in n v h)
+  where
+    step : Dec (v ≡ suc n) → (v ≤ n → List·Memᴰ v (upTo n)) → List·Memᴰ v (upTo (suc n))
+    step (yes e) f = List·Memᴰ·head e
+    step (no e) f = List·Memᴰ·tail (f (omega arith))
+
+pub upTo-once : (n : ℕ) → Once (upTo n)
+unfolding upTo
+upTo-once zero = tt
+upTo-once (suc n) = (λ h. omega (arith, in-upTo n (suc n) h), upTo-once n)

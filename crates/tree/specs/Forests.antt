@@ -6,7 +6,8 @@ use mathlib.Core.List.{List, [], _∷_, _++_, map, map-append, List·Memᴰ, Lis
 use Prim.Native.Nat.{ℕ, suc, _+_}
 use native.Mathlib.Omega.{arith}
 use lib.ListN.{length, length-append}
-use Rattle.laws.specs.Once.{Once, once-append}
+use Rattle.laws.specs.Once.{Once, once-left, once-right, once-apart}
+use Rattle.laws.specs.Places.{once-join}
 use Rattle.tree.specs.Skeleton.{Arc}
 use Rattle.tree.specs.Forest.{Forest, none, tree, vertices, count, hung, Distinct}
 
@@ -21,14 +22,14 @@ distinct-once none = (λ t. t, λ t. t)
 distinct-once (tree v d f) = (
   λ t. (
     λ h. ⊎-elim (t .0) (t .1) (List·Memᴰ·append-cases (vertices d) h),
-    once-append (vertices d) (vertices f) .1 (distinct-once d .0 (t .3), distinct-once f .0 (t .4), t .2),
+    once-join (vertices d) (vertices f) (distinct-once d .0 (t .3)) (distinct-once f .0 (t .4)) (t .2),
   ),
-  λ o. let (a, b, c) = once-append (vertices d) (vertices f) .0 (o .1) in (
+  λ o. (
     λ h. o .0 (Memᴰ·append-left (vertices f) h),
     λ h. o .0 (Memᴰ·append-right (vertices d) h),
-    c,
-    distinct-once d .1 a,
-    distinct-once f .1 b,
+    λ w h k. once-apart (vertices d) (o .1) h k,
+    distinct-once d .1 (once-left (vertices d) (vertices f) (o .1)),
+    distinct-once f .1 (once-right (vertices d) (vertices f) (o .1)),
   ),
 )
 

@@ -1,6 +1,8 @@
 -- Skeletons and their rooted codes. Assumes nothing.
 pub mod Skeleton
 pub mod Forest
+pub mod Walks
+pub mod Grow
 pub mod Label
 pub mod Forests
 pub mod Codes

@@ -6,7 +6,8 @@ use Prim.Native.Nat.{ℕ, zero, suc, _+_, _-_, _≤_, _<_}
 use native.Mathlib.Nat.{add-zero}
 use native.Mathlib.Omega.{arith}
 use lib.ListN.{length, getD, List·getD-map}
-use Rattle.laws.specs.Once.{Once, place, place-here, place-past, place-at, at-place, at-in}
+use Rattle.laws.specs.Once.{Once}
+use Rattle.laws.specs.Places.{place, place-here, place-past, place-at, at-place, at-in}
 use Rattle.code.specs.Code.{decode}
 use Rattle.tree.specs.Skeleton.{arcs, Renumbering}
 use Rattle.tree.specs.Forest.{Forest, none, tree, vertices, count, hung, Rooted}

@@ -6,7 +6,8 @@ use mathlib.Core.List.{List, [], _∷_, _++_, map, map-map, List·Memᴰ, List·
 use Prim.Native.Nat.{ℕ, _≤_}
 use native.Mathlib.Omega.{arith}
 use Rattle.laws.specs.Perms.{perm-in}
-use Rattle.laws.specs.Once.{Once, once-map}
+use Rattle.laws.specs.Once.{Once}
+use Rattle.laws.specs.Places.{once-map}
 use Rattle.tree.specs.Skeleton.{Arc, arcs, Renumbering}
 use Rattle.tree.specs.Forest.{Forest, none, tree, vertices, hung, Rooted}
 use Rattle.tree.specs.Forests.{distinct-once, mapF, map-vertices, map-count, map-hung}

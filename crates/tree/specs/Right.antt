@@ -101,9 +101,9 @@ edges-in x p none m = absurd (List·Memᴰ·not-nil m)
 edges-in x p (tree v d f) (List·Memᴰ·head e) = List·Memᴰ·head e
 edges-in x p (tree v d f) (List·Memᴰ·tail (List·Memᴰ·head e)) = List·Memᴰ·tail (List·Memᴰ·head e)
 edges-in x p (tree v d f) (List·Memᴰ·tail (List·Memᴰ·tail m)) = ⊎-elim
-  (λ h. List·Memᴰ·tail (Memᴰ·append-left (vertices f) (edges-in x v d h)))
-  (λ h. ⊎-elim (λ e. List·Memᴰ·head e) (λ k. List·Memᴰ·tail (List·Memᴰ·tail (Memᴰ·append-right (vertices d) k))) (List·Memᴰ·cases-cons (edges-in x p f h)))
-  (List·Memᴰ·append-cases (edgesOf v d) m)
+    (λ h. List·Memᴰ·tail (Memᴰ·append-left (vertices f) (edges-in x v d h)))
+    (λ h. ⊎-elim (λ e. List·Memᴰ·head e) (λ k. List·Memᴰ·tail (List·Memᴰ·tail (Memᴰ·append-right (vertices d) k))) (List·Memᴰ·cases-cons (edges-in x p f h)))
+    (List·Memᴰ·append-cases (edgesOf v d) m)
 
 -- from the parent of a forest's roots a walk leads to each of its vertices
 walk-down : (A : List Arc) (p v : ℕ) (f : Forest) → ((e : Arc) → List·Memᴰ e (hung p f) → List·Memᴰ e A) → List·Memᴰ v (vertices f) → Walk A p v
@@ -111,9 +111,9 @@ unfolding hung vertices
 walk-down A p v none s m = absurd (List·Memᴰ·not-nil m)
 walk-down A p v (tree u d f) s (List·Memᴰ·head e) = along (s (p, v) (List·Memᴰ·head (ap (λ x. (p, x)) e))) here
 walk-down A p v (tree u d f) s (List·Memᴰ·tail m) = ⊎-elim
-  (λ h. along (s (p, u) (List·Memᴰ·head refl)) (walk-down A u v d (λ e k. s e (List·Memᴰ·tail (List·Memᴰ·tail (Memᴰ·append-left (hung p f) k)))) h))
-  (λ h. walk-down A p v f (λ e k. s e (List·Memᴰ·tail (List·Memᴰ·tail (Memᴰ·append-right (hung u d) k)))) h)
-  (List·Memᴰ·append-cases (vertices d) m)
+    (λ h. along (s (p, u) (List·Memᴰ·head refl)) (walk-down A u v d (λ e k. s e (List·Memᴰ·tail (List·Memᴰ·tail (Memᴰ·append-left (hung p f) k)))) h))
+    (λ h. walk-down A p v f (λ e k. s e (List·Memᴰ·tail (List·Memᴰ·tail (Memᴰ·append-right (hung u d) k)))) h)
+    (List·Memᴰ·append-cases (vertices d) m)
 
 -- the tree that a forest's digits decode to
 numbered-tree : (f : Forest) → IsTree (suc (count f)) (edgesOf 1 (number 2 f))
@@ -156,7 +156,7 @@ module _ (M : Marks) (N : ℕ) (E : List ℕ) (r : ℕ) (l : ℕ → M .Label) (
 
   -- a rooted code, decoded and coded again at vertex 1, is itself
   pub decode-code :
-    let c = rootedₗ M l N E r in rootedₗ M (labels M c) (length c) (decode (digits M c)) 1 ≡ c
+      let c = rootedₗ M l N E r in rootedₗ M (labels M c) (length c) (decode (digits M c)) 1 ≡ c
   decode-code =
       let c : List ℕ = rootedₗ M l N E r in
       let (ρ, a, k) = to-decoded M N E r l t in

@@ -9,7 +9,7 @@ use lib.ListN.{length}
 use Rattle.laws.specs.Order.{_≽_, dec≽, insert, sort, Falling}
 use Rattle.laws.specs.Sorting.{sort-self, sort-length, sort-falling, sort-stays}
 use Rattle.laws.specs.Perms.{perm-in, perm-length, front}
-use Rattle.laws.specs.Once.{perm-once}
+use Rattle.laws.specs.Once.{once-perm}
 use Rattle.tree.specs.Forest.{Forest, none, tree, vertices, count, hung, Distinct, Rooted}
 use Rattle.tree.specs.Forests.{gather, gather-vertices, gather-hung, count-vertices, distinct-once}
 use Rattle.tree.specs.Label.{Marks, joinₗ, rootedₗ, digits}
@@ -120,7 +120,7 @@ module _ (M : Marks) (label : ℕ → M .Label) where
           forest = sortF f;
           same = List·Permᴰ·trans (t .same) (sort-hung r f);
           apart = λ h. t .apart (perm-in (Permᴰ·symm π) h);
-          distinct = distinct-once (sortF f) .1 (perm-once π (distinct-once f .0 (t .distinct)));
+          distinct = distinct-once (sortF f) .1 (once-perm π (distinct-once f .0 (t .distinct)));
           inside = λ v h. t .inside v (perm-in (Permᴰ·symm σ) h);
           all = λ v a b. perm-in σ (t .all v a b);
           full = omega (arith, t .full, perm-length π, count-vertices f, count-vertices (sortF f));
