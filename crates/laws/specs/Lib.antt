@@ -5,3 +5,4 @@ pub mod Laid
 pub mod Perms
 pub mod Once
 pub mod Places
+pub mod Part
