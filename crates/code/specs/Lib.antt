@@ -2,6 +2,9 @@
 pub mod Limits
 pub mod Code
 pub mod Ends
+pub mod Counting
 pub mod Parts
+pub mod Siblings
+pub mod Search
 pub mod Compare
 pub mod Examples
