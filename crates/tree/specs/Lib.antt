@@ -11,4 +11,5 @@ pub mod Sorted
 pub mod Renumber
 pub mod Numbered
 pub mod Right
+pub mod Degree
 pub mod Examples
