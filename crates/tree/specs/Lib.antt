@@ -12,4 +12,5 @@ pub mod Renumber
 pub mod Numbered
 pub mod Right
 pub mod Degree
+pub mod General
 pub mod Examples
