@@ -13,4 +13,6 @@ pub mod Numbered
 pub mod Right
 pub mod Degree
 pub mod General
+pub mod Base
+pub mod Theorems
 pub mod Examples
