@@ -2,6 +2,7 @@
 pub mod Limits
 pub mod Code
 pub mod Ends
+pub mod Ordered
 pub mod Parts
 pub mod Compare
 pub mod Examples

@@ -15,4 +15,5 @@ pub mod Degree
 pub mod General
 pub mod Base
 pub mod Theorems
+pub mod Ordered
 pub mod Examples
