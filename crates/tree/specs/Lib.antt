@@ -11,4 +11,9 @@ pub mod Sorted
 pub mod Renumber
 pub mod Numbered
 pub mod Right
+pub mod Degree
+pub mod General
+pub mod Base
+pub mod Theorems
+pub mod Ordered
 pub mod Examples

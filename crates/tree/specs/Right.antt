@@ -56,7 +56,7 @@ read-code [] h = absurd h
 read-code (k ∷ ds) h = let (f, a, b) = read ds (k + 0) h in (f, ap₂ (λ n l. n ∷ l) (a ∙ add-zero k) b)
 
 -- the numbers of a forest that is numbered from j: j and so on, each once
-number-in : (v j : ℕ) (f : Forest) → List·Memᴰ v (vertices (number j f)) → (j ≤ v) × (v < j + count f)
+pub number-in : (v j : ℕ) (f : Forest) → List·Memᴰ v (vertices (number j f)) → (j ≤ v) × (v < j + count f)
 unfolding number vertices count
 number-in v j none m = absurd (List·Memᴰ·not-nil m)
 number-in v j (tree u d f) (List·Memᴰ·head e) = omega arith
@@ -67,7 +67,7 @@ number-in v j (tree u d f) (List·Memᴰ·tail m) = step (List·Memᴰ·append-c
     step (inl h) a b = omega (arith, a h)
     step (inr h) a b = omega (arith, b h)
 
-number-all : (v j : ℕ) (f : Forest) → j ≤ v → v < j + count f → List·Memᴰ v (vertices (number j f))
+pub number-all : (v j : ℕ) (f : Forest) → j ≤ v → v < j + count f → List·Memᴰ v (vertices (number j f))
 unfolding number vertices count
 number-all v j none a b = let z : ⊥ = omega arith in absurd z
 number-all v j (tree u d f) a b = step (ℕ-discrete v j) (decLt v (suc j + count d)) (number-all v (suc j) d) (number-all v (suc j + count d) f)
@@ -79,7 +79,7 @@ number-all v j (tree u d f) a b = step (ℕ-discrete v j) (decLt v (suc j + coun
     step (no e) (yes l) x y = List·Memᴰ·tail (Memᴰ·append-left (vertices (number (suc j + count d) f)) (x (omega arith) l))
     step (no e) (no l) x y = List·Memᴰ·tail (Memᴰ·append-right (vertices (number (suc j) d)) (y (omega arith) (omega arith)))
 
-number-distinct : (j : ℕ) (f : Forest) → Distinct (number j f)
+pub number-distinct : (j : ℕ) (f : Forest) → Distinct (number j f)
 unfolding number
 number-distinct j none = tt
 number-distinct j (tree v d f) = (
@@ -115,21 +115,35 @@ walk-down A p v (tree u d f) s (List·Memᴰ·tail m) = ⊎-elim
     (λ h. walk-down A p v f (λ e k. s e (List·Memᴰ·tail (List·Memᴰ·tail (Memᴰ·append-right (hung u d) k)))) h)
     (List·Memᴰ·append-cases (vertices d) m)
 
+pub in-range : (f : Forest) (v : ℕ) → List·Memᴰ v (1 ∷ vertices (number 2 f)) → (1 ≤ v) × (v ≤ suc (count f))
+in-range f v (List·Memᴰ·head e) = omega arith
+in-range f v (List·Memᴰ·tail m) = omega (arith, number-in v 2 f m)
+
+pub range-in : (f : Forest) (v : ℕ) → 1 ≤ v → v ≤ suc (count f) → List·Memᴰ v (1 ∷ vertices (number 2 f))
+range-in f v a b = step (ℕ-discrete v 1)
+  where
+    step : Dec (v ≡ 1) → List·Memᴰ v (1 ∷ vertices (number 2 f))
+    step (yes e) = List·Memᴰ·head e
+    step (no n) = List·Memᴰ·tail (number-all v 2 f (omega arith) (omega arith))
+
 -- the tree that a forest's digits decode to
-numbered-tree : (f : Forest) → IsTree (suc (count f)) (edgesOf 1 (number 2 f))
+pub numbered-tree : (f : Forest) → IsTree (suc (count f)) (edgesOf 1 (number 2 f))
 numbered-tree f = record {
   edges = omega (arith, edges-length 1 (number 2 f), number-count 2 f);
-  inside = λ v m. range v (edges-in v 1 (number 2 f) m);
-  linked = λ v a b. reach v a b (ℕ-discrete v 1);
+  inside = λ v m. in-range f v (edges-in v 1 (number 2 f) m);
+  linked = λ v a b. rw (edges-hung 1 (number 2 f)) (⊎-elim (λ e. rw e here) (walk-down (hung 1 (number 2 f)) 1 v (number 2 f) (λ e m. m)) (List·Memᴰ·cases-cons (range-in f v a b)));
 }
-  where
-    range : (v : ℕ) → List·Memᴰ v (1 ∷ vertices (number 2 f)) → (1 ≤ v) × (v ≤ suc (count f))
-    range v (List·Memᴰ·head e) = omega arith
-    range v (List·Memᴰ·tail m) = omega (arith, number-in v 2 f m)
 
-    reach : (v : ℕ) → 1 ≤ v → v ≤ suc (count f) → Dec (v ≡ 1) → Walk (arcs (edgesOf 1 (number 2 f))) 1 v
-    reach v a b (yes e) = rw e here
-    reach v a b (no n) = rw (edges-hung 1 (number 2 f)) (walk-down (hung 1 (number 2 f)) 1 v (number 2 f) (λ e m. m) (number-all v 2 f (omega arith) (omega arith)))
+unfoldable pub numbered-rooted : (f : Forest) → Rooted (suc (count f)) (edgesOf 1 (number 2 f)) 1
+numbered-rooted f = record {
+  forest = number 2 f;
+  same = rw (edges-hung 1 (number 2 f)) (Permᴰ·refl (hung 1 (number 2 f)));
+  apart = λ h. let z : ⊥ = omega (arith, number-in 1 2 f h) in z;
+  distinct = number-distinct 2 f;
+  inside = in-range f;
+  all = range-in f;
+  full = ap suc (number-count 2 f);
+}
 
 tree-of : (c : List ℕ) (f : Forest) → width f ∷ shape f ≡ c → IsTree (length c) (decode c)
 tree-of c f e = rw (← e, decode-forest, shape-length) (numbered-tree f)
