@@ -1,0 +1,9 @@
+-- Paths of a skeleton and its centre. Assumes nothing.
+pub mod Path
+pub mod Paths
+pub mod Ways
+pub mod Inner
+pub mod Peel
+pub mod Centre
+pub mod Run
+pub mod Theorems
