@@ -5,10 +5,10 @@
 use mathlib.Core.Path.{_≡_, refl, sym, _∙_}
 use mathlib.Core.Logic.{_⊎_, inl, inr, ⊎-elim}
 use mathlib.Core.List.{List, [], _∷_, List·Memᴰ, List·Memᴰ·head, List·Memᴰ·tail, List·Memᴰ·cases-cons, List·Memᴰ·eq-of-singleton}
-use Prim.Native.Nat.{ℕ, _+_, _*_, _≤_}
+use Prim.Native.Nat.{ℕ, zero, suc, _+_, _-_, _*_, _/_, _≤_, _<_}
 use native.Mathlib.Decide.{decLe}
 use native.Mathlib.Omega.{arith}
-use lib.ListN.{length}
+use lib.ListN.{length, getD}
 use Rattle.laws.specs.Once.{Once, fits}
 use Rattle.tree.specs.Skeleton.{IsTree}
 use Rattle.path.specs.Path.{IsPath, IsLongest, middle₁, middle₂, Middles, IsCentre}
@@ -16,6 +16,23 @@ use Rattle.path.specs.Paths.{path-one}
 use Rattle.path.specs.Ways.{Last, Way, way}
 use Rattle.path.specs.Inner.{Inner, inner-length, inner-path, inner-middle₁, inner-middle₂}
 use Rattle.path.specs.Peel.{Within, Left}
+
+within-at : (A : ℕ → Type 0) (p : List ℕ) (n : ℕ) → Within A p → n < length p → A (getD p n 0)
+within-at A [] n w l = let z : ⊥ = omega arith in absurd z
+within-at A (x ∷ p) zero w l = w x (List·Memᴰ·head refl)
+within-at A (x ∷ p) (suc n) w l = within-at A p n (λ v m. w v (List·Memᴰ·tail m)) (omega arith)
+
+middles-within : (A : ℕ → Type 0) (p : List ℕ) → Within A p → 1 ≤ length p → A (middle₁ p) × A (middle₂ p)
+unfolding middle₁ middle₂
+middles-within A p w o = (within-at A p ((length p - 1) / 2) w (omega arith), within-at A p (length p / 2) w (omega arith))
+
+-- as long as a vertex is left, the middles of every longest path are
+pub middles-left : (N : ℕ) (E : List ℕ) (A : ℕ → Type 0) (k : ℕ) → Left N E A k → (v : ℕ) → A v → (q : List ℕ) → IsLongest N E q → A (middle₁ q) × A (middle₂ q)
+middles-left N E A k l v a q h =
+    let (w, g, j) = l .grows (v ∷ []) (omega arith) (path-one N E v (l .range v a .0) (l .range v a .1)) (λ x m. rw (List·Memᴰ·eq-of-singleton m) a) in
+    let (p, i, b) = l .shrinks q (h .path) (omega (arith, inner-length j, h .longest w g)) in
+    let o : 1 ≤ length p = omega (arith, inner-length i, inner-length j, h .longest w g) in
+    rw (inner-middle₁ i o, inner-middle₂ i o) (middles-within A p b o)
 
 -- a longest path in A, and what any other is
 record Heart (N : ℕ) (E : List ℕ) (A : ℕ → Type 0) (u v : ℕ) : Type 0 where

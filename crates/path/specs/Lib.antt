@@ -7,3 +7,5 @@ pub mod Peel
 pub mod Centre
 pub mod Run
 pub mod Theorems
+pub mod Heights
+pub mod Balance

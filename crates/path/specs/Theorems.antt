@@ -19,8 +19,8 @@ module _ (N : ℕ) (E : List ℕ) (t : IsTree N E) where
   one-middle = middles-same N E t
 
   -- The centre is the middle of every longest path.
-  pub one-centre : (u v : ℕ) → IsCentre N E u v → (q : List ℕ) → IsLongest N E q → Middles q u v
-  one-centre = every-longest N E t
+  pub of-every-longest : (u v : ℕ) → IsCentre N E u v → (q : List ℕ) → IsLongest N E q → Middles q u v
+  of-every-longest = every-longest N E t
 
   -- Before the first round of peeling all vertices are left.
   pub at-first : (A : ℕ → Type 0) → ((v : ℕ) → A v → (1 ≤ v) × (v ≤ N)) → ((v : ℕ) → 1 ≤ v → v ≤ N → A v) → Left N E A 0
