@@ -1,7 +1,9 @@
--- The centre by heights. In a rooted tree whose first branch is the tallest, the root is a middle of the longest paths exactly when the
--- other branches are as tall, or one lower; then the first child is the other middle.
+-- The centre by heights. In a rooted tree whose first branch is the tallest, the root is a middle of the longest paths exactly when
+-- another branch is as tall, or the tallest other one is lower by one; then the first child is the other middle.
 --
--- In order: what stands at least k above the leaves below it, and that k rounds of peeling leave just that; the three cases.
+-- In order: what stands k high, and that k rounds of peeling leave just that as long as the root keeps two branches; then, for a
+-- root with no branch, with another branch as tall as the first, with others one lower, and with others lower still, what the
+-- centre is. Where the first branch is not the tallest nothing is said: a forest can be turned so that it is.
 -- Assumes nothing.
 use mathlib.Core.Path.{_≡_, refl, sym, _∙_}
 use mathlib.Core.Logic.{_⊎_, inl, inr, ⊎-elim}
@@ -18,7 +20,7 @@ use Rattle.path.specs.Peel.{Two, Peels, Left, start, round}
 use Rattle.path.specs.Centre.{middles-left, done}
 use Rattle.path.specs.Heights.{tall, Stands, top, below, beside, stands-in, parent-in, stands-arc, lower, higher, stands, one-place, arc-stands, tallest, child}
 
--- what hangs below v is at least k tall, in the tree with the root r over f
+-- v stands k high: what hangs below it is at least k tall, in the tree with the root r over f
 pub data Reaches (r : ℕ) (f : Forest) (k v : ℕ) : Type 0 where
   root : v ≡ r → k ≤ tall f → Reaches r f k v
   inner : {u h : ℕ} → Stands v u h r f → k ≤ h → Reaches r f k v
@@ -38,7 +40,7 @@ module _ (N : ℕ) (E : List ℕ) (t : IsTree N E) (r : ℕ) (s : Rooted N E r) 
   rise : {v u h : ℕ} → Stands v u h r f → Reaches r f (h + 1) u
   rise i = ⊎-elim (λ y. root (y .0) (omega arith)) (λ z. inner (z .2) (omega arith)) (higher i)
 
-  -- of a child in k rounds its parent is in one more
+  -- the parent of what stands k high stands one higher
   lift : {k v w h : ℕ} → Reaches r f k w → Stands w v h r f → Reaches r f (k + 1) v
   lift (root e l) i = absurd (not-root i e)
   lift (inner j l) i = let e = one-place (s .distinct) j i in weaken (omega (arith, e .1)) (rise i)
@@ -46,7 +48,7 @@ module _ (N : ℕ) (E : List ℕ) (t : IsTree N E) (r : ℕ) (s : Rooted N E r) 
   strict : {c v u h m : ℕ} → Stands c v m r f → Stands v u h r f → m + 1 ≤ h
   strict j i = ⊎-elim (λ y. absurd (not-root i (y .0))) (λ z. omega (arith, z .3, one-place (s .distinct) (z .2) i .1)) (higher j)
 
-  -- what stands higher than k has its parent and a child that stand so high
+  -- what stands higher than k has two neighbours that stand k high, its parent and a child
   two-inner : {k v u h : ℕ} → Stands v u h r f → k + 1 ≤ h → Two E (Reaches r f k) v
   two-inner {k} {v} {u} {h} i l =
       let (c, m, j, n) = child k i (omega arith) in
@@ -60,7 +62,7 @@ module _ (N : ℕ) (E : List ℕ) (t : IsTree N E) (r : ℕ) (s : Rooted N E r) 
         to-other = turn E (perm-in (Permᴰ·symm (s .same)) (stands-arc j));
       }
 
-  -- what has two neighbours that stand so high stands higher
+  -- what has two neighbours that stand k high stands higher than k
   above : {k v : ℕ} → Two E (Reaches r f k) v → Reaches r f (k + 1) v
   above {k} {v} d = step (arc-stands r f (perm-in (s .same) (d .to-one))) (arc-stands r f (perm-in (s .same) (d .to-other)))
     where
@@ -98,7 +100,7 @@ module _ (N : ℕ) (E : List ℕ) (t : IsTree N E) (r : ℕ) (s : Rooted N E r) 
     unfolding tall
     size = rw is refl
 
-    -- the root has two children that stand so high
+    -- the root has two children that stand k high
     two-root : {k : ℕ} → k + 1 ≤ tall g → k ≤ tall d → Two E (Reaches r f k) r
     two-root {k} l n =
         let (c, h, i, j) = tallest r g k (omega arith) in
@@ -155,7 +157,7 @@ module _ (N : ℕ) (E : List ℕ) (t : IsTree N E) (r : ℕ) (s : Rooted N E r) 
       abbrev Rest : ℕ → Type 0
       Rest v = Reaches r f (tall g + 1) v × (v ≡ r → ⊥)
 
-      -- the root has no second child that stands so high
+      -- the root has no second child that stands as high as the other branches are tall
       only-first : {w h : ℕ} → Stands w r h r (tree x d g) → tall g ≤ h → w ≡ x
       unfolding vertices
       only-first (top i j k) n = i

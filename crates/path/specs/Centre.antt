@@ -5,11 +5,12 @@
 use mathlib.Core.Path.{_≡_, refl, sym, _∙_}
 use mathlib.Core.Logic.{_⊎_, inl, inr, ⊎-elim}
 use mathlib.Core.List.{List, [], _∷_, List·Memᴰ, List·Memᴰ·head, List·Memᴰ·tail, List·Memᴰ·cases-cons, List·Memᴰ·eq-of-singleton}
-use Prim.Native.Nat.{ℕ, zero, suc, _+_, _-_, _*_, _/_, _≤_, _<_}
+use Prim.Native.Nat.{ℕ, _+_, _-_, _*_, _/_, _≤_, _<_}
 use native.Mathlib.Decide.{decLe}
 use native.Mathlib.Omega.{arith}
 use lib.ListN.{length, getD}
 use Rattle.laws.specs.Once.{Once, fits}
+use Rattle.laws.specs.Places.{at-in}
 use Rattle.tree.specs.Skeleton.{IsTree}
 use Rattle.path.specs.Path.{IsPath, IsLongest, middle₁, middle₂, Middles, IsCentre}
 use Rattle.path.specs.Paths.{path-one}
@@ -17,14 +18,21 @@ use Rattle.path.specs.Ways.{Last, Way, way}
 use Rattle.path.specs.Inner.{Inner, inner-length, inner-path, inner-middle₁, inner-middle₂}
 use Rattle.path.specs.Peel.{Within, Left}
 
-within-at : (A : ℕ → Type 0) (p : List ℕ) (n : ℕ) → Within A p → n < length p → A (getD p n 0)
-within-at A [] n w l = let z : ⊥ = omega arith in absurd z
-within-at A (x ∷ p) zero w l = w x (List·Memᴰ·head refl)
-within-at A (x ∷ p) (suc n) w l = within-at A p n (λ v m. w v (List·Memᴰ·tail m)) (omega arith)
-
 middles-within : (A : ℕ → Type 0) (p : List ℕ) → Within A p → 1 ≤ length p → A (middle₁ p) × A (middle₂ p)
 unfolding middle₁ middle₂
-middles-within A p w o = (within-at A p ((length p - 1) / 2) w (omega arith), within-at A p (length p / 2) w (omega arith))
+middles-within A p w o =
+    let at : (n : ℕ) → n < length p → A (getD p n 0) = λ n l. w (getD p n 0) (at-in p n 0 l) in
+    (at ((length p - 1) / 2) (omega arith), at (length p / 2) (omega arith))
+
+-- a longest path has a vertex
+pub longest-some : (N : ℕ) (E p : List ℕ) → IsTree N E → IsLongest N E p → 1 ≤ length p
+longest-some N E p t h = h .longest (1 ∷ []) (path-one N E 1 (omega arith) (omega (arith, t .edges)))
+
+-- the centre is of the tree's vertices
+pub centre-in : (N : ℕ) (E : List ℕ) (u v : ℕ) → IsTree N E → IsCentre N E u v → ((1 ≤ u) × (u ≤ N)) × ((1 ≤ v) × (v ≤ N))
+centre-in N E u v t c =
+    let s : 1 ≤ length (c .path) = longest-some N E (c .path) t (c .longest) in
+    rw (c .first, c .second) at (middles-within (λ w. (1 ≤ w) × (w ≤ N)) (c .path) (c .longest .path .inside) s)
 
 -- as long as a vertex is left, the middles of every longest path are
 pub middles-left : (N : ℕ) (E : List ℕ) (A : ℕ → Type 0) (k : ℕ) → Left N E A k → (v : ℕ) → A v → (q : List ℕ) → IsLongest N E q → A (middle₁ q) × A (middle₂ q)

@@ -6,6 +6,7 @@ pub mod Inner
 pub mod Peel
 pub mod Centre
 pub mod Run
-pub mod Theorems
+pub mod Carry
 pub mod Heights
 pub mod Balance
+pub mod Theorems

@@ -146,3 +146,7 @@ module _ (N : ℕ) (E : List ℕ) (t : IsTree N E) where
 
   pub every-longest : (u v : ℕ) → IsCentre N E u v → (q : List ℕ) → IsLongest N E q → Middles q u v
   every-longest u v c q h = rw (c .first, c .second) at (middles-same (c .path) q (c .longest) h)
+
+  -- the centre is one vertex, or two, and no others
+  pub centre-same : (u v x y : ℕ) → IsCentre N E u v → IsCentre N E x y → ((x ≡ u) × (y ≡ v)) ⊎ ((x ≡ v) × (y ≡ u))
+  centre-same u v x y c d = rw (d .first, d .second) at (every-longest u v c (d .path) (d .longest))

@@ -3,11 +3,12 @@ use mathlib.Core.Path.{_≡_}
 use mathlib.Core.Logic.{_⊎_}
 use mathlib.Core.List.{List}
 use Prim.Native.Nat.{ℕ, _+_, _*_, _≤_}
-use Rattle.tree.specs.Skeleton.{IsTree}
+use Rattle.tree.specs.Skeleton.{IsTree, Renumbering}
 use Rattle.path.specs.Path.{IsLongest, Middles, SameMiddles, IsCentre}
 use Rattle.path.specs.Peel.{Two, Peels, Left, start, round, rounds, inmost}
-use Rattle.path.specs.Centre.{done}
-use Rattle.path.specs.Run.{some-longest, middles-same, every-longest}
+use Rattle.path.specs.Centre.{centre-in, done}
+use Rattle.path.specs.Run.{some-longest, middles-same, every-longest, centre-same}
+use Rattle.path.specs.Carry.{carry-centre}
 
 module _ (N : ℕ) (E : List ℕ) (t : IsTree N E) where
   -- Every tree has a longest path.
@@ -19,8 +20,20 @@ module _ (N : ℕ) (E : List ℕ) (t : IsTree N E) where
   one-middle = middles-same N E t
 
   -- The centre is the middle of every longest path.
-  pub of-every-longest : (u v : ℕ) → IsCentre N E u v → (q : List ℕ) → IsLongest N E q → Middles q u v
-  of-every-longest = every-longest N E t
+  pub middle-of-all : (u v : ℕ) → IsCentre N E u v → (q : List ℕ) → IsLongest N E q → Middles q u v
+  middle-of-all = every-longest N E t
+
+  -- A tree has one centre, of one vertex or two.
+  pub one-centre : (u v x y : ℕ) → IsCentre N E u v → IsCentre N E x y → ((x ≡ u) × (y ≡ v)) ⊎ ((x ≡ v) × (y ≡ u))
+  one-centre = centre-same N E t
+
+  -- The centre is among the vertices 1 to N.
+  pub centre-inside : (u v : ℕ) → IsCentre N E u v → ((1 ≤ u) × (u ≤ N)) × ((1 ≤ v) × (v ≤ N))
+  centre-inside u v = centre-in N E u v t
+
+  -- A renumbering carries the centre to the centre.
+  pub centre-carried : (F : List ℕ) (ρ : Renumbering N E F) (u v : ℕ) → IsCentre N E u v → IsCentre N F (ρ .to u) (ρ .to v)
+  centre-carried F = carry-centre N E F t
 
   -- Before the first round of peeling all vertices are left.
   pub at-first : (A : ℕ → Type 0) → ((v : ℕ) → A v → (1 ≤ v) × (v ≤ N)) → ((v : ℕ) → 1 ≤ v → v ≤ N → A v) → Left N E A 0
@@ -30,11 +43,11 @@ module _ (N : ℕ) (E : List ℕ) (t : IsTree N E) where
   pub each-round : (A B : ℕ → Type 0) (k : ℕ) → Left N E A k → Peels E A B → Left N E B (k + 1)
   each-round = round N E t
 
-  -- Where three are left, the next round leaves one of them or one between them.
+  -- Where three vertices are left, the next round leaves one.
   pub never-none : (A : ℕ → Type 0) (k : ℕ) → Left N E A k → (u v w : ℕ) → A u → A v → A w → (u ≡ v → ⊥) → (u ≡ w → ⊥) → (v ≡ w → ⊥) → (x : ℕ) × A x × Two E A x
   never-none = inmost N E t
 
-  -- After k rounds that leave a vertex there were at least 2 k + 1 vertices.
+  -- Where a vertex is left after k rounds, the tree has at least 2 k + 1 vertices.
   pub so-many-rounds : (A : ℕ → Type 0) (k : ℕ) → Left N E A k → (v : ℕ) → A v → 1 + 2 * k ≤ N
   so-many-rounds = rounds N E t
 
