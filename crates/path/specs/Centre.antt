@@ -1,6 +1,7 @@
 -- When peeling has left one vertex, or two, they are the centre, and the middles of every longest path.
 --
--- In order: the path that they make, and what any other path of them is; the centre. That peeling comes to this is in `Run`.
+-- In order: the middles of longest paths are vertices of the tree, and are never peeled; the path that the last one or two make, and
+-- what any other path of them is; the centre. That peeling comes to this is in `Run`.
 -- Assumes nothing.
 use mathlib.Core.Path.{_≡_, refl, sym, _∙_}
 use mathlib.Core.Logic.{_⊎_, inl, inr, ⊎-elim}

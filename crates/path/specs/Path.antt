@@ -37,6 +37,7 @@ middle₂ p = getD p (length p / 2) 0
 abbrev pub Middles : List ℕ → ℕ → ℕ → Type 0
 Middles p u v = ((middle₁ p ≡ u) × (middle₂ p ≡ v)) ⊎ ((middle₁ p ≡ v) × (middle₂ p ≡ u))
 
+-- q has the middles of p
 abbrev pub SameMiddles : List ℕ → List ℕ → Type 0
 SameMiddles p q = Middles q (middle₁ p) (middle₂ p)
 

@@ -1,6 +1,6 @@
 -- Peeling on a list of vertices comes to its end; so every tree has a longest path, and all its longest paths have the same middles.
 --
--- In order: searching and sifting a list; the rounds; the three theorems. Assumes nothing.
+-- In order: searching and sifting a list; the rounds; the theorems that follow. Assumes nothing.
 use mathlib.Core.Path.{_≡_, refl, sym}
 use mathlib.Core.Logic.{_⊎_, inl, inr, ⊎-elim, Dec·and, Dec·not}
 use mathlib.Core.List.{List, [], _∷_, List·Memᴰ, List·Memᴰ·head, List·Memᴰ·tail, List·Memᴰ·cases-cons, List·Memᴰ·not-nil, Memᴰ·cast}
