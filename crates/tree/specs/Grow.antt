@@ -8,11 +8,12 @@ use mathlib.Core.Logic.{_⊎_, inl, inr, ⊎-elim}
 use mathlib.Core.List.{List, [], _∷_, _++_, List·Memᴰ, List·Memᴰ·head, List·Memᴰ·tail, List·Memᴰ·cases-cons, List·Memᴰ·append-cases, List·Memᴰ·eq-of-singleton, List·Memᴰ·not-nil, Memᴰ·cast, Memᴰ·append-left, Memᴰ·append-right, List·Permᴰ, List·Permᴰ·cons, List·Permᴰ·swap, List·Permᴰ·trans, Permᴰ·refl, Permᴰ·symm, Permᴰ·append-left, Permᴰ·append-right, append-nil}
 use Prim.Native.Nat.{ℕ, zero, suc, _+_, _*_, _≤_}
 use native.Mathlib.Omega.{arith}
-use lib.ListN.{length, length-append}
+use lib.ListN.{length}
 use Rattle.laws.specs.Perms.{perm-in, perm-length, front, decIn}
-use Rattle.laws.specs.Once.{Once, once-perm, once-left, once-right, once-apart, fits, upTo, upTo-length, upTo-once, upTo-in}
+use Rattle.laws.specs.Once.{Once, once-perm, fits, upTo, upTo-length, upTo-once, upTo-in}
 use Rattle.tree.specs.Skeleton.{Arc, arcs, Walk, here, along, IsTree}
-use Rattle.tree.specs.Forest.{Forest, none, tree, vertices, count, hung, Distinct, Rooted}
+use Rattle.tree.specs.Forest.{Forest, none, tree, vertices, hung, Rooted}
+use Rattle.tree.specs.Forests.{count-vertices, distinct-once}
 use Rattle.tree.specs.Walks.{arc-end, walks}
 
 -- an edge list without one of its edges, which joins u and v
@@ -118,22 +119,6 @@ parent p (tree x d f) v h = step (List·Memᴰ·cases-cons h) (parent x d v) (pa
         (λ b. let (u, k) = j b in (u, List·Memᴰ·tail (List·Memᴰ·tail (Memᴰ·append-right (hung x d) k))))
         (List·Memᴰ·append-cases (vertices d) m)
 
-count-vertices : (f : Forest) → count f ≡ length (vertices f)
-unfolding count vertices
-count-vertices none = refl
-count-vertices (tree x d f) = omega (arith, length-append (vertices d) (vertices f), count-vertices d, count-vertices f)
-
-distinct-once : (f : Forest) → Once (vertices f) → Distinct f
-unfolding vertices
-distinct-once none o = tt
-distinct-once (tree x d f) o = (
-  λ h. o .0 (Memᴰ·append-left (vertices f) h),
-  λ h. o .0 (Memᴰ·append-right (vertices d) h),
-  λ w h k. once-apart (vertices d) (o .1) h k,
-  distinct-once d (once-left (vertices d) (vertices f) (o .1)),
-  distinct-once f (once-right (vertices d) (vertices f) (o .1)),
-)
-
 -- what is grown: a forest under r, and the edges that are left
 record Grown (E : List ℕ) (r : ℕ) : Type 0 where
   forest : Forest
@@ -225,7 +210,7 @@ rooted-tree N E r t h k =
       forest = g .forest;
       same = same;
       apart = g .once .0;
-      distinct = distinct-once (g .forest) (g .once .1);
+      distinct = distinct-once (g .forest) .1 (g .once .1);
       inside = λ v m. ⊎-elim
           (λ e. omega arith)
           (λ i. t .inside v (arc-end E (perm-in (Permᴰ·symm same) (parent r (g .forest) v i .1))))
