@@ -5,9 +5,13 @@ use mathlib.Core.List.{List, [], _∷_, _++_, map}
 use Prim.Native.Nat.{ℕ, _+_, _-_, _≤_, _<_}
 use lib.ListN.{length, getD, take, drop}
 use Rattle.laws.specs.Laid.{laidOver}
+use Rattle.laws.specs.Part.{part}
+use Rattle.refusal.specs.Table.{Lowest}
 use Rattle.lines.specs.declared.Opening.{Opening}
 use Rattle.lines.specs.declared.Opening.the-variants.{At, Nothing}
-use Rattle.lines.specs.Line.{Each, Free, IsCount, Formed}
+use Rattle.lines.specs.declared.Span.{Span}
+use Rattle.lines.specs.declared.Span.the-variants.{Digits, Refused}
+use Rattle.lines.specs.Line.{Each, Free, IsCount, Formed, Shaped, frontRows}
 
 -- i is the place of the first line feed, or the length where there is none
 pub record UpTo (t : List ℕ) (i : ℕ) : Type 0 where
@@ -59,3 +63,17 @@ pub data Forms (b : List ℕ) : Opening → Type 0 where
 pub record Written (c old : List ℕ) (n : ℕ) (new : List ℕ) : Type 0 where
   pub count : n ≡ length c
   pub lies : new ≡ laidOver c old
+
+-- The digits of t's first line stand from s to e, and rows 1, 2, 3 and 5 do not refuse it.
+pub record Stands (most : ℕ) (t : List ℕ) (s e : ℕ) : Type 0 where
+  pub ordered : s ≤ e
+  pub within : e ≤ length t
+  pub figures : Figures (part s e t)
+  pub shape : Shaped t (e - s) (values (part s e t))
+  pub some : 1 ≤ e - s
+  pub few : e - s ≤ most
+
+-- where the digits of t's first line stand, or the refusal that comes before they are judged
+pub data Located (most : ℕ) (t : List ℕ) : Span → Type 0 where
+  stands : {s e : ℕ} → Stands most t s e → Located most t (Digits s e)
+  refused : {k : ℕ} → Lowest (frontRows most t) k 0 → Located most t (Refused k)

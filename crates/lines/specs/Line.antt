@@ -101,6 +101,10 @@ row3 most t = record { number = 3; applies = λ p. (p ≡ 0) × Where t (λ n ds
 abbrev pub row5 : List ℕ → Row
 row5 t = record { number = 5; applies = λ p. (p ≡ 0) × Where t (λ n ds. length ds ≡ n → ⊥) }
 
+-- what is refused of a line before its digits are judged
+abbrev pub frontRows : ℕ → List ℕ → List Row
+frontRows most t = row1 t ∷ row2 t ∷ row3 most t ∷ row5 t ∷ []
+
 -- a row about digits: its number, and the places at which it applies to the digits c
 pub record DigitRow : Type 1 where
   pub number : ℕ
@@ -126,7 +130,7 @@ ofLine t r = record { number = r .number; applies = λ p. Where t (λ n ds. r .a
 module _ (most : ℕ) (rows : List DigitRow) where
   -- what is refused of a line
   abbrev pub lineRows : List ℕ → List Row
-  lineRows t = row1 t ∷ row2 t ∷ row3 most t ∷ row5 t ∷ map (ofLine t) rows
+  lineRows t = frontRows most t ++ map (ofLine t) rows
 
   -- the answers to the first line of t: its digits, or a refusal
   abbrev pub LineAnswers : List ℕ → Outcome (List ℕ) → Type 0

@@ -5,8 +5,9 @@ ghost use mathlib.Core.List.{List};
 ghost use Prim.Native.Nat.{ℕ, _≤_};
 ghost use lib.ListN.{length};
 ghost use Rattle.laws.specs.Laid.{laidOver};
+ghost use Rattle.code.specs.Limits.{size};
 ghost use Rattle.lines.specs.Line.{Digits, figures, decimal, line};
-ghost use Rattle.lines.specs.Form.{UpTo, Value, Figures, values, Figured, Opens, Forms, Written};
+ghost use Rattle.lines.specs.Form.{UpTo, Value, Figures, values, Figured, Opens, Forms, Located, Written};
 
 // How a line begins.
 pub enum Opening {
@@ -14,6 +15,14 @@ pub enum Opening {
     At(usize, usize),
     // with no count and space
     Nothing,
+}
+
+// The digits of a line.
+pub enum Span {
+    // where they begin, and where they end
+    Digits(usize, usize),
+    // the number of the refusal that comes before they are judged
+    Refused(u8),
 }
 
 // The place of the first line feed, or the length where there is none.
@@ -101,6 +110,32 @@ pub fn form(b: &[u8]) -> Opening
                 Opening::At(n, start)
             } else {
                 Opening::Nothing
+            }
+        }
+    }
+}
+
+// The digits of a text's first line, which is judged by rows 1, 2, 3 and 5.
+pub fn locate(text: &[u8]) -> Span
+    ensures { λ r. ⌜ Located size (now (text .entry)) r ⌝ }
+{
+    let end = feed(text);
+    if end == text.len() {
+        return Span::Refused(1);
+    }
+    match form(&text[..end]) {
+        Opening::Nothing => Span::Refused(2),
+        Opening::At(n, start) => {
+            if n == 0 {
+                return Span::Refused(3);
+            }
+            if 64 < n {
+                return Span::Refused(3);
+            }
+            if end - start == n {
+                Span::Digits(start, end)
+            } else {
+                Span::Refused(5)
             }
         }
     }
