@@ -5,7 +5,7 @@ use mathlib.Core.Bool.{Bool, true, false}
 use mathlib.Core.List.{List, [], _∷_, _++_, map}
 use Prim.Native.Nat.{ℕ, suc, _+_, _*_, _-_, _≤_, _<_}
 use native.Mathlib.Omega.{arith}
-use lib.ListN.{length, getD, take, drop, length-append, length-drop, length-map}
+use lib.ListN.{length, getD, take, drop, length-append, length-drop}
 use lib.Seq.{append-snoc, drop-cons, drop-at, take-all}
 use Rattle.lines.specs.declared.Opening.{Opening}
 use Rattle.lines.specs.declared.Opening.the-variants.{At, Nothing}
@@ -14,6 +14,7 @@ use Rattle.lines.specs.Form.{Value, Figure, Figures, values, Figured, al
 use Rattle.lines.specs.Cuts.{cut-once}
 use Rattle.lines.specs.Bodies.{length-figures, count-free}
 use Rattle.lines.specs.Each.{each-at}
+use Rattle.lines.specs.Taking.{length-values}
 
 pub value-digit : {b v : ℕ} → Value b v → (v ≡ 10 → ⊥) → (v ≤ 9) × (b ≡ 48 + v)
 value-digit w n = let h = w .small in (omega arith, w .digit (omega arith))
@@ -78,10 +79,6 @@ are-figures : (ds : List ℕ) → Digits ds → Figures (figures ds)
 unfolding figures
 are-figures [] h = tt
 are-figures (d ∷ ds) h = (omega (arith, h .0), are-figures ds (h .1))
-
-pub length-values : (t : List ℕ) → length (values t) ≡ length t
-unfolding values
-length-values t = length-map t (λ b. b - 48)
 
 -- what `&b[s..]` holds
 pub rest-is : (b : List ℕ) (s : ℕ) → take (length b - s) (drop s b) ≡ drop s b

@@ -16,7 +16,7 @@ use Rattle.lines.specs.Line.{Free, Cut, Formed, Shaped, Where, row1, row
 use Rattle.lines.specs.Form.{UpTo, Figures, values, Forms, formed, unformed, Stands}
 use Rattle.lines.specs.Cuts.{not-free, cut-once}
 use Rattle.lines.specs.Answered.{where-is, shaped-fed}
-use Rattle.lines.proofs.Forming.{length-values}
+use Rattle.lines.specs.Taking.{length-values}
 
 -- the first row applies at 0
 here : {r : Row} (rs : List Row) → r .applies 0 → under (r ∷ []) rs ≡ true → Lowest (r ∷ rs) (r .number) 0

@@ -12,3 +12,6 @@ pub mod Lawful
 pub mod Theorems
 pub mod Examples
 pub mod Form
+pub mod Reading
+pub mod Taking
+pub mod FirstLines

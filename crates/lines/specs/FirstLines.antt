@@ -1,0 +1,55 @@
+-- The first lines of a text, as a reader takes them one by one. In order: all of them are `TextAnswers`; they are one for each number of
+-- lines; one more; what they leave in what is lent, w bytes for each. Assumes nothing.
+use mathlib.Core.Path.{_≡_, refl, sym, ap, ap₂, _∙_}
+use mathlib.Core.List.{List, [], _∷_, _++_, append-assoc}
+use Prim.Native.Nat.{ℕ, suc, _+_, _*_, _-_, _≤_, _<_}
+use native.Mathlib.Omega.{arith}
+use lib.ListN.{length, take, drop, length-append}
+use lib.Seq.{take-append-add, drop-append-add, length-take-le}
+use borrow.Rule.Slice.PartMut.{midOf, putMid}
+use Rattle.laws.specs.Laying.{length-laid}
+use Rattle.refusal.specs.Table.{Outcome, gives, refuses}
+use Rattle.lines.specs.Line.{Free, Cut, DigitRow, LineAnswers, TextAnswers}
+use Rattle.lines.specs.Reading.{block, blocks, Taken, none, unfinished, next}
+use Rattle.lines.specs.Cuts.{cut-once, cut-some, not-free}
+use Rattle.lines.specs.Answered.{answered-once}
+
+module _ (most : ℕ) (rows : List DigitRow) where
+  pub taken-all : {t rest : List ℕ} {os : List (Outcome (List ℕ))} → Taken most rows t os rest → rest ≡ [] → TextAnswers most rows t os
+  taken-all none e = rw e TextAnswers.none
+  taken-all (unfinished l f a) e = TextAnswers.unfinished l f a
+  taken-all (next c a h) e = TextAnswers.next c a (taken-all h e)
+
+  pub all-taken : {t : List ℕ} {os : List (Outcome (List ℕ))} → TextAnswers most rows t os → Taken most rows t os []
+  all-taken TextAnswers.none = none
+  all-taken (TextAnswers.unfinished l f a) = unfinished l f a
+  all-taken (TextAnswers.next c a h) = next c a (all-taken h)
+
+  -- nothing can be taken of nothing
+  none-taken : {t more : List ℕ} {os : List (Outcome (List ℕ))} → Taken most rows t os more → t ≡ [] → (os ≡ []) × (more ≡ [])
+  none-taken none e = (refl, e)
+  none-taken (unfinished l f a) e = let n = ap length e in absurd (omega arith)
+  none-taken (next c a h) e = let n = ap length e in let l = cut-some c in absurd (omega arith)
+
+  pub taken-join :
+      {t rest more : List ℕ} {os ps : List (Outcome (List ℕ))} → Taken most rows t os rest → Taken most rows rest ps more → Taken most rows t (os ++ ps) more
+  taken-join none k = k
+  taken-join (unfinished l f a) k = let e = none-taken k refl in rw (e .0, e .1) (unfinished l f a)
+  taken-join (next c a h) k = next c a (taken-join h k)
+
+  -- so many lines are answered in one way, and leave one rest
+  pub taken-once :
+      {t rest more : List ℕ} {os ps : List (Outcome (List ℕ))} → Taken most rows t os rest → Taken most rows t ps more → length os ≡ length ps
+      → (os ≡ ps) × (rest ≡ more)
+  taken-once none none e = (refl, refl)
+  taken-once none (unfinished l f a) e = absurd (omega arith)
+  taken-once none (next c a h) e = absurd (omega arith)
+  taken-once (unfinished l f a) none e = absurd (omega arith)
+  taken-once (unfinished l f a) (unfinished m g b) e = (ap (λ o. o ∷ []) (answered-once most rows a b), refl)
+  taken-once (unfinished l f a) (next {b} {rest} c d h) e = absurd (not-free 10 b rest (rw (c .parts) at f))
+  taken-once (next c a h) none e = absurd (omega arith)
+  taken-once (next {b} {rest} c d h) (unfinished l f a) e = absurd (not-free 10 b rest (rw (c .parts) at f))
+  taken-once (next {t} {b} {rest} c a h) (next {b = b′} {rest = rest′} c′ a′ h′) e =
+      let q = cut-once 10 t b rest b′ rest′ c c′ .1 in
+      let r = taken-once (rw q at h) h′ (omega arith) in
+      (ap₂ _∷_ (answered-once most rows a a′) (r .0), r .1)
