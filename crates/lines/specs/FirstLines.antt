@@ -3,16 +3,17 @@
 use mathlib.Core.Path.{_≡_, refl, sym, ap, ap₂, _∙_}
 use mathlib.Core.List.{List, [], _∷_, _++_, append-assoc}
 use Prim.Native.Nat.{ℕ, suc, _+_, _*_, _-_, _≤_, _<_}
+use native.Mathlib.Nat.{mul-suc}
 use native.Mathlib.Omega.{arith}
-use lib.ListN.{length, take, drop, length-append}
+use lib.ListN.{length, take, drop, length-append, length-drop}
 use lib.Seq.{take-append-add, drop-append-add, length-take-le}
 use borrow.Rule.Slice.PartMut.{midOf, putMid}
 use Rattle.laws.specs.Laying.{length-laid}
-use Rattle.refusal.specs.Table.{Outcome, gives, refuses}
+use Rattle.refusal.specs.Table.{Outcome, gives, refuses, kept, left}
 use Rattle.lines.specs.Line.{Free, Cut, DigitRow, LineAnswers, TextAnswers}
 use Rattle.lines.specs.Reading.{block, blocks, Taken, none, unfinished, next}
 use Rattle.lines.specs.Cuts.{cut-once, cut-some, not-free}
-use Rattle.lines.specs.Answered.{answered-once}
+use Rattle.lines.specs.Answered.{answered-once, clear-line}
 
 module _ (most : ℕ) (rows : List DigitRow) where
   pub taken-all : {t rest : List ℕ} {os : List (Outcome (List ℕ))} → Taken most rows t os rest → rest ≡ [] → TextAnswers most rows t os
@@ -53,3 +54,56 @@ module _ (most : ℕ) (rows : List DigitRow) where
       let q = cut-once 10 t b rest b′ rest′ c c′ .1 in
       let r = taken-once (rw q at h) h′ (omega arith) in
       (ap₂ _∷_ (answered-once most rows a a′) (r .0), r .1)
+
+-- ---- what is left in what is lent
+
+-- a record's digits fit w bytes
+abbrev pub Fit : ℕ → Outcome (List ℕ) → Type 0
+Fit w (gives ds) = length ds ≤ w
+Fit w (refuses k p) = Unit {0}
+
+abbrev pub AllFit : ℕ → List (Outcome (List ℕ)) → Type 0
+AllFit w [] = Unit {0}
+AllFit w (o ∷ os) = Fit w o × AllFit w os
+
+module _ (most : ℕ) (rows : List DigitRow) {w : ℕ} (room : most ≤ w) where
+  answer-fits : {t : List ℕ} {o : Outcome (List ℕ)} → LineAnswers most rows t o → Fit w o
+  answer-fits (kept c r) = let a = clear-line most rows c (r .1) .1 .few in omega arith
+  answer-fits (left l e) = tt
+
+  pub taken-fit : {t rest : List ℕ} {os : List (Outcome (List ℕ))} → Taken most rows t os rest → AllFit w os
+  taken-fit none = tt
+  taken-fit (unfinished l f a) = (answer-fits a, tt)
+  taken-fit (next c a h) = (answer-fits a, taken-fit h)
+
+length-block : (o : Outcome (List ℕ)) (w : ℕ) (old : List ℕ) → Fit w o → length old ≡ w → length (block o old) ≡ w
+unfolding block
+length-block (gives ds) w old f e = length-laid ds old (omega arith) ∙ e
+length-block (refuses k p) w old f e = e
+
+module _ (w : ℕ) where
+  -- one line more
+  pub blocks-more :
+      (os : List (Outcome (List ℕ))) (o : Outcome (List ℕ)) (old : List ℕ) (b : ℕ) → AllFit w os → b ≡ w * length os → b + w ≤ length old →
+      putMid b w (blocks w os old) (block o (midOf b w (blocks w os old))) ≡ blocks w (os ++ (o ∷ [])) old
+  unfolding blocks
+  blocks-more [] o old b f e l = let z : b ≡ 0 = omega arith in rw z
+  blocks-more (q ∷ os) o old b f e l =
+      let x = block q (take w old) in
+      let r = blocks w os (drop w old) in
+      let d = w * length os in
+      let n = length-block q w (take w old) (f .0) (length-take-le w old (omega arith)) in
+      let k : b ≡ length x + d = omega (arith, mul-suc w (length os)) in
+      let p : take b (x ++ r) ≡ x ++ take d r = ap (λ (i : ℕ). take i (x ++ r)) k ∙ take-append-add x r d in
+      let u : drop b (x ++ r) ≡ drop d r = ap (λ (i : ℕ). drop i (x ++ r)) k ∙ drop-append-add x r d in
+      let ih = blocks-more os o (drop w old) d (f .1) refl (simp length-drop (omega arith)) in
+      rw (p, u) (append-assoc x (take d r) (block o (midOf d w r) ++ drop w (drop d r)) ∙ ap (λ (z : List ℕ). x ++ z) ih)
+
+  pub length-blocks : (os : List (Outcome (List ℕ))) (old : List ℕ) → AllFit w os → w * length os ≤ length old → length (blocks w os old) ≡ length old
+  unfolding blocks
+  length-blocks [] old f l = refl
+  length-blocks (q ∷ os) old f l =
+      let m = mul-suc w (length os) in
+      let n = length-block q w (take w old) (f .0) (length-take-le w old (omega arith)) in
+      let ih = length-blocks os (drop w old) (f .1) (simp length-drop (omega arith)) in
+      simp length-append (omega (arith, length-drop w old))
