@@ -5,8 +5,8 @@
 -- In order: the promise of reading a line into a lent output; what lines leave in what is lent for each of them; reading the first
 -- lines of a text. That these promises allow one result, and what a reader's proof cites, is in `Taking`. Assumes nothing.
 use mathlib.Core.Path.{_≡_}
-use mathlib.Core.List.{List, [], _∷_, _++_}
-use Prim.Native.Nat.{ℕ, _≤_}
+use mathlib.Core.List.{List, [], _∷_, _++_, map}
+use Prim.Native.Nat.{ℕ, _+_, _*_, _≤_, _<_}
 use lib.ListN.{length, take, drop}
 use Rattle.laws.specs.Laid.{laidOver}
 use Rattle.refusal.specs.Table.{Row, Outcome, gives, refuses, Promise, Writes, row15}
@@ -53,3 +53,16 @@ module _ (most : ℕ) (rows : List DigitRow) where
     unfinished : {t : List ℕ} {o : Outcome (List ℕ)} → 1 ≤ length t → Free 10 t → LineAnswers most rows t o → Taken t (o ∷ []) []
     next : {t b rest more : List ℕ} {o : Outcome (List ℕ)} {os : List (Outcome (List ℕ))} → Cut 10 t b rest → LineAnswers most rows t o →
         Taken rest os more → Taken t (o ∷ os) more
+
+  -- Reading lines of t into what is lent: w bytes, a number and a place for each. k lines are read, and t is read up to `at`; it is read
+  -- as far as what is lent allows.
+  pub record ReadText (w : ℕ) (t rec num pla rec′ num′ pla′ : List ℕ) (k at : ℕ) : Type 0 where
+    pub answers : List (Outcome (List ℕ))
+    pub taken : Taken t answers (drop at t)
+    pub within : at ≤ length t
+    pub count : k ≡ length answers
+    pub room : (w * k ≤ length rec) × (k ≤ length num) × (k ≤ length pla)
+    pub stops : at < length t → w * k + w ≤ length rec → k < length num → k < length pla → ⊥
+    pub records : rec′ ≡ blocks w answers rec
+    pub numbers : num′ ≡ laidOver (map numberOf answers) num
+    pub places : pla′ ≡ laidOver (map placeOf answers) pla
