@@ -16,7 +16,7 @@ use Rattle.lines.specs.Line.{Free, Cut, Formed, Shaped, Where, row1, row
 use Rattle.lines.specs.Form.{UpTo, Figures, values, Forms, formed, unformed, Stands}
 use Rattle.lines.specs.Cuts.{not-free, cut-once}
 use Rattle.lines.specs.Answered.{where-is, shaped-fed}
-use Rattle.lines.specs.Taking.{length-values}
+use Rattle.lines.specs.Taking.{length-values, unfed, fed-cut}
 
 -- the first row applies at 0
 here : {r : Row} (rs : List Row) → r .applies 0 → under (r ∷ []) rs ≡ true → Lowest (r ∷ rs) (r .number) 0
@@ -67,16 +67,11 @@ pub record Found (t : List ℕ) (e n s : ℕ) : Type 0 where
 
 module _ {t : List ℕ} {e : ℕ} (u : UpTo t e) where
   pub no-feed : (most : ℕ) → e ≡ length t → Lowest (frontRows most t) 1 0
-  no-feed most q = let f = u .free in lowest-1 most {t = t} (rw (take-all e t (omega arith)) at f)
-
-  line-cut : (e ≡ length t → ⊥) → Cut 10 t (take e t) (drop (suc e) t)
-  line-cut n =
-      let l : e < length t = omega (arith, u .within) in
-      record { parts = rw (u .fed l) at (split-at t e 0 l); free = u .free }
+  no-feed most q = lowest-1 most {t = t} (unfed u q)
 
   pub no-form : (most : ℕ) {o : Opening} → (e ≡ length t → ⊥) → Forms (take e t) o → o ≡ Nothing → Lowest (frontRows most t) 2 0
   no-form most n (formed l f h) q = let z : _≡_ {A = ℕ} 0 1 = cc in absurd (let n : ⊥ = omega arith in n)
-  no-form most n (unformed h) q = lowest-2 most (line-cut n) h
+  no-form most n (unformed h) q = lowest-2 most (fed-cut u n) h
 
   pub found : {o : Opening} {n s : ℕ} → (e ≡ length t → ⊥) → Forms (take e t) o → o ≡ At n s → Found t e n s
   found {n = n} {s} d (formed {n = m} {s = r} l f h) q =
@@ -89,7 +84,7 @@ module _ {t : List ℕ} {e : ℕ} (u : UpTo t e) where
         ordered = omega arith;
         within = u .within;
         figures = rw (← v) f;
-        shape = record { text = take e t; rest = drop (suc e) t; feed = line-cut d; formed = rw (← v) h };
+        shape = record { text = take e t; rest = drop (suc e) t; feed = fed-cut u d; formed = rw (← v) h };
       })
   found d (unformed h) q = let z : _≡_ {A = ℕ} 0 1 = cc in absurd (let n : ⊥ = omega arith in n)
 

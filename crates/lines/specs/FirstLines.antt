@@ -1,19 +1,17 @@
 -- The first lines of a text, as a reader takes them one by one. In order: all of them are `TextAnswers`; they are one for each number of
--- lines; one more; what they leave in what is lent, w bytes for each; reading a text has one result. Assumes nothing.
+-- lines; one more; what they leave in what is lent, w bytes for each. Assumes nothing.
 use mathlib.Core.Path.{_≡_, refl, sym, ap, ap₂, _∙_}
-use mathlib.Core.List.{List, [], _∷_, _++_, map, append-assoc}
+use mathlib.Core.List.{List, [], _∷_, _++_, append-assoc}
 use Prim.Native.Nat.{ℕ, suc, _+_, _*_, _-_, _≤_, _<_}
-use native.Mathlib.Nat.{mul-suc, mul-le-mul-left}
-use native.Mathlib.Decide.{decLt}
+use native.Mathlib.Nat.{mul-suc}
 use native.Mathlib.Omega.{arith}
-use lib.ListN.{length, take, drop, length-append, length-drop, drop-of-length-le}
+use lib.ListN.{length, take, drop, length-append, length-drop}
 use lib.Seq.{take-append-add, drop-append-add, length-take-le}
 use borrow.Rule.Slice.PartMut.{midOf, putMid}
-use Rattle.laws.specs.Laid.{laidOver}
 use Rattle.laws.specs.Laying.{length-laid}
 use Rattle.refusal.specs.Table.{Outcome, gives, refuses, kept, left}
 use Rattle.lines.specs.Line.{Free, Cut, DigitRow, LineAnswers, TextAnswers}
-use Rattle.lines.specs.Reading.{block, blocks, numberOf, placeOf, Taken, none, unfinished, next, ReadText}
+use Rattle.lines.specs.Reading.{block, blocks, Taken, none, unfinished, next}
 use Rattle.lines.specs.Cuts.{cut-once, cut-some, not-free}
 use Rattle.lines.specs.Answered.{answered-once, clear-line}
 
@@ -123,42 +121,3 @@ module _ (w : ℕ) where
       let n = length-block q w (take w old) (f .0) (length-take-le w old (omega arith)) in
       let ih = length-blocks os (drop w old) (f .1) (simp length-drop (omega arith)) in
       simp length-append (omega (arith, length-drop w old))
-
--- ---- reading a text
-
-module _ (most : ℕ) (rows : List DigitRow) {w : ℕ} {t rec num pla : List ℕ} where
-  -- one reading does not stop before another
-  no-sooner :
-      {rec₁ num₁ pla₁ rec₂ num₂ pla₂ : List ℕ} {k at j to : ℕ} → ReadText most rows w t rec num pla rec₁ num₁ pla₁ k at
-      → ReadText most rows w t rec num pla rec₂ num₂ pla₂ j to → k < j → ⊥
-  no-sooner {k = k} {at} {j} {to} g h l = go (decLt at (length t))
-    where
-      more : w * k + w ≤ length rec
-      more = let m = mul-le-mul-left w l in omega (arith, mul-suc w k, h .room .0)
-
-      go : Dec (at < length t) → ⊥
-      go (yes a) = g .stops a more (omega (arith, h .room .1)) (omega (arith, h .room .2))
-      go (no a) =
-          let e = drop-of-length-le t {i = at} (omega arith) in
-          let m = taken-most most rows (g .taken) e (h .taken) in
-          omega (arith, g .count, h .count)
-
-  -- reading a text has one result
-  pub read-text-once :
-      {rec₁ num₁ pla₁ rec₂ num₂ pla₂ : List ℕ} {k at j to : ℕ} → ReadText most rows w t rec num pla rec₁ num₁ pla₁ k at
-      → ReadText most rows w t rec num pla rec₂ num₂ pla₂ j to → (k ≡ j) × (at ≡ to) × (rec₁ ≡ rec₂) × (num₁ ≡ num₂) × (pla₁ ≡ pla₂)
-  read-text-once {k = k} {at} {j} {to} g h =
-      let a : k < j → ⊥ = no-sooner g h in
-      let b : j < k → ⊥ = no-sooner h g in
-      let r = taken-once most rows (g .taken) (h .taken) (omega (arith, g .count, h .count)) in (
-        omega arith,
-        omega (arith, simp length-drop at (ap length (r .1)), g .within, h .within),
-        g .records ∙ ap (λ os. blocks w os rec) (r .0) ∙ sym (h .records),
-        g .numbers ∙ ap (λ os. laidOver (map numberOf os) num) (r .0) ∙ sym (h .numbers),
-        g .places ∙ ap (λ os. laidOver (map placeOf os) pla) (r .0) ∙ sym (h .places),
-      )
-
-  -- a text that is read to its end
-  pub read-whole :
-      {rec₁ num₁ pla₁ : List ℕ} {k at : ℕ} (g : ReadText most rows w t rec num pla rec₁ num₁ pla₁ k at) → at ≡ length t → TextAnswers most rows t (g .answers)
-  read-whole {at = at} g e = taken-all most rows (g .taken) (drop-of-length-le t {i = at} (omega arith))

@@ -15,3 +15,4 @@ pub mod Form
 pub mod Reading
 pub mod Taking
 pub mod FirstLines
+pub mod Turns

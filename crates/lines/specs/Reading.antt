@@ -54,15 +54,18 @@ module _ (most : ℕ) (rows : List DigitRow) where
     next : {t b rest more : List ℕ} {o : Outcome (List ℕ)} {os : List (Outcome (List ℕ))} → Cut 10 t b rest → LineAnswers most rows t o →
         Taken rest os more → Taken t (o ∷ os) more
 
-  -- Reading lines of t into what is lent: w bytes, a number and a place for each. k lines are read, and t is read up to `at`; it is read
-  -- as far as what is lent allows.
-  pub record ReadText (w : ℕ) (t rec num pla rec′ num′ pla′ : List ℕ) (k at : ℕ) : Type 0 where
+  -- Reading lines of t into what is lent: w bytes, a number and a place for each. k lines are read, and t is read up to `at`.
+  pub record ReadSoFar (w : ℕ) (t rec num pla rec′ num′ pla′ : List ℕ) (k at : ℕ) : Type 0 where
     pub answers : List (Outcome (List ℕ))
     pub taken : Taken t answers (drop at t)
     pub within : at ≤ length t
     pub count : k ≡ length answers
     pub room : (w * k ≤ length rec) × (k ≤ length num) × (k ≤ length pla)
-    pub stops : at < length t → w * k + w ≤ length rec → k < length num → k < length pla → ⊥
     pub records : rec′ ≡ blocks w answers rec
     pub numbers : num′ ≡ laidOver (map numberOf answers) num
     pub places : pla′ ≡ laidOver (map placeOf answers) pla
+
+  -- and t is read as far as what is lent allows
+  pub record ReadText (w : ℕ) (t rec num pla rec′ num′ pla′ : List ℕ) (k at : ℕ) : Type 0 where
+    pub read : ReadSoFar w t rec num pla rec′ num′ pla′ k at
+    pub stops : at < length t → w * k + w ≤ length rec → k < length num → k < length pla → ⊥

@@ -1,4 +1,4 @@
--- Laws of reading lines. In order: a line that is read has one result; what a reader of one line cites; what is read with room enough
+-- Laws of reading lines. In order: where a line ends; a line that is read has one result; what a reader of one line cites; what is read with room enough
 -- is what `LineAnswers` allows. The lines of a text, one behind the other, are in `FirstLines`. Assumes nothing.
 use mathlib.Core.Path.{_≡_, refl, sym, ap, ap₂, _∙_}
 use mathlib.Core.Logic.{_⊎_, inl, inr, ⊎-elim}
@@ -7,15 +7,26 @@ use mathlib.Core.List.{List, [], _∷_, _++_, map}
 use Prim.Native.Nat.{ℕ, suc, _+_, _-_, _≤_, _<_}
 use native.Mathlib.Decide.{ℕ-discrete}
 use native.Mathlib.Omega.{arith}
-use lib.ListN.{length, length-map}
+use lib.ListN.{length, take, drop, length-map}
+use lib.Seq.{take-all, split-at}
 use Rattle.laws.specs.Laid.{laidOver}
 use Rattle.laws.specs.Part.{part, part-length}
 use Rattle.refusal.specs.Table.{Row, Applies, Clear, Lowest, Outcome, gives, refuses, Promise, kept, left, Writes, Outside, row3}
 use Rattle.refusal.specs.Laws.{under, one-result, one-written, clear-one, first-place, applies-left, applies-either, clear-left, clear-right, clear-both, lowest-front, lowest-back}
 use Rattle.lines.specs.Line.{Free, Cut, Shaped, Where, DigitRow, judged, ofLine, frontRows, lineRows, LineAnswers, TextAnswers}
-use Rattle.lines.specs.Form.{values, Stands}
+use Rattle.lines.specs.Form.{UpTo, values, Stands}
 use Rattle.lines.specs.Reading.{lineRow15, block, blocks, counted, ReadLine, Taken, none, unfinished, next}
 use Rattle.lines.specs.Answered.{shaped-once, where-is, to-digits, of-digits, line-clear}
+
+-- the first line feed, or none
+module _ {t : List ℕ} {e : ℕ} (u : UpTo t e) where
+  pub unfed : e ≡ length t → Free 10 t
+  unfed q = let f = u .free in rw (take-all e t (omega arith)) at f
+
+  pub fed-cut : (e ≡ length t → ⊥) → Cut 10 t (take e t) (drop (suc e) t)
+  fed-cut n =
+      let l : e < length t = omega (arith, u .within) in
+      record { parts = rw (u .fed l) at (split-at t e 0 l); free = u .free }
 
 pub length-values : (t : List ℕ) → length (values t) ≡ length t
 unfolding values
