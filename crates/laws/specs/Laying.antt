@@ -18,6 +18,11 @@ pub length-laid : (c old : List ℕ) → length c ≤ length old → length (lai
 unfolding laidOver
 length-laid c old h = simp (length-append, length-drop) (omega arith)
 
+-- what is written stands at the front
+pub laid-front : (c old out : List ℕ) (n : ℕ) → out ≡ laidOver c old → length c ≡ n → take n out ≡ c
+unfolding laidOver
+laid-front c old out n e l = rw e (take-at c (drop (length c) old) n l)
+
 laid-at : (c old : List ℕ) (b : ℕ) → length c < length old → set (laidOver c old) (length c) b ≡ laidOver (c ++ (b ∷ [])) old
 unfolding laidOver
 laid-at c [] b h = absurd (omega arith)

@@ -12,8 +12,10 @@ use Rattle.refusal.specs.Table.{Row, Lowest, Outside}
 use Rattle.refusal.specs.Laws.{under, clear-one, first-place, lowest-front, lowest-back}
 use Rattle.lines.specs.declared.Opening.{Opening}
 use Rattle.lines.specs.declared.Opening.the-variants.{At, Nothing}
+use Rattle.lines.specs.declared.Span.{Span}
+use Rattle.lines.specs.declared.Span.the-variants.{Digits, Refused}
 use Rattle.lines.specs.Line.{Free, Cut, Formed, Shaped, Where, row1, row2, row3, row5, frontRows}
-use Rattle.lines.specs.Form.{UpTo, Figures, values, Forms, formed, unformed, Stands}
+use Rattle.lines.specs.Form.{UpTo, Figures, values, Forms, formed, unformed, Stands, Located, stands, refused}
 use Rattle.lines.specs.Cuts.{not-free, cut-once}
 use Rattle.lines.specs.Answered.{where-is, shaped-fed}
 use Rattle.lines.specs.Taking.{length-values, unfed, fed-cut}
@@ -109,3 +111,13 @@ module _ (most : ℕ) {t : List ℕ} {e n s : ℕ} (f : Found t e n s) where
         some = omega arith;
         few = omega arith;
       }
+
+-- ---- what a caller learns
+
+pub located : {most : ℕ} {t : List ℕ} {o : Span} {s e : ℕ} → Located most t o → o ≡ Digits s e → Stands most t s e
+located {s = s} {e} (stands {s = a} {e = b} h) q = let p : a ≡ s = cc in let r : b ≡ e = cc in rw (← p, ← r) h
+located (refused l) q = let z : _≡_ {A = ℕ} 0 1 = cc in absurd (let n : ⊥ = omega arith in n)
+
+pub unlocated : {most : ℕ} {t : List ℕ} {o : Span} {k : ℕ} → Located most t o → o ≡ Refused k → Lowest (frontRows most t) k 0
+unlocated (stands h) q = let z : _≡_ {A = ℕ} 0 1 = cc in absurd (let n : ⊥ = omega arith in n)
+unlocated {k = k} (refused {k = j} l) q = let p : j ≡ k = cc in rw (← p) l

@@ -16,3 +16,4 @@ pub mod Reading
 pub mod Taking
 pub mod FirstLines
 pub mod Turns
+pub mod Judged

@@ -32,6 +32,9 @@ pub length-values : (t : List ℕ) → length (values t) ≡ length t
 unfolding values
 length-values t = length-map t (λ b. b - 48)
 
+pub stands-length : {most : ℕ} {t : List ℕ} {s e : ℕ} → Stands most t s e → length (part s e t) ≡ e - s
+stands-length {t = t} {s} {e} h = part-length s e t (h .within)
+
 module _ (most : ℕ) (rows : List DigitRow) where
   -- reading a line has one result, and leaves one thing in what is lent
   pub read-once :
@@ -48,7 +51,7 @@ module _ (most : ℕ) (rows : List DigitRow) where
 
   module _ {t : List ℕ} {s e : ℕ} (h : Stands most t s e) where
     as-many : length (values (part s e t)) ≡ e - s
-    as-many = length-values (part s e t) ∙ part-length s e t (h .within)
+    as-many = length-values (part s e t) ∙ stands-length h
 
     -- row 3 of digits lent by themselves does not apply to a line's
     inside : (p : ℕ) → row3 most (length (values (part s e t))) .applies p → ⊥

@@ -1,12 +1,19 @@
 // Lines: the form of a line, found and written. What a line is stands in specs/Line.antt, and what these functions promise in
 // specs/Form.antt.
+use code::check;
+use refusal::Answer;
+use refusal::Check;
 ghost use mathlib.Core.Path.{_≡_};
-ghost use mathlib.Core.List.{List};
+ghost use mathlib.Core.List.{List, _∷_};
 ghost use Prim.Native.Nat.{ℕ, _≤_};
 ghost use lib.ListN.{length};
 ghost use Rattle.laws.specs.Laid.{laidOver};
 ghost use Rattle.code.specs.Limits.{size};
-ghost use Rattle.lines.specs.Line.{Digits, figures, decimal, line};
+ghost use Rattle.refusal.specs.Table.{Answers, row3};
+ghost use Rattle.refusal.specs.Outcome.{told};
+ghost use Rattle.lines.specs.Line.{Digits, figures, decimal, line, judged};
+ghost use Rattle.lines.specs.Judged.{digitTable};
+ghost use Rattle.lines.specs.Reading.{ReadLine};
 ghost use Rattle.lines.specs.Form.{UpTo, Value, Figures, values, Figured, Opens, Forms, Located, Written};
 
 // How a line begins.
@@ -206,4 +213,37 @@ pub fn extent(n: usize) -> usize
         return n + 3;
     }
     n + 4
+}
+
+// The digits of a line, as they are written, by their values: row 3 of digits lent by themselves, and the rows of a line's.
+fn judge(t: &[u8]) -> Check
+    requires figures { ⌜ Figures (now t) ⌝ }
+    requires few { ⌜ length (now t) ≤ size ⌝ }
+    ensures { λ r. ⌜ Answers (row3 size (length (values (now (t .entry)))) ∷ judged digitTable (values (now (t .entry)))) r ⌝ }
+{
+    let mut v = [0u8; 64];
+    read_digits(t, &mut v);
+    check(&v[..t.len()])
+}
+
+// The first line of a text: its digits as values, to the start of what is lent.
+pub fn read_line(text: &[u8], out: &mut [u8]) -> Answer
+    ensures { λ r. ⌜ ReadLine size digitTable (now (text .entry)) (now (out .entry)) (now (out .exit)) (told r) ⌝ }
+{
+    match locate(text) {
+        Span::Refused(k) => Answer::Refused(k, 0),
+        Span::Digits(start, end) => {
+            let n = end - start;
+            match judge(&text[start..end]) {
+                Check::Refuse(k, p) => Answer::Refused(k, p),
+                Check::Passed => {
+                    if out.len() < n {
+                        return Answer::Refused(15, n);
+                    }
+                    read_digits(&text[start..end], out);
+                    Answer::Done(n)
+                }
+            }
+        }
+    }
 }
