@@ -2,3 +2,4 @@
 pub mod Forming
 pub mod Writing
 pub mod Locating
+pub mod Passing

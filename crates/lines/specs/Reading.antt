@@ -6,10 +6,11 @@
 -- lines of a text. That these promises allow one result, and what a reader's proof cites, is in `Taking`. Assumes nothing.
 use mathlib.Core.Path.{_≡_}
 use mathlib.Core.List.{List, [], _∷_, _++_, map}
-use Prim.Native.Nat.{ℕ, _+_, _*_, _≤_, _<_}
+use Prim.Native.Nat.{ℕ, suc, _+_, _*_, _≤_, _<_}
 use lib.ListN.{length, take, drop}
 use Rattle.laws.specs.Laid.{laidOver}
 use Rattle.refusal.specs.Table.{Row, Outcome, gives, refuses, Promise, Writes, row15}
+use Rattle.lines.specs.Form.{UpTo}
 use Rattle.lines.specs.Line.{Free, Cut, Shaped, DigitRow, digitRow, ofLine, lineRows, LineAnswers}
 
 -- 15: what is lent, of the length `lent`, is too short for the digits
@@ -26,20 +27,32 @@ unfoldable pub blocks : ℕ → List (Outcome (List ℕ)) → List ℕ → List 
 blocks w [] old = old
 blocks w (o ∷ os) old = block o (take w old) ++ blocks w os (drop w old)
 
--- the number of an answer, 0 for a record
-unfoldable pub numberOf : Outcome (List ℕ) → ℕ
-numberOf (gives ds) = 0
-numberOf (refuses k p) = k
-
--- its place, for a record the number of its digits
-unfoldable pub placeOf : Outcome (List ℕ) → ℕ
-placeOf (gives ds) = length ds
-placeOf (refuses k p) = p
-
 -- an answer as a call tells it: for a record, how many digits are written
 unfoldable pub counted : Outcome (List ℕ) → Outcome ℕ
 counted (gives ds) = gives (length ds)
 counted (refuses k p) = refuses k p
+
+-- its number, 0 for a record
+abbrev pub numberOf : Outcome ℕ → ℕ
+numberOf (gives n) = 0
+numberOf (refuses k p) = k
+
+-- its place, for a record the number of its digits
+abbrev pub placeOf : Outcome ℕ → ℕ
+placeOf (gives n) = n
+placeOf (refuses k p) = p
+
+-- to is behind the line of t that begins at `at`
+pub record Behind (t : List ℕ) (at to : ℕ) : Type 0 where
+  pub end : ℕ
+  pub feed : UpTo (drop at t) end
+  pub within : to ≤ length t
+  pub rest : drop to t ≡ drop (suc end) (drop at t)
+
+-- there is room for so many lines, and for no more
+pub record Room (w records numbers places n : ℕ) : Type 0 where
+  pub enough : (w * n ≤ records) × (n ≤ numbers) × (n ≤ places)
+  pub no-more : w * n + w ≤ records → n < numbers → n < places → ⊥
 
 module _ (most : ℕ) (rows : List DigitRow) where
   -- reading the first line of t into a lent output
@@ -62,8 +75,8 @@ module _ (most : ℕ) (rows : List DigitRow) where
     pub count : k ≡ length answers
     pub room : (w * k ≤ length rec) × (k ≤ length num) × (k ≤ length pla)
     pub records : rec′ ≡ blocks w answers rec
-    pub numbers : num′ ≡ laidOver (map numberOf answers) num
-    pub places : pla′ ≡ laidOver (map placeOf answers) pla
+    pub numbers : num′ ≡ laidOver (map (λ o. numberOf (counted o)) answers) num
+    pub places : pla′ ≡ laidOver (map (λ o. placeOf (counted o)) answers) pla
 
   -- and t is read as far as what is lent allows
   pub record ReadText (w : ℕ) (t rec num pla rec′ num′ pla′ : List ℕ) (k at : ℕ) : Type 0 where

@@ -9,13 +9,13 @@ use native.Mathlib.Omega.{arith}
 use lib.ListN.{length, drop, set, length-append, length-drop, length-map, drop-of-length-le}
 use borrow.Rule.Slice.PartMut.{midOf, putMid}
 use Rattle.laws.specs.Laid.{laidOver}
-use Rattle.laws.specs.Laying.{laid-none, laid-more}
+use Rattle.laws.specs.Laying.{laid-none, laid-more, length-laid}
 use Rattle.refusal.specs.Table.{Outcome}
 use Rattle.lines.specs.Line.{DigitRow, LineAnswers, TextAnswers}
 use Rattle.lines.specs.Form.{UpTo}
-use Rattle.lines.specs.Reading.{block, blocks, numberOf, placeOf, Taken, none, unfinished, next, ReadSoFar, ReadText}
+use Rattle.lines.specs.Reading.{block, blocks, counted, numberOf, placeOf, Behind, Taken, none, unfinished, next, ReadSoFar, ReadText}
 use Rattle.lines.specs.Taking.{unfed, fed-cut}
-use Rattle.lines.specs.FirstLines.{taken-all, taken-join, taken-once, taken-most, taken-fit, blocks-more}
+use Rattle.lines.specs.FirstLines.{taken-all, taken-join, taken-once, taken-most, taken-fit, blocks-more, length-blocks}
 
 module _ (most : ℕ) (rows : List DigitRow) {w : ℕ} {t rec num pla : List ℕ} where
   -- one reading does not stop before another
@@ -45,8 +45,8 @@ module _ (most : ℕ) (rows : List DigitRow) {w : ℕ} {t rec num pla : List ℕ
         omega arith,
         omega (arith, simp length-drop at (ap length (r .1)), g .read .within, h .read .within),
         g .read .records ∙ ap (λ os. blocks w os rec) (r .0) ∙ sym (h .read .records),
-        g .read .numbers ∙ ap (λ os. laidOver (map numberOf os) num) (r .0) ∙ sym (h .read .numbers),
-        g .read .places ∙ ap (λ os. laidOver (map placeOf os) pla) (r .0) ∙ sym (h .read .places),
+        g .read .numbers ∙ ap (λ os. laidOver (map (λ o. numberOf (counted o)) os) num) (r .0) ∙ sym (h .read .numbers),
+        g .read .places ∙ ap (λ os. laidOver (map (λ o. placeOf (counted o)) os) pla) (r .0) ∙ sym (h .read .places),
       )
 
   -- a text that is read to its end
@@ -90,24 +90,36 @@ module _ (most : ℕ) (rows : List DigitRow) where
         laid-more (map f (g .answers)) old new k (f o) e (length-map (g .answers) f ∙ sym (g .count)) l
         ∙ ap (λ (c : List ℕ). laidOver c old) (sym (map-append f (g .answers) (o ∷ [])))
 
-    -- one line more: it ends at e, its answer is o, and `to` is behind it
+    -- one line more: its answer is o, told as r, and `to` is behind it
     pub read-more :
-        {e b to m p : ℕ} {new : List ℕ} {o : Outcome (List ℕ)} → UpTo (drop at t) e → LineAnswers most rows (drop at t) o → b ≡ w * k → to ≤ length t
-        → drop to t ≡ drop (suc e) (drop at t) → new ≡ block o (midOf b w rec₁) → m ≡ numberOf o → p ≡ placeOf o
-        → ReadSoFar most rows w t rec num pla (putMid b w rec₁ new) (set num₁ k m) (set pla₁ k p) (k + 1) to
-    read-more {e} {b} {to} {m} {p} {new} {o} u a eb lt et en em ep =
+        {b to : ℕ} {new : List ℕ} {o : Outcome (List ℕ)} {r : Outcome ℕ} → Behind t at to → LineAnswers most rows (drop at t) o → r ≡ counted o
+        → new ≡ block o (midOf b w rec₁) → b ≡ w * k
+        → ReadSoFar most rows w t rec num pla (putMid b w rec₁ new) (set num₁ k (numberOf r)) (set pla₁ k (placeOf r)) (k + 1) to
+    read-more {b} {to} {new} {o} {r} h a er en eb =
         let n = g .count in
         let x = room in
         record {
           answers = g .answers ++ (o ∷ []);
-          taken = taken-join most rows (g .taken) (rw et (line-taken (rw length-drop (omega arith)) u a));
-          within = lt;
+          taken = taken-join most rows (g .taken) (rw (h .rest) (line-taken (rw length-drop (omega arith)) (h .feed) a));
+          within = h .within;
           count = simp length-append (omega arith);
           room = (rw (add-one, mul-suc) (x .0), omega arith, omega arith);
           records =
               ap (putMid b w rec₁) en
-              ∙ ap (λ (r : List ℕ). putMid b w r (block o (midOf b w r))) (g .records)
+              ∙ ap (λ (l : List ℕ). putMid b w l (block o (midOf b w l))) (g .records)
               ∙ blocks-more w (g .answers) o rec b (taken-fit most rows fits (g .taken)) (eb ∙ ap (λ (i : ℕ). w * i) n) (omega arith);
-          numbers = ap (set num₁ k) em ∙ told-more numberOf o num num₁ (g .numbers) (x .1);
-          places = ap (set pla₁ k) ep ∙ told-more placeOf o pla pla₁ (g .places) (x .2);
+          numbers = ap (λ u. set num₁ k (numberOf u)) er ∙ told-more (λ u. numberOf (counted u)) o num num₁ (g .numbers) (x .1);
+          places = ap (λ u. set pla₁ k (placeOf u)) er ∙ told-more (λ u. placeOf (counted u)) o pla pla₁ (g .places) (x .2);
         }
+
+-- what is lent keeps its length
+pub read-lengths :
+    {most : ℕ} {rows : List DigitRow} {w : ℕ} {t rec num pla rec₁ num₁ pla₁ : List ℕ} {k at : ℕ} → most ≤ w
+    → ReadSoFar most rows w t rec num pla rec₁ num₁ pla₁ k at → (length rec₁ ≡ length rec) × (length num₁ ≡ length num) × (length pla₁ ≡ length pla)
+read-lengths {most} {rows} {w} {rec = rec} {num} {pla} fits g =
+    let n = g .count in
+    let x = g .room in (
+      ap length (g .records) ∙ length-blocks w (g .answers) rec (taken-fit most rows fits (g .taken)) (rw (← n) (x .0)),
+      ap length (g .numbers) ∙ length-laid (map (λ o. numberOf (counted o)) (g .answers)) num (rw length-map (omega arith)),
+      ap length (g .places) ∙ length-laid (map (λ o. placeOf (counted o)) (g .answers)) pla (rw length-map (omega arith)),
+    )

@@ -5,15 +5,15 @@ use refusal::Answer;
 use refusal::Check;
 ghost use mathlib.Core.Path.{_≡_};
 ghost use mathlib.Core.List.{List, _∷_};
-ghost use Prim.Native.Nat.{ℕ, _≤_};
-ghost use lib.ListN.{length};
+ghost use Prim.Native.Nat.{ℕ, _≤_, _<_};
+ghost use lib.ListN.{length, set};
 ghost use Rattle.laws.specs.Laid.{laidOver};
 ghost use Rattle.code.specs.Limits.{size};
 ghost use Rattle.refusal.specs.Table.{Answers, row3};
 ghost use Rattle.refusal.specs.Outcome.{told};
 ghost use Rattle.lines.specs.Line.{Digits, figures, decimal, line, judged};
 ghost use Rattle.lines.specs.Judged.{digitTable};
-ghost use Rattle.lines.specs.Reading.{ReadLine};
+ghost use Rattle.lines.specs.Reading.{ReadLine, numberOf, placeOf, Behind, Room, ReadText};
 ghost use Rattle.lines.specs.Form.{UpTo, Value, Figures, values, Figured, Opens, Forms, Located, Written};
 
 // How a line begins.
@@ -30,6 +30,12 @@ pub enum Span {
     Digits(usize, usize),
     // the number of the refusal that comes before they are judged
     Refused(u8),
+}
+
+// How far a text is read: so many lines, up to a place.
+pub struct Progress {
+    pub lines: usize,
+    pub at: usize,
 }
 
 // The place of the first line feed, or the length where there is none.
@@ -246,4 +252,78 @@ pub fn read_line(text: &[u8], out: &mut [u8]) -> Answer
             }
         }
     }
+}
+
+// How many lines there is room for: 64 bytes, a number and a place for each.
+fn room(records: usize, numbers: usize, places: usize) -> usize
+    ensures { λ r. ⌜ Room size records numbers places r ⌝ }
+{
+    let n = records / 64;
+    if numbers < n {
+        if places < numbers {
+            return places;
+        }
+        return numbers;
+    }
+    if places < n {
+        return places;
+    }
+    n
+}
+
+// The place behind the line that begins at `at`.
+fn behind(text: &[u8], at: usize) -> usize
+    requires { ⌜ at < length (now text) ⌝ }
+    ensures { λ r. ⌜ Behind (now (text .entry)) at r ⌝ }
+{
+    let end = feed(&text[at..]);
+    if end == text.len() - at {
+        return text.len();
+    }
+    at + end + 1
+}
+
+// Number and place of an answer, for line k.
+fn note(r: Answer, numbers: &mut [u8], places: &mut [usize], k: usize)
+    requires { ⌜ k < length (now numbers) ⌝ }
+    requires { ⌜ k < length (now places) ⌝ }
+    ensures { λ _. ⌜ now (numbers .exit) ≡ set (now (numbers .entry)) k (numberOf (told r)) ⌝ }
+    ensures { λ _. ⌜ now (places .exit) ≡ set (now (places .entry)) k (placeOf (told r)) ⌝ }
+{
+    match r {
+        Answer::Done(n) => {
+            numbers[k] = 0;
+            places[k] = n;
+        }
+        Answer::Refused(m, p) => {
+            numbers[k] = m;
+            places[k] = p;
+        }
+    }
+}
+
+// A text, line after line, as far as there is room.
+pub fn read_text(
+    text: &[u8],
+    records: &mut [u8],
+    numbers: &mut [u8],
+    places: &mut [usize],
+) -> Progress
+    ensures { λ r. ⌜ ReadText size digitTable size
+        (now (text .entry)) (now (records .entry)) (now (numbers .entry)) (now (places .entry))
+        (now (records .exit)) (now (numbers .exit)) (now (places .exit)) (r .lines) (r .at) ⌝ }
+{
+    let lines = room(records.len(), numbers.len(), places.len());
+    let mut k = 0;
+    let mut at = 0;
+    while k < lines {
+        if at == text.len() {
+            return Progress { lines: k, at };
+        }
+        let r = read_line(&text[at..], &mut records[64 * k..64 * k + 64]);
+        note(r, numbers, places, k);
+        at = behind(text, at);
+        k += 1;
+    }
+    Progress { lines: k, at }
 }
