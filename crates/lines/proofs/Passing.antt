@@ -1,10 +1,12 @@
 -- From one line of a text to the next. Assumes nothing.
 use mathlib.Core.Path.{_≡_, refl, sym, ap, _∙_}
 use mathlib.Core.List.{List, []}
-use Prim.Native.Nat.{ℕ, suc, _+_, _*_, _-_, _≤_, _<_}
+use Prim.Native.Nat.{ℕ, suc, _+_, _*_, _-_, _^_, _≤_, _<_}
 use native.Mathlib.Omega.{arith}
 use lib.ListN.{length, take, drop, set, length-take, length-drop, drop-of-length-le}
 use lib.Seq.{drop-drop, drop-length}
+use mir.Syntax.{w64}
+use mir.Val.{Fits}
 use borrow.Rule.Slice.PartMut.{midOf, putMid}
 use Rattle.refusal.specs.Table.{Outcome}
 use Rattle.lines.specs.Form.{UpTo}
@@ -52,6 +54,13 @@ module _ {text rec₀ num₀ pla₀ : List ℕ} {lines : ℕ} {rec num pla : Lis
   pub room-now : k < lines → (64 * k + 64 ≤ length rec) × (k < length num) × (k < length pla)
   room-now l = let r = g .room .enough in let n = lengths in (omega arith, omega arith, omega arith)
 
+  -- and what counts it fits a word
+  pub fits : k < lines → length rec₀ < 2 ^ 64 → Fits w64 (64 * k) × Fits w64 (64 * k + 64) × Fits w64 (k + 1)
+  fits l h = let r = room-now l in let n = lengths in (omega arith, omega arith, omega arith)
+
+  pub not-past : (at ≡ length text → ⊥) → at < length text
+  not-past n = omega (arith, g .read .within)
+
   pub at-end : at ≡ length text → ReadText size digitTable size text rec₀ num₀ pla₀ rec num pla k at
   at-end e = record { read = g .read; stops = λ l a b c. let z : ⊥ = omega arith in z }
 
@@ -74,7 +83,7 @@ module _ {text rec₀ num₀ pla₀ : List ℕ} {lines : ℕ} {rec num pla : Lis
       let a = line-read size digitTable m h′ in
       rw (e .0, e .1, q)
       (record {
-        read = read-more size digitTable (omega arith) (g .read) (omega (arith, g .read .within)) (omega arith) b (a .line) (a .told) (a .lies) refl;
+        read = read-more size digitTable (omega arith) (g .read) (not-past n) (omega arith) b (a .line) (a .told) (a .lies) refl;
         room = g .room;
         below = omega arith;
       })

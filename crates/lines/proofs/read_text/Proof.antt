@@ -1,12 +1,16 @@
 -- `lines::read_text` meets its contract: the loop keeps what is read so far. Assumes nothing.
-use Prim.Native.Nat.{_+_, _*_, _-_, _^_, _<_}
+use Prim.Native.Nat.{_+_, _*_, _-_}
+use native.Mathlib.Nat.{le-add-right}
 use native.Mathlib.Omega.{arith}
+use mir.Syntax.{w64}
+use mir.Val.{Fits}
+use borrow.Author.Count.{falls}
 use borrow.Author.Needs.{needs}
 use lib.ListN.{length}
 use Rattle.code.specs.Limits.{size}
 use Rattle.lines.specs.Judged.{digitTable}
 use Rattle.lines.specs.Turns.{read-none}
-use Rattle.lines.proofs.Passing.{Going, lengths, room-now, at-end, no-room, going-more}
+use Rattle.lines.proofs.Passing.{Going, lengths, room-now, fits, not-past, at-end, no-room, going-more}
 use Rattle.lines.proofs.read_text.Statement.{statement}
 use Rattle.lines.proofs.read_text.Tie as tie
 
@@ -16,11 +20,8 @@ Inv-loop text records₀ numbers₀ places₀ lines k₀ at₀ records numbers p
 abbrev μ-loop : tie.MeasureT-loop
 μ-loop text records₀ numbers₀ places₀ lines k₀ at₀ records numbers places k at = lines - k
 
-fits : (c : tie.In-loop Inv-loop μ-loop) → 64 * c .before .loop .k + 64 < 2 ^ 64
-fits c =
-    let r = room-now (c .before .loop .inv) (c .loop-test .taken) in
-    let n = lengths (c .before .loop .inv) in
-    omega (arith, c .before .before .before .before .before .before .before .good)
+word : (c : tie.In-loop Inv-loop μ-loop) → Fits w64 (64 * c .before .loop .k) × Fits w64 (64 * c .before .loop .k + 64) × Fits w64 (c .before .loop .k + 1)
+word c = fits (c .before .loop .inv) (c .loop-test .taken) (c .before .before .before .before .before .before .before .good .1 .0 .0)
 
 note-requires : tie.Need-note-requires Inv-loop μ-loop
 note-requires c κs =
@@ -28,7 +29,7 @@ note-requires c κs =
     (r .1, r .2)
 
 behind-requires : tie.Need-behind-requires Inv-loop μ-loop
-behind-requires c κs = omega (arith, c .before .before .before .before .before .before .before .before .before .before .before .before .before .before .loop .inv .read .within, c .before .before .before .before .before .before .before .before .before .before .before .before .if1 .left)
+behind-requires c κs = not-past (c .before .before .before .before .before .before .before .before .before .before .before .before .before .before .loop .inv) (c .before .before .before .before .before .before .before .before .before .before .before .before .if1 .left)
 
 loop-again : tie.Need-loop-again Inv-loop μ-loop
 loop-again c =
@@ -49,17 +50,17 @@ read-text-spec =
     (λ c. c .before .before .loop .inv .read .within)
     (λ c. c .before .before .loop .inv .read .within)
     (λ c. search needs)
-    (λ c. let f = fits (c .before .before) in omega arith)
-    (λ c. let f = fits (c .before .before) in omega arith)
-    (λ c. let f = fits (c .before .before) in omega arith)
-    (λ c. omega arith)
-    (λ c. omega arith)
+    (λ c. word (c .before .before) .0)
+    (λ c. word (c .before .before) .0)
+    (λ c. word (c .before .before) .1)
+    (λ c. le-add-right (64 * c .before .before .before .loop .k) 64)
+    (λ c. le-add-right (64 * c .before .before .before .loop .k) 64)
     (λ c. room-now (c .before .before .before .loop .inv) (c .before .before .loop-test .taken) .0)
     (λ c κs. search needs)
     note-requires
     behind-requires
-    (λ c. let f = fits (c .before .before .before .before .before .before .before .before .before .before .before .before .before .before) in omega arith)
-    (λ c. omega arith)
+    (λ c. word (c .before .before .before .before .before .before .before .before .before .before .before .before .before .before) .2)
+    (λ c. falls _ _ (c .before .before .before .before .before .before .before .before .before .before .before .before .before .before .loop-test .taken))
     loop-again
     (λ c. lengths (c .before .loop .inv) .0)
     (λ c. lengths (c .before .loop .inv) .1)
