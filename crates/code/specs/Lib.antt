@@ -7,5 +7,7 @@ pub mod Ordered
 pub mod Parts
 pub mod Siblings
 pub mod Search
+pub mod Stack
+pub mod Right
 pub mod Compare
 pub mod Examples
