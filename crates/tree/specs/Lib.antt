@@ -16,4 +16,5 @@ pub mod General
 pub mod Base
 pub mod Theorems
 pub mod Ordered
+pub mod Accepted
 pub mod Examples

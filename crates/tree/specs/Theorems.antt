@@ -1,6 +1,6 @@
 -- The theorems of document 01's rooted codes, each under a plain sentence and proved by a name from elsewhere. `General` has them for
--- vertices with labels, and `Ordered` a test of a code on its digits alone. A section's first line names what its theorems speak of.
--- Assumes nothing.
+-- vertices with labels, `Ordered` a test of a code on its digits alone, and `Accepted` what the refusal table lets pass. A section's
+-- first line names what its theorems speak of. Assumes nothing.
 use mathlib.Core.Path.{_≡_, refl, ap, sym, _∙_}
 use mathlib.Core.Logic.{_↔_, Iff·trans}
 use mathlib.Core.List.{List, [], _++_, List·Permᴰ}
