@@ -69,7 +69,7 @@ module _ (N : ℕ) (E : List ℕ) where
       carries = subst (λ l. List·Permᴰ l (arcs G)) (map-map (carry (σ .to)) (carry (ρ .to)) (arcs E)) (List·Permᴰ·trans (Permᴰ·map (carry (σ .to)) (ρ .carries)) (σ .carries));
     }
 
-    one-to-one : (ρ : Renumbering N E F) (x y : ℕ) → (1 ≤ x) × (x ≤ N) → (1 ≤ y) × (y ≤ N) → ρ .to x ≡ ρ .to y → x ≡ y
+    pub one-to-one : (ρ : Renumbering N E F) (x y : ℕ) → (1 ≤ x) × (x ≤ N) → (1 ≤ y) × (y ≤ N) → ρ .to x ≡ ρ .to y → x ≡ y
     one-to-one ρ x y a b e = sym (ρ .from-to x (a .0) (a .1)) ∙ ap (ρ .from) e ∙ ρ .from-to y (b .0) (b .1)
 
     -- a tree, with the numbers that a renumbering gives
