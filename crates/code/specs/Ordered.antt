@@ -1,15 +1,15 @@
 -- Document 01, "Codes": "its children's codes, largest first in dictionary order", on the digits alone; and that it is this which row 13
 -- asks for. That digits which end and are so ordered are a rooted code is `code-ordered` of the crate `tree`. Assumes nothing.
-use mathlib.Core.Path.{_≡_, refl, sym, subst}
+use mathlib.Core.Path.{_≡_, refl}
 use mathlib.Core.Logic.{_↔_}
 use mathlib.Core.List.{List, [], _∷_, flatten}
-use Prim.Native.Nat.{ℕ, zero, suc, _+_, _-_, _≤_, _<_}
+use Prim.Native.Nat.{ℕ, zero, suc, _+_, _≤_, _<_}
 use native.Mathlib.Decide.{decLt}
 use native.Mathlib.Omega.{arith}
 use lib.ListN.{length, getD, take, drop, List·getD-eq-default}
 use Rattle.laws.specs.Order.{_≽_, dec≽, Falling}
 use Rattle.laws.specs.Sorting.{falling-iff}
-use Rattle.code.specs.Code.{codes, childCodes, LargerOf, Larger}
+use Rattle.code.specs.Code.{codes, childCodes, Larger}
 use Rattle.code.specs.Siblings.{child-codes}
 
 -- at no digit is a child's code larger than that of the sibling before it
