@@ -1,0 +1,170 @@
+#include "check.h"
+
+#include <inttypes.h>
+#include <stdio.h>
+#include <stdlib.h>
+#include <string.h>
+
+enum { guard = 32, most_lent = 300 };
+
+static uint64_t state, seed_of_run, cases;
+static const char *piece;
+
+uint64_t random64(void)
+{
+    uint64_t z = state += 0x9e3779b97f4a7c15u;
+    z = (z ^ (z >> 30)) * 0xbf58476d1ce4e5b9u;
+    z = (z ^ (z >> 27)) * 0x94d049bb133111ebu;
+    return z ^ (z >> 31);
+}
+
+uint64_t below(uint64_t bound)
+{
+    return random64() % bound;
+}
+
+int one_in(unsigned chances)
+{
+    return below(chances) == 0;
+}
+
+void begin_piece(const char *name, uint64_t seed)
+{
+    piece = name;
+    seed_of_run = state = seed;
+    for (; *name != '\0'; name++)
+        state = random64() + (uint8_t)*name;
+    cases = 0;
+}
+
+uint64_t cases_of_piece(void)
+{
+    return cases;
+}
+
+void count_case(void)
+{
+    cases++;
+}
+
+static void print_bytes(const char *what, const uint8_t *bytes, size_t len)
+{
+    printf("  %s, %zu bytes:", what, len);
+    for (size_t i = 0; i < len; i++)
+        printf(" %u", bytes[i]);
+    printf("\n");
+}
+
+_Noreturn void mismatch(const char *name, const struct input *in, const char *more,
+                        struct answer ours, struct answer theirs)
+{
+    printf("MISMATCH in zk_%s: piece %s, case %" PRIu64 ", seed %" PRIu64 "\n", name, piece, cases, seed_of_run);
+    printf("  n %" PRIu64 ", root %" PRIu64 ", value %" PRIu64 ", x %a\n", in->n, in->root, in->value, in->x);
+    print_bytes("input", in->bytes, in->len);
+    if (in->bytes2 != NULL) {
+        printf("  n of the second list %" PRIu64 "\n", in->n2);
+        print_bytes("second list", in->bytes2, in->len2);
+    }
+    printf("  %s\n", more);
+    printf("  ours   %u at %" PRIu64 "\n", ours.number, ours.place);
+    printf("  theirs %u at %" PRIu64 "\n", theirs.number, theirs.place);
+    exit(1);
+}
+
+void claim(int holds, const char *what)
+{
+    if (!holds) {
+        printf("the second program's own claim fails: %s\n", what);
+        exit(1);
+    }
+}
+
+void fill_pattern(void *memory, size_t bytes, uint64_t salt)
+{
+    uint8_t *byte = memory;
+    for (size_t i = 0; i < bytes; i++)
+        byte[i] = (uint8_t)(0x5a + salt + 37 * i);
+}
+
+static int equal(struct answer a, struct answer b)
+{
+    return a.number == b.number && a.place == b.place;
+}
+
+struct lent {
+    uint8_t byte[guard + most_lent + guard];
+};
+
+static void compare(const struct call *call, const struct input *in, size_t room,
+                    struct answer ours, const struct lent *wanted, struct answer theirs, const struct lent *got)
+{
+    char more[100];
+    snprintf(more, sizeof more, "output lent: %zu bytes", room);
+    if (!equal(ours, theirs))
+        mismatch(call->name, in, more, ours, theirs);
+    for (size_t i = 0; i < sizeof wanted->byte; i++)
+        if (wanted->byte[i] != got->byte[i]) {
+            snprintf(more, sizeof more, "output lent: %zu bytes; byte %d is %u in ours, %u in theirs", room,
+                     (int)i - guard, wanted->byte[i], got->byte[i]);
+            mismatch(call->name, in, more, ours, theirs);
+        }
+}
+
+/* One number, or nothing: both begin with the same bytes in memory. */
+static struct answer check_value(const struct call *call, const struct input *in, size_t room)
+{
+    static uint64_t salt;
+    struct lent wanted, got;
+    fill_pattern(&wanted, sizeof wanted, ++salt);
+    got = wanted;
+    struct answer ours = call->ours(in, wanted.byte + guard, room);
+    struct answer theirs = call->theirs(in, got.byte + guard, room);
+    compare(call, in, room, ours, &wanted, theirs, &got);
+    return ours;
+}
+
+/* What must be in the lent output follows from the result and the room: all of the pattern, or the
+ * result and behind it the pattern. */
+static void check_room(const struct call *call, const struct input *in, size_t room,
+                       struct answer ample, const uint8_t *result)
+{
+    static uint64_t salt;
+    struct lent wanted, got;
+    fill_pattern(&wanted, sizeof wanted, ++salt);
+    got = wanted;
+    struct answer ours = ample;
+    if (ample.number == 0 && room < ample.place)
+        ours = (struct answer){15, ample.place};
+    else if (ample.number == 0)
+        memcpy(wanted.byte + guard, result, ample.place);
+    struct answer theirs = call->theirs(in, got.byte + guard, room);
+    compare(call, in, room, ours, &wanted, theirs, &got);
+}
+
+struct answer check(const struct call *call, struct input in)
+{
+    static const uint8_t nothing[1];
+    if (in.bytes == NULL)
+        in.bytes = nothing;
+    count_case();
+    if (call->output == no_output)
+        return check_value(call, &in, 0);
+    if (call->output == one_value)
+        return check_value(call, &in, sizeof(uint64_t));
+
+    uint8_t result[most_lent];
+    struct answer ample = call->ours(&in, result, sizeof result);
+    if (ample.number != 0) {
+        check_room(call, &in, 0, ample, result);
+        check_room(call, &in, below(most_lent + 1), ample, result);
+        return ample;
+    }
+    size_t needed = ample.place;
+    if (needed > 0) {
+        check_room(call, &in, needed - 1, ample, result);
+        check_room(call, &in, one_in(4) ? 0 : below(needed), ample, result);
+    }
+    check_room(call, &in, needed, ample, result);
+    check_room(call, &in, needed + 1 + below(most_lent - needed), ample, result);
+    return ample;
+}

@@ -1,0 +1,66 @@
+/* Comparing the library with the oracle: one case, its lent outputs, the counting, the random numbers. */
+#ifndef CHECK_H
+#define CHECK_H
+
+#include <stddef.h>
+#include <stdint.h>
+
+#include "oracle.h"
+#include "zurkhovel.h"
+
+/* ---- Random numbers: splitmix64, from a seed that is printed ---- */
+
+uint64_t random64(void);
+uint64_t below(uint64_t bound); /* 0 to bound-1; bound is not 0 */
+int one_in(unsigned chances);
+
+/* ---- Pieces: each begins with its own random numbers, so that it can be run alone ---- */
+
+void begin_piece(const char *name, uint64_t seed);
+uint64_t cases_of_piece(void);
+void count_case(void);
+
+/* ---- One case ---- */
+
+/* What a call is given; each uses its own part. */
+struct input {
+    uint64_t n;
+    const uint8_t *bytes;
+    size_t len;
+    uint64_t root;
+    uint64_t value;
+    double x;
+    uint64_t n2;
+    const uint8_t *bytes2;
+    size_t len2;
+};
+
+enum output {
+    lent_bytes, /* a lent output of any length */
+    one_value,  /* eight bytes for one number */
+    no_output
+};
+
+typedef struct answer calling(const struct input *in, uint8_t *out, size_t room);
+
+struct call {
+    const char *name;
+    enum output output;
+    calling *ours, *theirs;
+};
+
+/* Makes both answer, with the output lent too short, exactly and too long; ends the program when an
+ * answer or any byte of the lent output or around it differs. Returns our answer to an ample output. */
+struct answer check(const struct call *call, struct input in);
+
+/* For calls that fit no `struct call`: prints both answers and ends the program. */
+_Noreturn void mismatch(const char *name, const struct input *in, const char *more,
+                        struct answer ours, struct answer theirs);
+
+/* Fills memory with bytes that differ from one call to the next. */
+void fill_pattern(void *memory, size_t bytes, uint64_t salt);
+
+/* Where our own claim about the inputs fails: ends the program. */
+void claim(int holds, const char *what);
+
+#endif
