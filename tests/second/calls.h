@@ -23,7 +23,8 @@
         unsigned number = THEIRS; \
         return (struct answer){number, place}; \
     } \
-    static const struct call call_##NAME = {#NAME, OUTPUT, ours_##NAME, theirs_##NAME}
+    static uint64_t met_##NAME[numbers]; \
+    static const struct call call_##NAME = {#NAME, OUTPUT, ours_##NAME, theirs_##NAME, met_##NAME}
 
 /* Bytes to a lent output: codes, packed codes, lines. */
 #define CALL_BYTES(NAME) \
@@ -64,6 +65,7 @@
         memcpy(out, &value, room); \
         return (struct answer){number, place}; \
     } \
-    static const struct call call_##NAME = {#NAME, one_value, ours_##NAME, theirs_##NAME}
+    static uint64_t met_##NAME[numbers]; \
+    static const struct call call_##NAME = {#NAME, one_value, ours_##NAME, theirs_##NAME, met_##NAME}
 
 #endif

@@ -79,6 +79,23 @@ void claim(int holds, const char *what)
     }
 }
 
+void claim_met(const struct call *call, const unsigned *wanted, size_t count)
+{
+    char listed[300] = "";
+    size_t used = 0, next = 0;
+    for (unsigned number = 0; number < numbers; number++) {
+        int is_wanted = next < count && wanted[next] == number;
+        next += is_wanted;
+        if (call->met[number] > 0)
+            used += (size_t)snprintf(listed + used, sizeof listed - used, " %u:%" PRIu64, number, call->met[number]);
+        if (is_wanted != (call->met[number] > 0)) {
+            printf("  %-14s%s\n", call->name, listed);
+            claim(0, "the cases meet every refusal of the call, and no other");
+        }
+    }
+    printf("  %-14s%s\n", call->name, listed);
+}
+
 void fill_pattern(void *memory, size_t bytes, uint64_t salt)
 {
     uint8_t *byte = memory;
@@ -102,6 +119,7 @@ static void compare(const struct call *call, const struct input *in, size_t room
     snprintf(more, sizeof more, "output lent: %zu bytes", room);
     if (!equal(ours, theirs))
         mismatch(call->name, in, more, ours, theirs);
+    call->met[ours.number]++;
     for (size_t i = 0; i < sizeof wanted->byte; i++)
         if (wanted->byte[i] != got->byte[i]) {
             snprintf(more, sizeof more, "output lent: %zu bytes; byte %d is %u in ours, %u in theirs", room,

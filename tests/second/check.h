@@ -43,15 +43,25 @@ enum output {
 
 typedef struct answer calling(const struct input *in, uint8_t *out, size_t room);
 
+enum { numbers = 16 };
+
 struct call {
     const char *name;
     enum output output;
     calling *ours, *theirs;
+    uint64_t *met; /* how often each number was answered */
 };
 
 /* Makes both answer, with the output lent too short, exactly and too long; ends the program when an
  * answer or any byte of the lent output or around it differs. Returns our answer to an ample output. */
 struct answer check(const struct call *call, struct input in);
+
+/* That the cases met all these numbers, 0 among them, and no other: a piece ends with this for each of its
+ * calls, so that no refusal goes untried. */
+void claim_met(const struct call *call, const unsigned *wanted, size_t count);
+#define CLAIM_MET(NAME, ...) \
+    claim_met(&call_##NAME, (const unsigned[]){__VA_ARGS__}, \
+              sizeof((const unsigned[]){__VA_ARGS__}) / sizeof(unsigned))
 
 /* For calls that fit no `struct call`: prints both answers and ends the program. */
 _Noreturn void mismatch(const char *name, const struct input *in, const char *more,

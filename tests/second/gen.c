@@ -193,6 +193,27 @@ struct bytes random_code(unsigned n)
     return rooted_code_of(&list, 1 + below(n));
 }
 
+static void write_unsorted(const struct list *list, unsigned vertex, unsigned parent, struct bytes *code)
+{
+    size_t digit = code->len++;
+    code->byte[digit] = 0;
+    for (size_t i = 0; i < list->len; i++) {
+        unsigned other = list->ends[i ^ 1];
+        if (list->ends[i] == vertex && other != parent) {
+            code->byte[digit]++;
+            write_unsorted(list, other, vertex, code);
+        }
+    }
+}
+
+struct bytes unsorted_code(unsigned n)
+{
+    struct list list = random_tree(n);
+    struct bytes code = {.len = 0};
+    write_unsorted(&list, 1 + (unsigned)below(n), 0, &code);
+    return code;
+}
+
 /* ---- Damage ---- */
 
 static void remove_at(uint8_t *bytes, size_t *len, size_t at, size_t count)
@@ -258,10 +279,32 @@ static void crowd(struct list *list)
     }
 }
 
+void overfill(struct list *list)
+{
+    unsigned degree[256] = {0}, fullest = 0;
+    for (size_t i = 0; i < list->len; i++)
+        degree[list->ends[i]]++;
+    for (unsigned v = 1; v < 256; v++)
+        if (degree[v] > degree[fullest])
+            fullest = v;
+    unsigned wanted = neighbours + 1 + (unsigned)below(2);
+    for (size_t i = 0; i < (list->len & ~(size_t)1) && degree[fullest] < wanted;) {
+        uint8_t *other = &list->ends[i ^ 1];
+        if (degree[list->ends[i]] == 1 && *other != fullest) {
+            degree[*other]--;
+            degree[fullest]++;
+            *other = (uint8_t)fullest;
+            i = 0;
+        } else {
+            i++;
+        }
+    }
+}
+
 void damage_list(struct list *list)
 {
     size_t edges = list->len / 2;
-    unsigned kind = (unsigned)below(12);
+    unsigned kind = (unsigned)below(13);
     if (kind == 0 || edges == 0) {
         list->n = some_wrong_n(list->n);
         return;
@@ -300,6 +343,9 @@ void damage_list(struct list *list)
         break;
     case 10:
         crowd(list);
+        break;
+    case 11:
+        overfill(list);
         break;
     default:
         here[below(2)] = list->ends[below(list->len)];

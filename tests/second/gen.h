@@ -53,4 +53,10 @@ struct bytes centred_code_of(const struct list *list);
 struct bytes random_code(unsigned n);
 void damage_bytes(struct bytes *bytes, unsigned usual_bound);
 
+/* The same with children in any order: ended where it should, but mostly refused 13. */
+struct bytes unsorted_code(unsigned n);
+
+/* Moves leaves to the fullest vertex until it has five neighbours or more: refused 9 where it can be. */
+void overfill(struct list *list);
+
 #endif

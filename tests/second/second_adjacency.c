@@ -216,4 +216,13 @@ void piece_adjacency(void)
     numbers_a0();
     cams();
     limits();
+    CLAIM_MET(cam, 0, 3, 5, 6, 7, 8, 9, 14, 15);
+    CLAIM_MET(cam_by_code, 0, 3, 5, 6, 7, 8, 9, 15);
+    CLAIM_MET(uncam, 0, 3, 5, 6, 9, 15);
+    CLAIM_MET(0a, 0, 3, 5, 6, 7, 8, 9, 14);
+    CLAIM_MET(0a_by_code, 0, 3, 5, 6, 7, 8, 9);
+    CLAIM_MET(un0a, 0, 3, 4, 9, 15);
+    CLAIM_MET(a0, 0, 3, 5, 6, 7, 8, 9);
+    CLAIM_MET(a0_by_code, 0, 3, 5, 6, 7, 8, 9);
+    CLAIM_MET(una0, 0, 3, 4, 5, 8, 9, 15);
 }

@@ -208,33 +208,64 @@ static void special_fractions(void)
     }
 }
 
-/* Digits 3 1 3 1 ... and the like fill 53 and 128 bits without an end: 12, and 10 at a cut-off run. */
+/* ---- Bits made from digits, as bytes 0 and 1 ---- */
+
+static void put_digit(struct bytes *bits, unsigned digit)
+{
+    for (unsigned k = 0; k < digit; k++)
+        bits->byte[bits->len++] = 1;
+    bits->byte[bits->len++] = 0;
+}
+
+/* The first bits of these as each form that can carry so many. */
+static void check_bits(const struct bytes *bits, size_t count)
+{
+    struct bytes packed = {.len = (count + 7) / 8};
+    uint64_t value = 0;
+    for (size_t i = 0; i < count; i++) {
+        packed.byte[i / 8] |= (uint8_t)(bits->byte[i] << (7 - i % 8));
+        value = 2 * value + bits->byte[i];
+    }
+    check_packed(&packed);
+    if (count % 2 == 1 && count <= 63)
+        check_whole((count + 1) / 2, value);
+    if (count <= 53)
+        check_fraction(ldexp((double)value, -(int)count));
+}
+
+/* Trees with their children in any order. */
+static void unsorted(void)
+{
+    for (unsigned n = 1; n <= 64; n++)
+        for (unsigned round = 0; round < 60; round++) {
+            struct bytes code = unsorted_code(n), bits = {.len = 0};
+            for (size_t i = 0; i < code.len; i++)
+                put_digit(&bits, code.byte[i]);
+            check_bits(&bits, bits.len);
+        }
+}
+
+/* Digits from 1 up, mostly within their caps, cut off anywhere: 12, and 10 where a cut-off run is long. */
 static void never_ended(void)
 {
-    const uint64_t patterns[] = {0xeeeeeeeeeeeeeeee, 0xedb6db6db6db6db6, 0xaaaaaaaaaaaaaaaa, 0xdddddddddddddddd,
-                                 0xf777777777777777, 0xfbbbbbbbbbbbbbbb, 0xe666666666666666, 0xffffffffffffffff};
-    for (size_t p = 0; p < sizeof patterns / sizeof *patterns; p++)
-        for (unsigned ones = 0; ones < 64; ones++) {
-            uint64_t bits = patterns[p] | (ones == 0 ? 0 : ((uint64_t)1 << ones) - 1);
-            for (unsigned cut = 0; cut < 64; cut++) {
-                uint64_t kept = bits >> cut;
-                unsigned length = 64 - cut;
-                if (length % 2 == 1)
-                    check_whole((length + 1) / 2, kept);
-                if (length == 53)
-                    check_fraction(ldexp((double)kept, -53));
-            }
-            struct bytes packed = {.len = 16};
-            for (unsigned i = 0; i < 8; i++) {
-                packed.byte[i] = (uint8_t)(patterns[p] >> (56 - 8 * i));
-                packed.byte[8 + i] = (uint8_t)(bits >> (56 - 8 * i));
-            }
-            check_packed(&packed);
-            packed.len = 8;
-            check_packed(&packed);
-            memcpy(packed.byte, packed.byte + 8, 8);
-            check_packed(&packed);
-        }
+    for (unsigned round = 0; round < 6000; round++) {
+        struct bytes bits = {.len = 0};
+        unsigned most = 1 + (unsigned)below(3);
+        put_digit(&bits, 1 + (unsigned)below(4));
+        while (bits.len < 130)
+            put_digit(&bits, one_in(60) ? 4 + (unsigned)below(9) : 1 + (unsigned)below(most));
+        check_bits(&bits, 128);
+        check_bits(&bits, 53);
+        check_bits(&bits, 1 + 2 * below(32));
+        check_bits(&bits, 8 * (1 + below(16)));
+        size_t cut = 1 + below(120);
+        for (size_t i = 0; i < 5 + below(2); i++)
+            bits.byte[cut + i] = 1;
+        check_bits(&bits, cut + 1 + below(6));
+        for (size_t i = 50; i < 53; i++)
+            bits.byte[i] = 1;
+        check_bits(&bits, 53);
+    }
 }
 
 void piece_bits(void)
@@ -245,5 +276,12 @@ void piece_bits(void)
     random_and_damaged();
     fraction_grid();
     special_fractions();
+    unsorted();
     never_ended();
+    CLAIM_MET(pack, 0, 3, 5, 6, 7, 8, 9, 15);
+    CLAIM_MET(unpack, 0, 3, 10, 11, 12, 13, 15);
+    CLAIM_MET(whole, 0, 3, 5, 6, 7, 8, 9);
+    CLAIM_MET(unwhole, 0, 3, 4, 10, 11, 12, 13, 15);
+    CLAIM_MET(fraction, 0, 3, 5, 6, 7, 8, 9);
+    CLAIM_MET(unfraction, 0, 4, 10, 11, 12, 13, 15);
 }

@@ -62,6 +62,16 @@ static void moved_digits(void)
     }
 }
 
+/* Siblings out of order, anywhere in codes of every size. */
+static void unsorted(void)
+{
+    for (unsigned n = 1; n <= 64; n++)
+        for (unsigned round = 0; round < 150; round++) {
+            struct bytes code = unsorted_code(n);
+            check_both(&code);
+        }
+}
+
 /* Codes of a length at a limit: a right one lengthened or cut, and bytes of any value. */
 static void lengths(void)
 {
@@ -112,6 +122,10 @@ void piece_code(void)
     short_strings();
     right_and_damaged();
     moved_digits();
+    unsorted();
     lengths();
     comparer();
+    CLAIM_MET(compare, 0, 1, 2);
+    CLAIM_MET(check_code, 0, 3, 10, 11, 12, 13);
+    CLAIM_MET(decode_code, 0, 3, 10, 11, 12, 13, 15);
 }

@@ -47,6 +47,18 @@ static void damaged(void)
     }
 }
 
+/* A fifth neighbour and nothing else, in trees of every size. */
+static void overfilled(void)
+{
+    for (unsigned n = 6; n <= 64; n++)
+        for (unsigned round = 0; round < 60; round++) {
+            struct list list = random_tree(n);
+            overfill(&list);
+            shuffle(&list);
+            claim(check_both(&list, 1 + below(n)).number == 9, "five neighbours are refused 9");
+        }
+}
+
 /* Any bytes at all, of the right length for N or nearly. */
 static void any_bytes(void)
 {
@@ -105,7 +117,10 @@ void piece_edges(void)
     labelled();
     right();
     damaged();
+    overfilled();
     any_bytes();
     every_end();
     limits();
+    CLAIM_MET(check_edges, 0, 3, 5, 6, 7, 8, 9);
+    CLAIM_MET(rooted_code, 0, 3, 5, 6, 7, 8, 9, 15);
 }

@@ -156,4 +156,9 @@ void piece_form(void)
     long_and_wide();
     two_centred();
     verdicts();
+    CLAIM_MET(n_tuple_code, 0, 3, 5, 6, 7, 8, 9, 15);
+    CLAIM_MET(centred_code, 0, 3, 5, 6, 7, 8, 9, 15);
+    CLAIM_MET(decode_n_tuple, 0, 3, 10, 11, 12, 13, 14, 15);
+    CLAIM_MET(decode_centred, 0, 3, 10, 11, 12, 13, 14, 15);
+    CLAIM_MET(same, 0, 3, 5, 6, 7, 8, 9);
 }

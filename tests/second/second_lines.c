@@ -163,7 +163,7 @@ static void written(void)
             claim(check_line(&text).number == 0, "a written line is read");
             damage_list(&list);
             check(&call_write_line, (struct input){.n = list.n, .bytes = list.ends, .len = list.len});
-            struct bytes code = random_code(n);
+            struct bytes code = one_in(2) ? random_code(n) : unsorted_code(n);
             if (one_in(2))
                 damage_bytes(&code, 5);
             text.len = (size_t)snprintf((char *)text.byte, 8, "%u ", one_in(4) ? (unsigned)below(120) : (unsigned)code.len);
@@ -324,4 +324,6 @@ void piece_lines(void)
     single_changes();
     larger_damage();
     long_texts();
+    CLAIM_MET(read_line, 0, 1, 2, 3, 5, 10, 11, 12, 13, 14, 15);
+    CLAIM_MET(write_line, 0, 3, 5, 6, 7, 8, 9, 15);
 }

@@ -45,4 +45,5 @@ void piece_vertices(void)
 {
     small_skeletons();
     larger();
+    CLAIM_MET(classes, 0, 3, 5, 6, 7, 8, 9, 15);
 }
