@@ -33,8 +33,7 @@ struct list star_of_stars(unsigned n); /* every vertex filled to four neighbours
 void add_edge(struct list *list, unsigned u, unsigned v);
 void renumber(struct list *list);
 void shuffle(struct list *list); /* order of edges and of ends */
-void damage_list(struct list *list);
-uint64_t some_root(const struct list *list, unsigned wrong_one_in);
+void swap_bytes(uint8_t *a, uint8_t *b);
 
 /* How many labelled trees of n vertices there are, and the one of an index: n^(n-2), by Pruefer's
  * sequences. Degrees are not limited. */
@@ -51,12 +50,24 @@ struct bytes centred_code_of(const struct list *list);
 
 /* A right rooted code of a random tree at a random root. */
 struct bytes random_code(unsigned n);
-void damage_bytes(struct bytes *bytes, unsigned usual_bound);
 
 /* The same with children in any order: ended where it should, but mostly refused 13. */
 struct bytes unsorted_code(unsigned n);
 
+int same_bytes(const struct bytes *a, const struct bytes *b);
+
+/* ---- Damage ---- */
+
+/* One change to bytes: most new values are below a bound. */
+void damage_bytes(struct bytes *bytes, unsigned usual_bound);
+
+/* One change to a list, of any kind that a row of the refusal table speaks of. */
+void damage_list(struct list *list);
+
 /* Moves leaves to the fullest vertex until it has five neighbours or more: refused 9 where it can be. */
 void overfill(struct list *list);
+
+/* A vertex of the list, or once in so many times something else. */
+uint64_t some_root(const struct list *list, unsigned wrong_one_in);
 
 #endif
