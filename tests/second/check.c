@@ -1,6 +1,7 @@
 #include "check.h"
 
 #include <inttypes.h>
+#include <signal.h>
 #include <stdio.h>
 #include <stdlib.h>
 #include <string.h>
@@ -9,6 +10,10 @@ enum { guard = 32, most_lent = 300 };
 
 static uint64_t state, seed_of_run, cases;
 static const char *piece;
+
+/* The case under way, for a report when a call crashes. */
+static const char *name_now = "";
+static struct input input_now;
 
 uint64_t random64(void)
 {
@@ -28,8 +33,27 @@ int one_in(unsigned chances)
     return below(chances) == 0;
 }
 
+static void crashed(int signal)
+{
+    struct answer none = {0, 0};
+    char more[60];
+    snprintf(more, sizeof more, "the call crashed with signal %d; no answers", signal);
+    mismatch(name_now, &input_now, more, none, none);
+}
+
+void begin_case(const char *name, const struct input *in)
+{
+    name_now = name;
+    input_now = *in;
+    cases++;
+}
+
 void begin_piece(const char *name, uint64_t seed)
 {
+    signal(SIGSEGV, crashed);
+    signal(SIGILL, crashed);
+    signal(SIGFPE, crashed);
+    signal(SIGBUS, crashed);
     piece = name;
     seed_of_run = state = seed;
     for (; *name != '\0'; name++)
@@ -40,11 +64,6 @@ void begin_piece(const char *name, uint64_t seed)
 uint64_t cases_of_piece(void)
 {
     return cases;
-}
-
-void count_case(void)
-{
-    cases++;
 }
 
 static void print_bytes(const char *what, const uint8_t *bytes, size_t len)
@@ -164,7 +183,7 @@ struct answer check(const struct call *call, struct input in)
     static const uint8_t nothing[1];
     if (in.bytes == NULL)
         in.bytes = nothing;
-    count_case();
+    begin_case(call->name, &in);
     if (call->output == no_output)
         return check_value(call, &in, 0);
     if (call->output == one_value)

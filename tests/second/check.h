@@ -18,7 +18,6 @@ int one_in(unsigned chances);
 
 void begin_piece(const char *name, uint64_t seed);
 uint64_t cases_of_piece(void);
-void count_case(void);
 
 /* ---- One case ---- */
 
@@ -63,7 +62,9 @@ void claim_met(const struct call *call, const unsigned *wanted, size_t count);
     claim_met(&call_##NAME, (const unsigned[]){__VA_ARGS__}, \
               sizeof((const unsigned[]){__VA_ARGS__}) / sizeof(unsigned))
 
-/* For calls that fit no `struct call`: prints both answers and ends the program. */
+/* For calls that fit no `struct call`: counts a case and keeps its input in mind; prints both answers and
+ * ends the program. */
+void begin_case(const char *name, const struct input *in);
 _Noreturn void mismatch(const char *name, const struct input *in, const char *more,
                         struct answer ours, struct answer theirs);
 

@@ -26,17 +26,45 @@ static void check_list(const struct list *list)
 
 static struct answer check_cam(uint64_t n, const struct bytes *cam)
 {
-    return check(&call_uncam, (struct input){.n = n, .bytes = cam->byte, .len = cam->len});
+    struct answer answer = check(&call_uncam, (struct input){.n = n, .bytes = cam->byte, .len = cam->len});
+    if (answer.number == 0) {
+        struct list list = {.n = n, .len = answer.place};
+        struct bytes again;
+        oracle_uncam(n, cam->byte, cam->len, list.ends, sizeof list.ends);
+        check(&call_cam, (struct input){.n = n, .bytes = list.ends, .len = list.len});
+        again.len = oracle_cam(n, list.ends, list.len, again.byte, sizeof again.byte).place;
+        claim(same_bytes(cam, &again), "a CAM is given again");
+    }
+    return answer;
+}
+
+typedef struct answer reading_number(uint64_t n, uint64_t value, uint8_t *out, size_t room);
+typedef struct answer coding_number(uint64_t n, const uint8_t *edges, size_t len, uint64_t *value);
+
+/* A number that is read is given again by its edges, in their own numbering. */
+static struct answer check_number(const struct call *reads, reading_number *read, const struct call *codes,
+                                  coding_number *code, uint64_t n, uint64_t value)
+{
+    struct answer answer = check(reads, (struct input){.n = n, .value = value});
+    if (answer.number == 0) {
+        struct list list = {.n = n, .len = answer.place};
+        uint64_t again = ~value;
+        read(n, value, list.ends, sizeof list.ends);
+        check(codes, (struct input){.n = n, .bytes = list.ends, .len = list.len});
+        code(n, list.ends, list.len, &again);
+        claim(again == value, "a number is given again");
+    }
+    return answer;
 }
 
 static struct answer check_0a(uint64_t n, uint64_t value)
 {
-    return check(&call_un0a, (struct input){.n = n, .value = value});
+    return check_number(&call_un0a, oracle_un0a, &call_0a, oracle_0a, n, value);
 }
 
 static struct answer check_a0(uint64_t n, uint64_t value)
 {
-    return check(&call_una0, (struct input){.n = n, .value = value});
+    return check_number(&call_una0, oracle_una0, &call_a0, oracle_a0, n, value);
 }
 
 /* The numbers and the CAM of a right list are read back, then with a little damage. */

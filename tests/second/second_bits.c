@@ -12,19 +12,54 @@ CALL_NUMBER(unwhole);
 CALL_VALUE(fraction, double, in->n, in->bytes, in->len, in->root);
 CALL(unfraction, lent_bytes, oracle_unfraction(in->x, out, room), zk_unfraction(in->x, out, room, &place));
 
+/* The edges that one of our own readings gives, for coding at vertex 1 again. */
+static struct input at_1(struct list *list, size_t length)
+{
+    list->len = length;
+    list->n = length / 2 + 1;
+    return (struct input){.n = list->n, .bytes = list->ends, .len = list->len, .root = 1};
+}
+
 static struct answer check_packed(const struct bytes *packed)
 {
-    return check(&call_unpack, (struct input){.bytes = packed->byte, .len = packed->len});
+    struct answer answer = check(&call_unpack, (struct input){.bytes = packed->byte, .len = packed->len});
+    if (answer.number == 0) {
+        struct list list;
+        struct bytes again;
+        struct input in = at_1(&list, oracle_unpack(packed->byte, packed->len, list.ends, sizeof list.ends).place);
+        check(&call_pack, in);
+        again.len = oracle_pack(in.n, in.bytes, in.len, 1, again.byte, sizeof again.byte).place;
+        claim(same_bytes(packed, &again), "a packed form is given again");
+    }
+    return answer;
 }
 
 static struct answer check_whole(uint64_t n, uint64_t value)
 {
-    return check(&call_unwhole, (struct input){.n = n, .value = value});
+    struct answer answer = check(&call_unwhole, (struct input){.n = n, .value = value});
+    if (answer.number == 0) {
+        struct list list;
+        uint64_t again = ~value;
+        struct input in = at_1(&list, oracle_unwhole(n, value, list.ends, sizeof list.ends).place);
+        check(&call_whole, in);
+        oracle_whole(in.n, in.bytes, in.len, 1, &again);
+        claim(in.n == n && again == value, "a whole number is given again");
+    }
+    return answer;
 }
 
 static struct answer check_fraction(double x)
 {
-    return check(&call_unfraction, (struct input){.x = x});
+    struct answer answer = check(&call_unfraction, (struct input){.x = x});
+    if (answer.number == 0) {
+        struct list list;
+        double again = -1;
+        struct input in = at_1(&list, oracle_unfraction(x, list.ends, sizeof list.ends).place);
+        check(&call_fraction, in);
+        oracle_fraction(in.n, in.bytes, in.len, 1, &again);
+        claim(memcmp(&again, &x, sizeof x) == 0, "a fraction is given again, to the bit");
+    }
+    return answer;
 }
 
 static void check_list(const struct list *list, uint64_t root)

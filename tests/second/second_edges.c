@@ -33,6 +33,11 @@ static void right(void)
             struct list list = random_tree(n);
             claim(check_both(&list, 1 + below(n)).number == 0, "a random tree is right");
             check_both(&list, some_root(&list, 4));
+            struct bytes code = rooted_code_of(&list, 1 + below(n));
+            struct list back = list_of_code(&code);
+            check_both(&back, 1);
+            struct bytes again = rooted_code_of(&back, 1);
+            claim(same_bytes(&code, &again), "decoding and coding at vertex 1 gives the code again");
         }
 }
 

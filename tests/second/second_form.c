@@ -16,11 +16,24 @@ static void check_list(const struct list *list)
     check(&call_centred_code, in);
 }
 
-static void check_code(const struct bytes *code)
+/* A code that is read is given again by the edges that it is read into. */
+static void check_back(const struct call *reads, const struct call *codes, const struct bytes *code)
 {
     struct input in = {.bytes = code->byte, .len = code->len};
-    check(&call_decode_n_tuple, in);
-    check(&call_decode_centred, in);
+    if (check(reads, in).number != 0)
+        return;
+    struct list list = list_of_code(code);
+    struct input back = {.n = list.n, .bytes = list.ends, .len = list.len};
+    check(codes, back);
+    struct bytes again;
+    again.len = codes->ours(&back, again.byte, sizeof again.byte).place;
+    claim(same_bytes(code, &again), "decoding and coding gives the code again");
+}
+
+static void check_code(const struct bytes *code)
+{
+    check_back(&call_decode_n_tuple, &call_n_tuple_code, code);
+    check_back(&call_decode_centred, &call_centred_code, code);
 }
 
 static struct answer check_same(const struct list *a, const struct list *b)

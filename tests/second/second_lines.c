@@ -10,9 +10,24 @@
 CALL_BYTES(read_line);
 CALL_LIST(write_line);
 
+/* A line that is read is written again by the edges of its digits. */
+static void check_written_again(const struct text *text)
+{
+    struct bytes code, again;
+    code.len = oracle_read_line(text->byte, text->len, code.byte, sizeof code.byte).place;
+    struct list list = list_of_code(&code);
+    struct input in = {.n = list.n, .bytes = list.ends, .len = list.len};
+    check(&call_write_line, in);
+    again.len = oracle_write_line(list.n, list.ends, list.len, again.byte, sizeof again.byte).place;
+    claim(again.len <= text->len && memcmp(again.byte, text->byte, again.len) == 0, "a line is written again");
+}
+
 static struct answer check_line(const struct text *text)
 {
-    return check(&call_read_line, (struct input){.bytes = text->byte, .len = text->len});
+    struct answer answer = check(&call_read_line, (struct input){.bytes = text->byte, .len = text->len});
+    if (answer.number == 0)
+        check_written_again(text);
+    return answer;
 }
 
 static struct text text_of(const char *written)

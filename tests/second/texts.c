@@ -37,7 +37,8 @@ static void check_room(const struct text *text, struct room room, struct reading
 {
     static struct reading ours;
     static uint64_t salt;
-    count_case();
+    struct input in = {.bytes = text->byte, .len = text->len};
+    begin_case("read_text", &in);
     fill(&ours, room, ++salt);
     fill(theirs, room, salt);
     oracle_read_text(text->byte, text->len, ours.records, room.records, ours.numbers, room.numbers, ours.places,
@@ -54,7 +55,7 @@ static void check_room(const struct text *text, struct room room, struct reading
     snprintf(more, sizeof more,
              "lent %zu, %zu, %zu; below are lines and at; numbers or places differ first in line %zu",
              room.records, room.numbers, room.places, line + 1);
-    mismatch("read_text", &(struct input){.bytes = text->byte, .len = text->len}, more,
+    mismatch("read_text", &in, more,
              (struct answer){(unsigned)ours.lines, ours.at}, (struct answer){(unsigned)theirs->lines, theirs->at});
 }
 
