@@ -11,9 +11,11 @@ enum { guard = 32, most_lent = 300 };
 static uint64_t state, seed_of_run, cases;
 static const char *piece;
 
-/* The case under way, for a report when a call crashes. */
+/* The case under way, with its bytes kept: for a report when a call crashes or a claim fails. */
+enum { most_input = 4096 };
 static const char *name_now = "";
 static struct input input_now;
+static uint8_t kept[most_input], kept2[most_input];
 
 uint64_t random64(void)
 {
@@ -43,9 +45,13 @@ static void crashed(int signal)
 
 void begin_case(const char *name, const struct input *in)
 {
+    cases++;
     name_now = name;
     input_now = *in;
-    cases++;
+    input_now.len = in->len < most_input ? in->len : most_input;
+    input_now.bytes = memcpy(kept, in->bytes, input_now.len);
+    if (in->bytes2 != NULL)
+        input_now.bytes2 = memcpy(kept2, in->bytes2, in->len2);
 }
 
 void begin_piece(const char *name, uint64_t seed)
@@ -74,16 +80,26 @@ static void print_bytes(const char *what, const uint8_t *bytes, size_t len)
     printf("\n");
 }
 
-_Noreturn void mismatch(const char *name, const struct input *in, const char *more,
-                        struct answer ours, struct answer theirs)
+static void print_input(const struct input *in)
 {
-    printf("MISMATCH in zk_%s: piece %s, case %" PRIu64 ", seed %" PRIu64 "\n", name, piece, cases, seed_of_run);
     printf("  n %" PRIu64 ", root %" PRIu64 ", value %" PRIu64 ", x %a\n", in->n, in->root, in->value, in->x);
     print_bytes("input", in->bytes, in->len);
     if (in->bytes2 != NULL) {
         printf("  n of the second list %" PRIu64 "\n", in->n2);
         print_bytes("second list", in->bytes2, in->len2);
     }
+}
+
+static void print_head(const char *what, const char *name)
+{
+    printf("%s in zk_%s: piece %s, case %" PRIu64 ", seed %" PRIu64 "\n", what, name, piece, cases, seed_of_run);
+}
+
+_Noreturn void mismatch(const char *name, const struct input *in, const char *more,
+                        struct answer ours, struct answer theirs)
+{
+    print_head("MISMATCH", name);
+    print_input(in);
     printf("  %s\n", more);
     printf("  ours   %u at %" PRIu64 "\n", ours.number, ours.place);
     printf("  theirs %u at %" PRIu64 "\n", theirs.number, theirs.place);
@@ -93,7 +109,9 @@ _Noreturn void mismatch(const char *name, const struct input *in, const char *mo
 void claim(int holds, const char *what)
 {
     if (!holds) {
-        printf("the second program's own claim fails: %s\n", what);
+        print_head("A CLAIM FAILS, though both agree,", name_now);
+        printf("  it is: %s\n", what);
+        print_input(&input_now);
         exit(1);
     }
 }

@@ -71,7 +71,8 @@ _Noreturn void mismatch(const char *name, const struct input *in, const char *mo
 /* Fills memory with bytes that differ from one call to the next. */
 void fill_pattern(void *memory, size_t bytes, uint64_t salt);
 
-/* Where our own claim about the inputs fails: ends the program. */
+/* A claim of document 01 beyond single answers, or of ours about the inputs, made behind a case in which
+ * both agreed; ends the program when it fails. */
 void claim(int holds, const char *what);
 
 #endif
