@@ -9,5 +9,6 @@ pub mod Ordered
 pub mod Search
 pub mod Stack
 pub mod Right
+pub mod Within
 pub mod Compare
 pub mod Examples
