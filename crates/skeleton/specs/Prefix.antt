@@ -75,7 +75,7 @@ neighbours-miss a b v A n = step (ℕ-discrete a v)
     step (yes h) = absurd (n h)
     step (no h) = refl
 
-neighbours-nil : (v : ℕ) → neighbours [] v ≡ []
+pub neighbours-nil : (v : ℕ) → neighbours [] v ≡ []
 unfolding neighbours
 neighbours-nil v = refl
 
@@ -109,8 +109,8 @@ hit-other a v n = step (ℕ-discrete a v)
     step (yes h) = absurd (n h)
     step (no h) = refl
 
-length-cons : (a b v : ℕ) (A : List Arc) → length (neighbours ((a, b) ∷ A) v) ≡ length (neighbours A v) + hit a v
-length-cons a b v A = step (ℕ-discrete a v)
+pub neighbours-count : (a b v : ℕ) (A : List Arc) → length (neighbours ((a, b) ∷ A) v) ≡ length (neighbours A v) + hit a v
+neighbours-count a b v A = step (ℕ-discrete a v)
   where
     step : Dec (a ≡ v) → length (neighbours ((a, b) ∷ A) v) ≡ length (neighbours A v) + hit a v
     step (yes e) = rw (neighbours-hit a b v A e, hit-same a v e) (omega arith)
@@ -120,7 +120,7 @@ length-cons a b v A = step (ℕ-discrete a v)
 pub degree-more : (E : List ℕ) (p v : ℕ) → Edge E p → degree (before E (p + 1)) v ≡ degree (before E p) v + hit (one E p) v + hit (other E p) v
 unfolding degree
 degree-more E p v h =
-    rw (arcs-more E p h, neighbours-append, length-append, length-cons (one E p) (other E p), length-cons (other E p) (one E p), neighbours-nil v)
+    rw (arcs-more E p h, neighbours-append, length-append, neighbours-count (one E p) (other E p), neighbours-count (other E p) (one E p), neighbours-nil v)
     (omega arith)
 
 -- degrees do not fall
@@ -139,3 +139,25 @@ degree-all E p v h = rw (arcs-all E p h)
 pub degree-none : (E : List ℕ) (v : ℕ) → degree (before E 1) v ≡ 0
 unfolding degree
 degree-none E v = rw (arcs-none E, neighbours-nil v)
+
+-- an edge and those before it count at most what all do
+pub degree-within : (E : List ℕ) (p v : ℕ) → Edge E p → degree (before E p) v + hit (one E p) v + hit (other E p) v ≤ degree E v
+degree-within E p v h =
+    let e : p + 1 + (length E / 2 - p) ≡ length E / 2 + 1 = omega (arith, h .0, h .1) in
+    let r = rw e at (degree-rises E (p + 1) v (length E / 2 - p) (omega arith) (omega (arith, h .0, h .1))) in
+    let a = degree-all E (length E / 2 + 1) v (omega arith) in
+    let m = degree-more E p v h in
+    omega arith
+
+-- ---- the ends
+
+pub in-list : (E : List ℕ) (i : ℕ) → i < length E → List·Memᴰ (getD E i 0) E
+in-list [] i h = absurd (let n : ⊥ = omega arith in n)
+in-list (x ∷ E) zero h = List·Memᴰ·head refl
+in-list (x ∷ E) (suc i) h = List·Memᴰ·tail (in-list E i (omega arith))
+
+pub one-in : (E : List ℕ) (p : ℕ) → Edge E p → List·Memᴰ (one E p) E
+one-in E p h = in-list E (2 * (p - 1)) (omega (arith, h .0, h .1))
+
+pub other-in : (E : List ℕ) (p : ℕ) → Edge E p → List·Memᴰ (other E p) E
+other-in E p h = in-list E (2 * (p - 1) + 1) (omega (arith, h .0, h .1))

@@ -12,9 +12,11 @@ ghost use mathlib.Core.List.{List, [], _∷_};
 ghost use Prim.Native.Nat.{ℕ, _+_, _≤_, _<_};
 ghost use lib.ListN.{length, getD};
 ghost use Rattle.refusal.specs.Table.{Answers, Outside};
-ghost use Rattle.code.specs.Limits.{valence};
+ghost use Rattle.code.specs.Limits.{size, valence};
+ghost use Rattle.tree.specs.Skeleton.{IsSkeleton};
 ghost use Rattle.skeleton.specs.Edges.{Edge, one, other, row3, row5, row6, row7, row8, row9, edgeRows};
-ghost use Rattle.skeleton.specs.Labels.{Parted, Merged, Within};
+ghost use Rattle.skeleton.specs.Table.{Shaped, IsTable};
+ghost use Rattle.skeleton.specs.Parts.{Filled, Merged, Within, Room, Added};
 
 fn wide(x: u8) -> usize
     ensures { λ r. ⌜ (r ≡ x) × (r < 256) ⌝ }
@@ -109,7 +111,7 @@ fn moved(x: u8, a: u8, b: u8) -> u8
 // Each vertex below top gets a label of its own.
 fn part(labels: &mut [u8; 256], top: usize)
     requires { ⌜ (length (now labels) ≡ 256) × (top ≤ 256) ⌝ }
-    ensures { λ _. ⌜ Parted top (now (labels .exit)) ⌝ }
+    ensures { λ _. ⌜ Filled 256 (λ v. v) top (now (labels .exit)) ⌝ }
 {
     let mut v: usize = 0;
     while v < top {
@@ -199,4 +201,46 @@ pub fn check(most: usize, n: usize, edges: &[u8], root: usize) -> Check
         return Check::Refuse(k, p);
     }
     degrees(edges)
+}
+
+// No vertex has a neighbour yet.
+fn blank(degs: &mut [u8; 64], n: usize)
+    requires { ⌜ (length (now degs) ≡ 64) × (n ≤ 64) ⌝ }
+    ensures { λ _. ⌜ Filled 64 (λ v. 0) n (now (degs .exit)) ⌝ }
+{
+    let mut i: usize = 0;
+    while i < n {
+        degs[i] = 0;
+        i += 1;
+    }
+}
+
+// b goes behind the neighbours that a has.
+fn add(rows: &mut [[u8; 4]; 64], degs: &mut [u8; 64], a: usize, b: usize)
+    requires { ⌜ Shaped (now rows) (now degs) ⌝ }
+    requires { ⌜ Room (now degs) a b ⌝ }
+    ensures { λ _. ⌜ Added a b (now (rows .entry)) (now (degs .entry)) (now (rows .exit)) (now (degs .exit)) ⌝ }
+{
+    let i = a - 1;
+    let j = wide(degs[i]);
+    rows[i][j] = b as u8;
+    degs[i] += 1;
+}
+
+// The table of neighbours of an accepted list.
+pub fn fill(n: usize, edges: &[u8], rows: &mut [[u8; 4]; 64], degs: &mut [u8; 64])
+    requires { ⌜ IsSkeleton size valence n (now edges) ⌝ }
+    requires { ⌜ Shaped (now rows) (now degs) ⌝ }
+    ensures { λ _. ⌜ IsTable n (now (edges .entry)) (now (rows .exit)) (now (degs .exit)) ⌝ }
+{
+    blank(degs, n);
+    let m = edges.len() / 2;
+    let mut p: usize = 1;
+    while p <= m {
+        let a = one(edges, p);
+        let b = other(edges, p);
+        add(rows, degs, a, b);
+        add(rows, degs, b, a);
+        p += 1;
+    }
 }

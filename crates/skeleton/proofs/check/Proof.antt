@@ -8,7 +8,7 @@ use native.Mathlib.Omega.{arith}
 use Rattle.refusal.specs.Table.{Clear, Outside}
 use Rattle.refusal.specs.Laws.{never, was-clear, stops, goes-on}
 use Rattle.skeleton.specs.Edges.{one, other, row6}
-use Rattle.skeleton.specs.Labels.{Within}
+use Rattle.skeleton.specs.Parts.{Within}
 use borrow.Author.Needs.{needs}
 use Rattle.skeleton.proofs.check.Statement.{statement}
 use Rattle.skeleton.proofs.check.Tie as tie

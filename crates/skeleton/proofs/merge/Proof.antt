@@ -38,7 +38,7 @@ returns : tie.Need-returns Inv-loop μ-loop
 returns c =
     let l = c .before .loop in
     let e : l .v ≡ c .before .before .args .top = omega arith in
-    record { long = l .inv .1 .long; moves = rw (← e) (l .inv .1 .moves) }
+    record { all = l .inv .1 .all; moves = rw (← e) (l .inv .1 .moves) }
 
 pub merge-spec : {M : Type 1} → statement M
 merge-spec =
