@@ -4,3 +4,7 @@ pub mod Table
 pub mod Prefix
 pub mod Joined
 pub mod Parts
+pub mod Count
+pub mod Joins
+pub mod Bridge
+pub mod Theorems
