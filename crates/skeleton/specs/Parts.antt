@@ -1,14 +1,20 @@
 -- What the parts of the code promise each other. No call that a partner makes cites this file.
 --
--- In order: the front of an array; the labels of vertices, in an array with one for each byte; the table of neighbours, one arc at a
+-- In order: a test; the front of an array; the labels of vertices, in an array with one for each byte; the table of neighbours, one arc at a
 -- time. Assumes nothing.
 use mathlib.Core.Path.{_≡_}
+use mathlib.Core.Bool.{Bool, true, false}
 use mathlib.Core.List.{List, []}
 use Prim.Native.Nat.{ℕ, _+_, _-_, _≤_, _<_}
 use lib.ListN.{length, getD, set}
 use Rattle.code.specs.Limits.{size, valence}
 use Rattle.skeleton.specs.Edges.{Edge, one, other}
 use Rattle.skeleton.specs.Joined.{Moved}
+
+-- r says whether P holds
+pub record Tells (P : Type 0) (r : Bool) : Type 0 where
+  pub right : r ≡ true → P
+  pub wrong : r ≡ false → P → ⊥
 
 -- l has `long` numbers, and each of the first n is what g says
 pub record Filled (long : ℕ) (g : ℕ → ℕ) (n : ℕ) (l : List ℕ) : Type 0 where

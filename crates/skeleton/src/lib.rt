@@ -7,16 +7,16 @@ use refusal::Check;
 const VALENCE: u8 = 4;
 
 ghost use mathlib.Core.Path.{_≡_};
-ghost use mathlib.Core.Bool.{true, false};
-ghost use mathlib.Core.List.{List, [], _∷_};
+ghost use mathlib.Core.Logic.{_⊎_};
+ghost use mathlib.Core.List.{[], _∷_};
 ghost use Prim.Native.Nat.{ℕ, _+_, _≤_, _<_};
-ghost use lib.ListN.{length, getD};
+ghost use lib.ListN.{length};
 ghost use Rattle.refusal.specs.Table.{Answers, Outside};
 ghost use Rattle.code.specs.Limits.{size, valence};
 ghost use Rattle.tree.specs.Skeleton.{IsSkeleton};
 ghost use Rattle.skeleton.specs.Edges.{Edge, one, other, row3, row5, row6, row7, row8, row9, edgeRows};
 ghost use Rattle.skeleton.specs.Table.{Shaped, IsTable};
-ghost use Rattle.skeleton.specs.Parts.{Filled, Merged, Within, Room, Added};
+ghost use Rattle.skeleton.specs.Parts.{Tells, Filled, Merged, Within, Room, Added};
 
 fn wide(x: u8) -> usize
     ensures { λ r. ⌜ (r ≡ x) × (r < 256) ⌝ }
@@ -60,9 +60,17 @@ fn sizes(most: usize, n: usize, edges: &[u8]) -> Check
 
 // Whether v is 0 or above n.
 fn outside(n: usize, v: usize) -> bool
-    ensures { λ r. ⌜ (r ≡ true → Outside n v) × (r ≡ false → Outside n v → ⊥) ⌝ }
+    ensures { λ r. ⌜ Tells (Outside n v) r ⌝ }
 {
     v == 0 || n < v
+}
+
+// Whether an end of edge p is.
+fn stray(n: usize, edges: &[u8], p: usize) -> bool
+    requires { ⌜ Edge (now edges) p ⌝ }
+    ensures { λ r. ⌜ Tells (Outside n (one (now (edges .entry)) p) ⊎ Outside n (other (now (edges .entry)) p)) r ⌝ }
+{
+    outside(n, one(edges, p)) || outside(n, other(edges, p))
 }
 
 // 6: the root, then every end of every edge.
@@ -75,10 +83,7 @@ fn vertices(n: usize, edges: &[u8], root: usize) -> Check
     let m = edges.len() / 2;
     let mut p: usize = 1;
     while p <= m {
-        if outside(n, one(edges, p)) {
-            return Check::Refuse(6, p);
-        }
-        if outside(n, other(edges, p)) {
+        if stray(n, edges, p) {
             return Check::Refuse(6, p);
         }
         p += 1;
@@ -161,6 +166,13 @@ fn cycles(n: usize, edges: &[u8]) -> Check
     Check::Passed
 }
 
+// Whether one of two counts is as high as it may be.
+fn full(x: u8, y: u8) -> bool
+    ensures { λ r. ⌜ Tells ((valence ≤ x) ⊎ (valence ≤ y)) r ⌝ }
+{
+    VALENCE <= x || VALENCE <= y
+}
+
 // 9: an end that has as many edges as a vertex may have.
 fn degrees(edges: &[u8]) -> Check
     ensures { λ r. ⌜ Answers (row9 valence (now (edges .entry)) ∷ []) r ⌝ }
@@ -171,10 +183,7 @@ fn degrees(edges: &[u8]) -> Check
     while p <= m {
         let a = one(edges, p);
         let b = other(edges, p);
-        if VALENCE <= count[a] {
-            return Check::Refuse(9, p);
-        }
-        if VALENCE <= count[b] {
+        if full(count[a], count[b]) {
             return Check::Refuse(9, p);
         }
         count[a] += 1;
