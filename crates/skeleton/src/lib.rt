@@ -16,7 +16,7 @@ ghost use Rattle.code.specs.Limits.{size, valence};
 ghost use Rattle.tree.specs.Skeleton.{IsSkeleton};
 ghost use Rattle.skeleton.specs.Edges.{Edge, one, other, row3, row5, row6, row7, row8, row9, edgeRows};
 ghost use Rattle.skeleton.specs.Table.{Shaped, IsTable};
-ghost use Rattle.skeleton.specs.Parts.{Tells, Filled, Merged, Within, Room, Added};
+ghost use Rattle.skeleton.specs.Parts.{Tells, Parted, Merged, Within, Room, Added};
 
 fn wide(x: u8) -> usize
     ensures { λ r. ⌜ (r ≡ x) × (r < 256) ⌝ }
@@ -116,7 +116,7 @@ fn moved(x: u8, a: u8, b: u8) -> u8
 // Each vertex below top gets a label of its own.
 fn part(labels: &mut [u8; 256], top: usize)
     requires { ⌜ (length (now labels) ≡ 256) × (top ≤ 256) ⌝ }
-    ensures { λ _. ⌜ Filled 256 (λ v. v) top (now (labels .exit)) ⌝ }
+    ensures { λ _. ⌜ Parted top (now (labels .exit)) ⌝ }
 {
     let mut v: usize = 0;
     while v < top {
@@ -212,18 +212,6 @@ pub fn check(most: usize, n: usize, edges: &[u8], root: usize) -> Check
     degrees(edges)
 }
 
-// No vertex has a neighbour yet.
-fn blank(degs: &mut [u8; 64], n: usize)
-    requires { ⌜ (length (now degs) ≡ 64) × (n ≤ 64) ⌝ }
-    ensures { λ _. ⌜ Filled 64 (λ v. 0) n (now (degs .exit)) ⌝ }
-{
-    let mut i: usize = 0;
-    while i < n {
-        degs[i] = 0;
-        i += 1;
-    }
-}
-
 // b goes behind the neighbours that a has.
 fn add(rows: &mut [[u8; 4]; 64], degs: &mut [u8; 64], a: usize, b: usize)
     requires { ⌜ Shaped (now rows) (now degs) ⌝ }
@@ -236,13 +224,13 @@ fn add(rows: &mut [[u8; 4]; 64], degs: &mut [u8; 64], a: usize, b: usize)
     degs[i] += 1;
 }
 
-// The table of neighbours of an accepted list.
+// The table of neighbours of an accepted list. Whatever the two arrays held is gone.
 pub fn fill(n: usize, edges: &[u8], rows: &mut [[u8; 4]; 64], degs: &mut [u8; 64])
     requires { ⌜ IsSkeleton size valence n (now edges) ⌝ }
-    requires { ⌜ Shaped (now rows) (now degs) ⌝ }
     ensures { λ _. ⌜ IsTable n (now (edges .entry)) (now (rows .exit)) (now (degs .exit)) ⌝ }
 {
-    blank(degs, n);
+    *rows = [[0u8; 4]; 64];
+    *degs = [0u8; 64];
     let m = edges.len() / 2;
     let mut p: usize = 1;
     while p <= m {
