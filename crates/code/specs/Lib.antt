@@ -2,4 +2,6 @@
 pub mod Limits
 pub mod Code
 pub mod Ends
+pub mod Parts
+pub mod Compare
 pub mod Examples

@@ -3,3 +3,4 @@ pub mod Order
 pub mod Sorting
 pub mod Laid
 pub mod Perms
+pub mod Part
