@@ -1,8 +1,8 @@
 -- Document 01, "Codes": "a child's code is compared where it stands". The dictionary's order of two codes as one of three answers,
 -- and that it is the order by which children are sorted. Assumes nothing.
-use mathlib.Core.Path.{_≡_, refl, ap, ap₂}
+use mathlib.Core.Path.{_≡_, refl, ap₂, subst}
 use mathlib.Core.Logic.{_⊎_, inl, inr}
-use mathlib.Core.Bool.{Bool, true, false}
+use mathlib.Core.Bool.{Bool, true, false, true≢false, false≢true}
 use mathlib.Core.List.{List, [], _∷_}
 use Prim.Native.Nat.{ℕ, _<_, _≤_}
 use native.Mathlib.Omega.{arith}
@@ -10,6 +10,7 @@ use native.Mathlib.Decide.{decLt}
 use lib.Dec.{ltb}
 use borrow.Author.Tests.{lt-ltb, le-ltb}
 use Rattle.laws.specs.Order.{_≽_}
+use Rattle.laws.specs.Sorting.{refl≽}
 use Rattle.code.specs.declared.Order.{Order}
 use Rattle.code.specs.declared.Order.the-variants.{Less, Equal, Greater}
 
@@ -53,3 +54,36 @@ lex-says (x ∷ xs) (y ∷ ys) = step (decLt x y) (decLt y x) (lex-says xs ys)
     step (yes l) d r = rw (lt-ltb x y l) (head-less x y xs ys l)
     step (no l) (yes g) r = rw (le-ltb x y (omega arith), lt-ltb y x g) (head-more x y xs ys g)
     step (no l) (no g) r = rw (le-ltb x y (omega arith), le-ltb y x (omega arith)) (heads-same x y xs ys (omega arith) r)
+
+-- r says whether a stands at or after b
+pub data Falls (a b : List ℕ) : Bool → Type 0 where
+  falling : a ≽ b → Falls a b true
+  rising : (a ≽ b → ⊥) → Falls a b false
+
+falls-less : {a b : List ℕ} → Compares a b Less → Falls a b false
+falls-less (less n) = rising n
+
+falls-equal : {a b : List ℕ} → Compares a b Equal → Falls a b true
+falls-equal {a} (equal e) = falling (subst (λ (x : List ℕ). a ≽ x) e (refl≽ a))
+
+falls-greater : {a b : List ℕ} → Compares a b Greater → Falls a b true
+falls-greater (greater g n) = falling g
+
+-- by the answer of the comparer
+pub less-rises : (a b : List ℕ) → lex a b ≡ Less → Falls a b false
+less-rises a b e = falls-less (subst (Compares a b) e (lex-says a b))
+
+pub equal-falls : (a b : List ℕ) → lex a b ≡ Equal → Falls a b true
+equal-falls a b e = falls-equal (subst (Compares a b) e (lex-says a b))
+
+pub greater-falls : (a b : List ℕ) → lex a b ≡ Greater → Falls a b true
+greater-falls a b e = falls-greater (subst (Compares a b) e (lex-says a b))
+
+-- and as a caller learns it
+pub was-falling : {a b : List ℕ} {r : Bool} → Falls a b r → r ≡ true → a ≽ b
+was-falling (falling g) e = g
+was-falling (rising n) e = absurd (false≢true e)
+
+pub was-rising : {a b : List ℕ} {r : Bool} → Falls a b r → r ≡ false → a ≽ b → ⊥
+was-rising (falling g) e h = true≢false e
+was-rising (rising n) e h = n h

@@ -3,4 +3,6 @@ pub mod Order
 pub mod Sorting
 pub mod Laid
 pub mod Perms
+pub mod Once
+pub mod Places
 pub mod Part
