@@ -5,3 +5,4 @@ pub mod Spots
 pub mod Settling
 pub mod Depth
 pub mod Turns
+pub mod Tables

@@ -9,6 +9,9 @@ ghost use Rattle.laws.specs.Order.{Falling, insert};
 ghost use Rattle.code.specs.Compare.{lex};
 ghost use Rattle.code.specs.Code.{sum};
 ghost use Rattle.code.specs.Limits.{size, valence};
+ghost use Rattle.laws.specs.Laid.{laidOver};
+ghost use Rattle.tree.specs.Skeleton as skeleton;
+ghost use Rattle.coder.specs.Table.{IsTable, IsSomeTable};
 ghost use Rattle.coder.specs.Coded.{isLess, put, coded, Rows, Stand, Spot};
 
 // Whether the code from `a` up to `e` is smaller than the one from `m` up to `b`: two siblings, each where it stands in the buffer.
@@ -126,4 +129,14 @@ fn code(
     }
     out[at] = k as u8;
     rest
+}
+
+// Writes the rooted code at `root` of the skeleton of n vertices whose table is given.
+pub fn rooted(rows: &[[u8; 4]; 64], degs: &[u8; 64], n: usize, root: usize, out: &mut [u8])
+    requires { ⌜ IsSomeTable n (now rows) (now degs) ⌝ }
+    requires { ⌜ (1 ≤ root) × (root ≤ n) × (n ≤ length (now out)) ⌝ }
+    ensures { λ _. ⌜ ((E : List ℕ) → skeleton.IsTree n E → IsTable n E (now (rows .entry)) (now (degs .entry))
+        → now (out .exit) ≡ laidOver (skeleton.rooted n E root) (now (out .entry))) ⌝ }
+{
+    code(rows, degs, 0, root, n, &mut out[..n]);
 }
