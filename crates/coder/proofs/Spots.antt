@@ -12,6 +12,7 @@ use Rattle.laws.specs.Part.{part}
 use Rattle.laws.specs.Order.{_≽_, insert, Falling}
 use Rattle.laws.specs.Sorting.{below≽, refl≽}
 use Rattle.code.specs.Code.{sum}
+use Rattle.code.specs.Limits.{valence}
 use Rattle.code.specs.Parts.{flatten-append}
 use Rattle.code.specs.Compare.{lex, lex-says, Compares, less, equal, greater}
 use Rattle.code.specs.declared.Order.{Order}
@@ -183,3 +184,40 @@ behind lens lens' i n h e =
     ∙ ap (drop 1) (ap (λ j. drop j lens') (sym one) ∙ e ∙ ap (λ j. drop j (set lens i n)) one)
     ∙ drop-drop 1 i (set lens i n)
     ∙ drop-set-lt (i + 1) lens i n (omega arith)
+
+-- the place of c among the k codes that end at m is looked for among the first i of them, which end at a; the lengths behind them have
+-- moved up by one
+pub record Looking (s lens₀ : List ℕ) (k m : ℕ) (c lens : List ℕ) (i a : ℕ) : Type 0 where
+  pub small : i < valence
+  pub long : length lens ≡ valence
+  pub sums : sum (take i lens) ≤ a
+  pub before : a ≤ m
+  pub then : (r : ℕ) (lens' : List ℕ) → drop (i + 1) lens' ≡ drop (i + 1) lens → Found s lens i a c r lens' → Found s lens₀ k m c r lens'
+
+pub look : (s lens : List ℕ) (k m : ℕ) (c : List ℕ) → k < valence → length lens ≡ valence → sum (take k lens) ≤ m → Looking s lens k m c lens k m
+look s lens k m c h l e = record { small = h; long = l; sums = e; before = omega arith; then = λ r lens' d f. f }
+
+module _ {s lens₀ : List ℕ} {k m : ℕ} {c lens : List ℕ} {i a : ℕ} (g : Looking s lens₀ k m c lens i a) where
+  -- no code is left
+  pub first : (n : ℕ) → n ≡ length c → i ≤ 0 → Found s lens₀ k m c a (set lens i n)
+  first n e h =
+      g .then a (set lens i n) (drop-set-lt (i + 1) lens i n (omega arith)) (none s lens i a n c (omega arith) (omega (arith, g .small, g .long)) e)
+
+  module _ (h : 0 < i) where
+    pub last-fits : sum (take (i - 1) lens) + getD lens (i - 1) 0 ≤ a
+    last-fits = fits lens i a h (omega (arith, g .small, g .long)) (g .sums)
+
+    pub further : isLess (lex (part (a - getD lens (i - 1) 0) a s) c) ≡ true
+        → Looking s lens₀ k m c (set lens i (getD lens (i - 1) 0)) (i - 1) (a - getD lens (i - 1) 0)
+    further e = record {
+      small = omega (arith, g .small);
+      long = length-set lens i (getD lens (i - 1) 0) ∙ g .long;
+      sums = rw (take-set-le (i - 1) lens i (getD lens (i - 1) 0) (omega arith)) (omega (arith, last-fits));
+      before = omega (arith, g .before);
+      then = λ r lens' d f.
+          g .then r lens' (behind lens lens' i (getD lens (i - 1) 0) h d) (on s lens i a c h (omega (arith, g .small, g .long)) e f d);
+    }
+
+    -- the last code stands at or after c
+    pub here : (n : ℕ) → n ≡ length c → isLess (lex (part (a - getD lens (i - 1) 0) a s) c) ≡ false → Found s lens₀ k m c a (set lens i n)
+    here n l e = g .then a (set lens i n) (drop-set-lt (i + 1) lens i n (omega arith)) (stop s lens i a c h (omega (arith, g .small, g .long)) n l e)

@@ -38,21 +38,25 @@ fn exchange(s: &mut [u8], a: usize, m: usize, b: usize)
     bytes::reverse(s, a, b);
 }
 
-// Where the code from `m` up to `b` belongs among the `i` codes that end at `a`: before the first of the last ones that are smaller.
-// `lens` has the codes' lengths, and then the new code's among them.
-fn spot(s: &[u8], lens: &mut [usize; 4], i: usize, a: usize, m: usize, b: usize) -> usize
-    requires { ⌜ (i < valence) × (length (now lens) ≡ valence) × (sum (take i (now lens)) ≤ a) ⌝ }
-    requires { ⌜ (a ≤ length (now s)) × (m ≤ b) × (b ≤ length (now s)) ⌝ }
-    ensures { λ r. ⌜ (r ≤ a) × (length (now (lens .exit)) ≡ valence) ⌝ }
-    ensures { λ _. ⌜ drop (i + 1) (now (lens .exit)) ≡ drop (i + 1) (now (lens .entry)) ⌝ }
-    ensures { λ r. ⌜ ((p q : List ℕ) (L : List (List ℕ)) → Stand (now (s .entry)) (now (lens .entry)) i a p L q → Falling L
-        → Spot p L (part m b (now (s .entry))) r (now (lens .exit)) i) ⌝ }
+// Where the code from `m` up to `b` belongs among the `k` codes that end at `m`: before the last ones that are smaller. `lens` has their
+// lengths, and then the new code's among them.
+fn spot(s: &[u8], lens: &mut [usize; 4], k: usize, m: usize, b: usize) -> usize
+    requires { ⌜ (k < valence) × (length (now lens) ≡ valence) × (sum (take k (now lens)) ≤ m) ⌝ }
+    requires { ⌜ (m ≤ b) × (b ≤ length (now s)) ⌝ }
+    ensures { λ r. ⌜ (r ≤ m) × (length (now (lens .exit)) ≡ valence) ⌝ }
+    ensures { λ r. ⌜ ((p q : List ℕ) (L : List (List ℕ)) → Stand (now (s .entry)) (now (lens .entry)) k m p L q → Falling L
+        → Spot p L (part m b (now (s .entry))) r (now (lens .exit)) k) ⌝ }
 {
-    if 0 < i {
+    let mut i = k;
+    let mut a = m;
+    while 0 < i {
         let n = lens[i - 1];
         if smaller(s, a - n, a, m, b) {
             lens[i] = n;
-            return spot(s, lens, i - 1, a - n, m, b);
+            a -= n;
+            i -= 1;
+        } else {
+            break;
         }
     }
     lens[i] = b - m;
@@ -67,7 +71,7 @@ fn settle(out: &mut [u8], lens: &mut [usize; 4], k: usize, m: usize, b: usize)
     ensures { λ _. ⌜ ((p c z : List ℕ) (L : List (List ℕ)) → Stand (now (out .entry)) (now (lens .entry)) k m p L (c ++ z) → m + length c ≡ b
         → Falling L → Stand (now (out .exit)) (now (lens .exit)) (k + 1) b p (insert c L) z) ⌝ }
 {
-    let a = spot(out, lens, k, m, m, b);
+    let a = spot(out, lens, k, m, b);
     if a < m {
         exchange(out, a, m, b);
     }

@@ -15,9 +15,9 @@ settle-spec =
     (λ c.
     let u = c .before .before .before .before .before in (
       u .spot .ensures .0 .1,
-      λ p d z L t h f. settled p d z L t _ h (u .spot .ensures .1 .1 p (d ++ z) L t f) (c .before .before .exchange .ensures),
+      λ p d z L t h f. settled p d z L t _ h (u .spot .ensures .1 p (d ++ z) L t f) (c .before .before .exchange .ensures),
     ))
     (λ c. search needs)
     (λ c.
     let u = c .before in
-    (u .spot .ensures .0 .1, λ p d z L t h f. settled p d z L t _ h (u .spot .ensures .1 .1 p (d ++ z) L t f) (idle _ _ _ _ (c .if1 .left)))))
+    (u .spot .ensures .0 .1, λ p d z L t h f. settled p d z L t _ h (u .spot .ensures .1 p (d ++ z) L t f) (idle _ _ _ _ (c .if1 .left)))))
