@@ -45,3 +45,12 @@ module _ (K : ℕ → ℕ → List ℕ) where
   -- a code with fewer digits than the depth is made of its children's
   pub whole : (n p v : ℕ) → length (codeBy K n p v) < n → codeBy K n p v ≡ join (map (codeBy K n v) (K p v))
   whole n p v h = sym (deeper n p v h) ∙ (unfold codeBy in refl)
+
+  -- no code is empty, and a vertex without children has the code 0
+  pub some-digit : (n p v : ℕ) → 0 < length (codeBy K (suc n) p v)
+  unfolding codeBy join
+  some-digit n p v = omega arith
+
+  pub no-child : (n p v : ℕ) → K p v ≡ [] → codeBy K (suc n) p v ≡ 0 ∷ []
+  unfolding codeBy join sort flatten
+  no-child n p v e = ap (λ l. join (map (codeBy K n v) l)) e

@@ -1,10 +1,24 @@
 -- A code among codes that go down: seen from the last of them, as the coder looks for its place. Assumes nothing.
-use mathlib.Core.Path.{_≡_, refl, sym, ap, _∙_}
-use mathlib.Core.Logic.{ite}
-use mathlib.Core.List.{List, [], _∷_, _++_, append-nil, List·Permᴰ, Permᴰ·middle}
-use Prim.Native.Nat.{ℕ}
+use mathlib.Core.Path.{_≡_, refl, sym, ap, subst, _∙_}
+use mathlib.Core.Logic.{_⊎_, inl, inr, ite}
+use mathlib.Core.List.{List, [], _∷_, _++_, append-nil, List·Permᴰ, Permᴰ·middle, List·Memᴰ, List·Memᴰ·head, Memᴰ·append-right}
+use Prim.Native.Nat.{ℕ, _<_}
+use native.Mathlib.Decide.{decLt}
+use native.Mathlib.Omega.{arith}
+use lib.ListN.{length}
 use Rattle.laws.specs.Order.{_≽_, dec≽, insert, sort, Falling}
 use Rattle.laws.specs.Sorting.{sort-perm, sort-stays}
+
+-- the codes but the last, and the last
+pub record Last (L : List (List ℕ)) : Type 0 where
+  pub init : List (List ℕ)
+  pub last : List ℕ
+  pub is : L ≡ init ++ (last ∷ [])
+
+pub last-of : (L : List (List ℕ)) → 0 < length L → Last L
+last-of [] h = let z : ⊥ = omega arith in absurd z
+last-of (c ∷ []) h = record { init = []; last = c; is = refl }
+last-of (c ∷ d ∷ L) h = let r = last-of (d ∷ L) (omega arith) in record { init = c ∷ r .init; last = r .last; is = ap (λ l. c ∷ l) (r .is) }
 
 -- what stands before the last but one stays a list that goes down
 pub falling-init : (xs : List (List ℕ)) (d : List ℕ) → Falling (xs ++ (d ∷ [])) → Falling xs
@@ -42,3 +56,21 @@ insert-before (x ∷ xs) d c h = step (dec≽ c x) (insert-before xs d c h)
         → ite t (c ∷ x ∷ (xs ++ (d ∷ []))) (x ∷ insert c (xs ++ (d ∷ []))) ≡ ite t (c ∷ x ∷ xs) (x ∷ insert c xs) ++ (d ∷ [])
     step (yes k) e = refl
     step (no k) e = ap (λ l. x ∷ l) e
+
+above-leaf : (d : List ℕ) → 0 < length d → d ≽ (0 ∷ [])
+above-leaf [] h = let z : ⊥ = omega arith in absurd z
+above-leaf (x ∷ d) h = step (decLt 0 x)
+  where
+    step : Dec (0 < x) → (x ∷ d) ≽ (0 ∷ [])
+    step (yes l) = inl l
+    step (no l) = inr (omega arith, tt)
+
+-- a leaf's code goes behind all others
+pub insert-leaf : (L : List (List ℕ)) → Falling L → ((d : List ℕ) → List·Memᴰ d L → 0 < length d) → insert (0 ∷ []) L ≡ L ++ ((0 ∷ []) ∷ [])
+insert-leaf [] f h = unfold insert in refl
+insert-leaf (d ∷ L) f h =
+    let z = last-of (d ∷ L) (omega arith) in
+    let there : List·Memᴰ (z .last) (d ∷ L) = subst (List·Memᴰ (z .last)) (sym (z .is)) (Memᴰ·append-right (z .init) (List·Memᴰ·head refl)) in
+    ap (insert (0 ∷ [])) (z .is)
+    ∙ insert-last (z .init) (z .last) (0 ∷ []) (subst Falling (z .is) f) (above-leaf (z .last) (h (z .last) there))
+    ∙ ap (λ l. l ++ ((0 ∷ []) ∷ [])) (sym (z .is))

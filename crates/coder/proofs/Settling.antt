@@ -1,5 +1,5 @@
 -- A code moved to its place: the codes before the place stay, those behind it change places with the new one. Assumes nothing.
-use mathlib.Core.Path.{_≡_, refl, sym, ap, _∙_}
+use mathlib.Core.Path.{_≡_, sym, ap, subst, _∙_}
 use mathlib.Core.List.{List, [], _∷_, _++_, append-assoc, flatten, map}
 use Prim.Native.Nat.{ℕ, _+_, _≤_}
 use native.Mathlib.Omega.{arith}
@@ -30,12 +30,11 @@ module _ {s lens : List ℕ} {k m : ℕ} (p c z : List ℕ) (L : List (List ℕ)
       let l : length (p ++ flatten L) ≡ m = rw length-append (t .ends) in
       ap (part m b) (t .whole ∙ sym (append-assoc p (flatten L) (c ++ z))) ∙ part-at (p ++ flatten L) c z m b l h
 
-  pub settled : {r : ℕ} {lens' : List ℕ} {s' : List ℕ} → Spot p L (part m b s) r lens' k → Exchanged s r m b s' → Stand s' lens' (k + 1) b p (insert c L) z
+  pub settled : {r : ℕ} {lens' : List ℕ} {s' : List ℕ} → Spot p L c r lens' k → Exchanged s r m b s' → Stand s' lens' (k + 1) b p (insert c L) z
   settled {r} {lens'} {s'} u x =
       let front = u .front in
       let back = u .back in
-      let sorted : insert c L ≡ front ++ (c ∷ back) = ap (λ d. insert d L) (sym new-part) ∙ u .sorted ∙ ap (λ d. front ++ (d ∷ back)) new-part in
-      let flat : flatten (insert c L) ≡ flatten front ++ (c ++ flatten back) = ap flatten sorted ∙ flatten-middle front back c in
+      let flat : flatten (insert c L) ≡ flatten front ++ (c ++ flatten back) = ap flatten (u .sorted) ∙ flatten-middle front back c in
       let parts : flatten L ≡ flatten front ++ flatten back = ap flatten (u .parts) ∙ flatten-append front back in
       let here : s ≡ (p ++ flatten front) ++ (flatten back ++ (c ++ z)) = t .whole ∙ ap (λ l. p ++ (l ++ (c ++ z))) parts ∙ simp append-assoc in
       let size : length (flatten L) ≡ length (flatten front) + length (flatten back) = ap length parts ∙ length-append (flatten front) (flatten back) in
@@ -45,5 +44,9 @@ module _ {s lens : List ℕ} {k m : ℕ} (p c z : List ℕ) (L : List (List ℕ)
       record {
         whole = x (p ++ flatten front) (flatten back) c z here a (omega (arith, u .place, t .ends)) h ∙ sym (ap (λ l. p ++ (l ++ z)) flat ∙ regroup);
         ends = omega (arith, t .ends);
-        lengths = u .lengths ∙ ap (λ d. map length (insert d L)) new-part;
+        lengths = u .lengths;
       }
+
+  -- where the place was found for the code as it stands
+  pub settled-part : {r : ℕ} {lens' : List ℕ} {s' : List ℕ} → Spot p L (part m b s) r lens' k → Exchanged s r m b s' → Stand s' lens' (k + 1) b p (insert c L) z
+  settled-part {r} {lens'} u x = settled (subst (λ d. Spot p L d r lens' k) new-part u) x

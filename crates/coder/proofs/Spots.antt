@@ -18,7 +18,7 @@ use Rattle.code.specs.Compare.{lex, lex-says, Compares, less, equal, greater}
 use Rattle.code.specs.declared.Order.{Order}
 use Rattle.code.specs.declared.Order.the-variants.{Less, Equal, Greater}
 use Rattle.coder.specs.Coded.{isLess, Stand, Spot}
-use Rattle.coder.proofs.Inserting.{falling-init, insert-last, insert-before}
+use Rattle.coder.proofs.Inserting.{Last, last-of, falling-init, insert-last, insert-before}
 
 pub part-at : (p x q : List ℕ) (a e : ℕ) → length p ≡ a → a + length x ≡ e → part a e (p ++ (x ++ q)) ≡ x
 part-at p x q a e h k = rw (drop-at p (x ++ q) a h) (take-at x q (e - a) (omega arith))
@@ -35,17 +35,6 @@ sum-take l i h = ap sum (take-suc l i 0 h) ∙ sum-append (take i l) (getD l i 0
 flatten-one : (L : List (List ℕ)) (c : List ℕ) → flatten (L ++ (c ∷ [])) ≡ flatten L ++ c
 unfolding flatten
 flatten-one L c = flatten-append L (c ∷ []) ∙ ap (λ l. flatten L ++ l) (append-nil c)
-
--- the codes but the last, and the last
-record Last (L : List (List ℕ)) : Type 0 where
-  init : List (List ℕ)
-  last : List ℕ
-  is : L ≡ init ++ (last ∷ [])
-
-last-of : (L : List (List ℕ)) → 0 < length L → Last L
-last-of [] h = let z : ⊥ = omega arith in absurd z
-last-of (c ∷ []) h = record { init = []; last = c; is = refl }
-last-of (c ∷ d ∷ L) h = let r = last-of (d ∷ L) (omega arith) in record { init = c ∷ r .init; last = r .last; is = ap (λ l. c ∷ l) (r .is) }
 
 pub says-less : {d c : List ℕ} {o : Order} → Compares d c o → isLess o ≡ true → c ≽ d
 says-less {d} {c} (less n) e = below≽ d c n

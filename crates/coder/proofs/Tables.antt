@@ -1,7 +1,7 @@
 -- The code by the table is the rooted code of the skeleton whose table it is. Assumes nothing.
-use mathlib.Core.Path.{_≡_, refl, sym, ap, ap₂, _∙_}
-use mathlib.Core.Logic.{ite, Dec·not}
-use mathlib.Core.List.{List, [], _∷_, _++_, append-nil, filter, map, List·Memᴰ, List·Memᴰ·head, List·Memᴰ·tail, List·Memᴰ·not-nil, Memᴰ·of-map, Memᴰ·cast}
+use mathlib.Core.Path.{_≡_, refl, sym, ap, ap₂, subst, _∙_}
+use mathlib.Core.Logic.{ite, ⊎-elim, Dec·not}
+use mathlib.Core.List.{List, [], _∷_, _++_, append-nil, filter, map, List·Memᴰ, List·Memᴰ·head, List·Memᴰ·tail, List·Memᴰ·not-nil, List·Memᴰ·cases-cons, List·Memᴰ·eq-of-singleton, Memᴰ·cast}
 use Prim.Native.Nat.{ℕ, zero, suc, _+_, _-_, _≤_, _<_}
 use native.Mathlib.Decide.{ℕ-discrete}
 use native.Mathlib.Omega.{arith}
@@ -14,11 +14,11 @@ use Rattle.tree.specs.Skeleton.{Arc, arcs, neighbours, degree, Degrees, IsTree,
 use Rattle.tree.specs.Forest.{Rooted}
 use Rattle.tree.specs.Label.{rootedₗ}
 use Rattle.tree.specs.Base.{base, rooted-base}
-use Rattle.tree.specs.Codes.{code-of-tree, rooted-join}
+use Rattle.tree.specs.Codes.{neighbours-at, neighbours-past, code-of-tree, rooted-join}
 use Rattle.tree.specs.Grow.{rooted-tree}
 use Rattle.tree.specs.Theorems as Theorems
 use Rattle.coder.specs.Table.{IsTable, IsSomeTable}
-use Rattle.coder.specs.Coded.{cells, but, kids, codeBy, coded, put, Rows}
+use Rattle.coder.specs.Coded.{cells, but, kids, codeBy, coded, put, cell, Rows}
 
 filter-in : {A : Type 0} {P : A → Type 0} (d : (a : A) → Dec (P a)) {x : A} (l : List A) → List·Memᴰ x (filter d l) → List·Memᴰ x l
 filter-in d [] m = m
@@ -37,12 +37,44 @@ arcs-in (a ∷ b ∷ E) (List·Memᴰ·head e) = List·Memᴰ·tail (List·Mem�
 arcs-in (a ∷ b ∷ E) (List·Memᴰ·tail (List·Memᴰ·head e)) = List·Memᴰ·head (ap (λ (x : Arc). x .1) e)
 arcs-in (a ∷ b ∷ E) (List·Memᴰ·tail (List·Memᴰ·tail m)) = List·Memᴰ·tail (List·Memᴰ·tail (arcs-in E m))
 
+arcs-back : (E : List ℕ) {u w : ℕ} → List·Memᴰ (u, w) (arcs E) → List·Memᴰ (w, u) (arcs E)
+unfolding arcs
+arcs-back [] m = absurd (List·Memᴰ·not-nil m)
+arcs-back (a ∷ []) m = absurd (List·Memᴰ·not-nil m)
+arcs-back (a ∷ b ∷ E) (List·Memᴰ·head e) = List·Memᴰ·tail (List·Memᴰ·head (ap (λ (x : Arc). (x .1, x .0)) e))
+arcs-back (a ∷ b ∷ E) (List·Memᴰ·tail (List·Memᴰ·head e)) = List·Memᴰ·head (ap (λ (x : Arc). (x .1, x .0)) e)
+arcs-back (a ∷ b ∷ E) (List·Memᴰ·tail (List·Memᴰ·tail m)) = List·Memᴰ·tail (List·Memᴰ·tail (arcs-back E m))
+
+to-arc : (A : List Arc) (v : ℕ) {w : ℕ} → List·Memᴰ w (neighbours A v) → List·Memᴰ (v, w) A
+to-arc [] v {w} m = let n : List·Memᴰ w [] = (unfold neighbours in m) in absurd (List·Memᴰ·not-nil n)
+to-arc (a ∷ A) v {w} m = step (ℕ-discrete (a .0) v) (to-arc A v)
+  where
+    step : Dec (a .0 ≡ v) → (List·Memᴰ w (neighbours A v) → List·Memᴰ (v, w) A) → List·Memᴰ (v, w) (a ∷ A)
+    step (no n) r = List·Memᴰ·tail (r (subst (List·Memᴰ w) (neighbours-past (a .0) v (a .1) A n) m))
+    step (yes e) r = ⊎-elim (λ k. List·Memᴰ·head (ap₂ (λ x y. (x, y)) (sym e) k)) (λ k. List·Memᴰ·tail (r k)) (List·Memᴰ·cases-cons (subst (List·Memᴰ w) (neighbours-at (a .0) v (a .1) A e) m))
+
+of-arc : (A : List Arc) {v w : ℕ} → List·Memᴰ (v, w) A → List·Memᴰ w (neighbours A v)
+of-arc [] m = absurd (List·Memᴰ·not-nil m)
+of-arc (a ∷ A) {v} {w} (List·Memᴰ·head e) =
+    subst (List·Memᴰ w) (sym (neighbours-at (a .0) v (a .1) A (ap (λ (x : Arc). x .0) (sym e)))) (List·Memᴰ·head (ap (λ (x : Arc). x .1) e))
+of-arc (a ∷ A) {v} {w} (List·Memᴰ·tail m) = step (ℕ-discrete (a .0) v) (of-arc A m)
+  where
+    step : Dec (a .0 ≡ v) → List·Memᴰ w (neighbours A v) → List·Memᴰ w (neighbours (a ∷ A) v)
+    step (yes e) r = subst (List·Memᴰ w) (sym (neighbours-at (a .0) v (a .1) A e)) (List·Memᴰ·tail r)
+    step (no n) r = subst (List·Memᴰ w) (sym (neighbours-past (a .0) v (a .1) A n)) r
+
 -- a neighbour is an end of an edge
 neighbour-in : (E : List ℕ) (v : ℕ) {w : ℕ} → List·Memᴰ w (neighbours (arcs E) v) → List·Memᴰ w E
-unfolding neighbours
-neighbour-in E v {w} m =
-    let (a, n, e) = Memᴰ·of-map (λ (x : Arc). x .1) (filter {p = λ x. x .0 ≡ v} (λ x. ℕ-discrete (x .0) v) (arcs E)) m in
-    Memᴰ·cast (sym e) (arcs-in E (filter-in (λ (x : Arc). ℕ-discrete (x .0) v) (arcs E) n))
+neighbour-in E v m = arcs-in E (to-arc (arcs E) v m)
+
+-- neighbours are so of each other
+mutual-in : (E : List ℕ) {u w : ℕ} → List·Memᴰ w (neighbours (arcs E) u) → List·Memᴰ u (neighbours (arcs E) w)
+mutual-in E {u} m = of-arc (arcs E) (arcs-back E (to-arc (arcs E) u m))
+
+lone : (l : List ℕ) (u : ℕ) → length l ≡ 1 → List·Memᴰ u l → getD l 0 0 ≡ u
+lone [] u h m = absurd (List·Memᴰ·not-nil m)
+lone (x ∷ []) u h m = sym (List·Memᴰ·eq-of-singleton m)
+lone (x ∷ y ∷ l) u h m = let z : ⊥ = omega arith in absurd z
 
 cells-take : (row l : List ℕ) (n : ℕ) → n ≤ length l → ((j : ℕ) → j < n → getD row j 0 ≡ getD l j 0) → cells row n ≡ take n l
 unfolding cells
@@ -105,6 +137,14 @@ module _ {N : ℕ} {E : List ℕ} {t : List (List ℕ)} {d : List ℕ} (tree : I
         let e = b .row u j i o in-row in
         let a = tree .inside _ (neighbour-in E u (at-in (neighbours (arcs E) u) j 0 in-row)) in
         (omega (arith, a .0), omega (arith, a .1));
+    back = λ u j i o m e.
+        let in-row : j < degree E u = omega (arith, b .degs u i o) in
+        let n = at-in (neighbours (arcs E) u) j 0 in-row in
+        let a = tree .inside _ (neighbour-in E u n) in
+        let w = b .row u j i o in-row in
+        let one : degree E (cell t u j) ≡ 1 = sym (b .degs (cell t u j) (omega (arith, a .0)) (omega (arith, a .1))) ∙ e in
+        b .row (cell t u j) 0 (omega (arith, a .0)) (omega (arith, a .1)) (omega arith)
+        ∙ lone (neighbours (arcs E) (cell t u j)) u one (mutual-in E (Memᴰ·cast w n));
   }
 
 -- what a table that is some skeleton's gives the coder at its vertex r

@@ -1,23 +1,26 @@
 -- The turns of the coder: the children's codes so far stand sorted behind their parent's place. Assumes nothing.
 use mathlib.Core.Path.{_≡_, refl, sym, ap, ap₂, subst, _∙_}
 use mathlib.Core.Logic.{if-pos, if-neg, Dec·not}
-use mathlib.Core.List.{List, [], _∷_, _++_, append-assoc, append-nil, flatten, map, map-append, filter-append}
+use mathlib.Core.List.{List, [], _∷_, _++_, append-assoc, append-nil, flatten, map, map-append, filter-append, List·Memᴰ, Memᴰ·of-map, Permᴰ·symm}
 use Prim.Native.Nat.{ℕ, zero, suc, _+_, _-_, _≤_, _<_}
 use native.Mathlib.Nat.{add-zero}
 use native.Mathlib.Decide.{ℕ-discrete}
 use native.Mathlib.Numerals.{add-one}
 use native.Mathlib.Omega.{arith}
 use lib.ListN.{length, getD, take, drop, set, length-append, length-set, length-map, take-append-drop}
-use lib.Seq.{take-at, drop-at, take-suc, drop-drop, length-take-le, set-at}
+use lib.Seq.{take-at, drop-at, take-suc, drop-drop, length-take-le, set-at, set-split}
 use Rattle.laws.specs.Order.{sort, insert, Falling}
-use Rattle.laws.specs.Sorting.{sort-falling, sort-length}
+use Rattle.laws.specs.Sorting.{sort-self, sort-falling}
+use Rattle.laws.specs.Perms.{perm-in}
 use Rattle.code.specs.Code.{sum}
 use Rattle.code.specs.Limits.{size, valence}
 use Rattle.code.specs.Parts.{flatten-append}
 use Rattle.tree.specs.Skeleton.{join}
-use Rattle.coder.specs.Coded.{put, cells, but, kids, codeBy, coded, Rows, Stand}
-use Rattle.coder.proofs.Inserting.{sort-snoc}
-use Rattle.coder.proofs.Depth.{flatten-length, sorted-length, join-length, whole}
+use Rattle.coder.specs.Coded.{put, cells, but, kids, codeBy, coded, deg, cell, Rows, Stand}
+use Rattle.coder.proofs.Inserting.{sort-snoc, insert-leaf}
+use Rattle.coder.proofs.Spots.{stay}
+use Rattle.coder.proofs.Settling.{settled, idle}
+use Rattle.coder.proofs.Depth.{flatten-length, sorted-length, join-length, whole, some-digit, no-child}
 
 -- the codes of those of the first j of a row that are not the parent p
 abbrev pub upTo : (ℕ → List ℕ) → ℕ → List ℕ → ℕ → List (List ℕ)
@@ -69,6 +72,13 @@ sum-lengths : (L : List (List ℕ)) → sum (map length L) ≡ length (flatten L
 unfolding sum flatten
 sum-lengths [] = refl
 sum-lengths (c ∷ L) = omega (arith, sum-lengths L, length-append c (flatten L))
+
+put-one : (xs : List ℕ) (m x : ℕ) → m < length xs → set xs m x ≡ put m (x ∷ []) xs
+unfolding put
+put-one xs m x h = set-split xs m x h ∙ ap (λ i. take m xs ++ (x ∷ drop i xs)) (sym (add-one m))
+
+in-codes : (f : ℕ → List ℕ) (ws : List ℕ) → ((i : ℕ) → 0 < length (f i)) → (d : List ℕ) → List·Memᴰ d (map f ws) → 0 < length d
+in-codes f ws some d i = let (w, m, e) = Memᴰ·of-map f ws i in omega (arith, some w, ap length e)
 
 -- what is written behind p ++ x
 put-behind : (p x c q : List ℕ) (m : ℕ) → length (p ++ x) ≡ m → put m c (p ++ (x ++ q)) ≡ p ++ (x ++ (c ++ drop (length c) q))
@@ -138,6 +148,9 @@ module _ {f : ℕ → List ℕ} {p : ℕ} {row : List ℕ} {n b : ℕ} {xs out l
     pub fits : length (f w) ≤ rest
     fits = omega (arith, grown, within f p row (j + 1) n (omega (arith, h)), s .room, s .left)
 
+    pub one-left : ((i : ℕ) → 0 < length (f i)) → 0 < rest
+    one-left some = omega (arith, fits, some w)
+
     pub one-more : k < valence
     one-more = omega (arith, s .count, few f p row j, h, s .small)
 
@@ -149,8 +162,8 @@ module _ {f : ℕ → List ℕ} {p : ℕ} {row : List ℕ} {n b : ℕ} {xs out l
     -- the child's code, written behind the others and then moved to its place
     pub child : (out1 out2 lens2 : List ℕ) (after : ℕ) → out1 ≡ put (length out - rest) (f w) out → after ≡ rest - length (f w)
         → length out1 ≡ length out → length out2 ≡ length out1 → length lens2 ≡ valence
-        → ((o c z : List ℕ) (L : List (List ℕ)) → Stand out1 lens k (length out1 - rest) o L (c ++ z) → length out1 - rest + length c ≡ length out1 - after
-        → Falling L → Stand out2 lens2 (k + 1) (length out1 - after) o (insert c L) z)
+        → ((z : List ℕ) → Stand out1 lens k (length out1 - rest) (take b xs) (sort (upTo f p row j)) (f w ++ z) → length out1 - rest + length (f w) ≡ length out1 - after
+        → Stand out2 lens2 (k + 1) (length out1 - after) (take b xs) (insert (f w) (sort (upTo f p row j))) z)
         → Sofar f p row n b xs out2 lens2 after (k + 1) (j + 1)
     child out1 out2 lens2 after x a l1 l2 v g =
         let c = f w in
@@ -165,7 +178,7 @@ module _ {f : ℕ → List ℕ} {p : ℕ} {row : List ℕ} {n b : ℕ} {xs out l
         ∙ ap (λ r. take b xs ++ (flatten (sort cs) ++ (c ++ r))) (drop-drop (length c) m xs) in
         let st : Stand out1 lens k (length out1 - rest) (take b xs) (sort cs) (c ++ drop (m + length c) xs) =
         record { whole = here; ends = s .stand .ends ∙ sym at1; lengths = s .stand .lengths } in
-        let done = g (take b xs) c (drop (m + length c) xs) (sort cs) st (omega (arith, s .left, s .same, fits)) (sort-falling cs) in
+        let done = g (drop (m + length c) xs) st (omega (arith, s .left, s .same, fits)) in
         let sorts : sort (upTo f p row (j + 1)) ≡ insert c (sort cs) = ap sort u ∙ sort-snoc cs c in
         let over : m + length c ≡ b + length (flatten (upTo f p row (j + 1))) = omega (arith, grown) in
         record {
@@ -182,6 +195,20 @@ module _ {f : ℕ → List ℕ} {p : ℕ} {row : List ℕ} {n b : ℕ} {xs out l
             lengths = done .lengths ∙ ap (map length) (sym sorts);
           };
         }
+
+    -- a leaf's code stays behind the others
+    pub leaf : ((i : ℕ) → 0 < length (f i)) → f w ≡ 0 ∷ [] → Sofar f p row n b xs (set out (length out - rest) 0) (set lens k 1) (rest - 1) (k + 1) (j + 1)
+    leaf some z =
+        let cs = upTo f p row j in
+        let m = length out - rest in
+        let one : length (f w) ≡ 1 = ap length z in
+        let inside : m < length out = omega (arith, fits, s .left, s .same) in
+        let least : insert (f w) (sort cs) ≡ sort cs ++ (f w ∷ []) =
+        ap (λ c. insert c (sort cs)) z ∙ insert-leaf (sort cs) (sort-falling cs) (λ d i. in-codes f (but p (cells row j)) some d (perm-in (Permᴰ·symm (sort-self cs)) i)) ∙ ap (λ c. sort cs ++ (c ∷ [])) (sym z) in
+        child (set out m 0) (set out m 0) (set lens k 1) (rest - 1) (put-one out m 0 inside ∙ ap (λ c. put m c out) (sym z)) (omega arith) (length-set out m 0) refl
+        (length-set lens k 1 ∙ s .long)
+        (λ y st h.
+        settled (take b xs) (f w) y (sort cs) st _ h (stay st (f w) 1 (omega (arith, one-more, s .long)) least (sym one)) (idle (set out m 0) _ _ _ (omega arith)))
 
 -- a digit is small
 pub digit-small : {f : ℕ → List ℕ} {p : ℕ} {row : List ℕ} {n b : ℕ} {xs out lens : List ℕ} {rest k j : ℕ} → Sofar f p row n b xs out lens rest k j → k ≤ valence
@@ -220,6 +247,19 @@ children-first : (t : List (List ℕ)) (d : List ℕ) (p v : ℕ) → length (co
 unfolding coded kids
 children-first t d p v h = whole (kids t d) (suc size) p v (omega arith)
 
+pub some-coded : (t : List (List ℕ)) (d : List ℕ) (p v : ℕ) → 0 < length (coded t d p v)
+unfolding coded
+some-coded t d p v = some-digit (kids t d) size p v
+
+leaf-kids : (t : List (List ℕ)) (d : List ℕ) (p v : ℕ) → deg d v ≡ 1 → cell t v 0 ≡ p → kids t d p v ≡ []
+unfolding kids cells
+leaf-kids t d p v e b =
+    ap (λ i. but p (cells (getD t (v - 1) []) i)) e ∙ if-neg (Dec·not (ℕ-discrete (cell t v 0) p)) (λ n. n b) (cell t v 0 ∷ []) []
+
+leaf-coded : (t : List (List ℕ)) (d : List ℕ) (p v : ℕ) → deg d v ≡ 1 → cell t v 0 ≡ p → coded t d p v ≡ 0 ∷ []
+unfolding coded
+leaf-coded t d p v e b = no-child (kids t d) size p v (leaf-kids t d p v e b)
+
 pub call : (t : List (List ℕ)) (d : List ℕ) (p v left n : ℕ) (xs : List ℕ) → Rows t d v → left ≤ size → left ≤ length xs → length (coded t d p v) ≤ left
     → n ≡ getD d (v - 1) 0 → Call t d p v left n xs
 call t d p v left n xs r h l k e =
@@ -232,11 +272,17 @@ module _ {t : List (List ℕ)} {d : List ℕ} {p v left n : ℕ} {xs : List ℕ}
   pub small : n ≤ valence
   small = omega (arith, c .rows .degs v (c .rows .some) (c .rows .inside), c .degree)
 
+  -- a neighbour with one neighbour is a leaf
+  pub leaf-code : (j w : ℕ) → j < n → w ≡ cell t v j → deg d w ≡ 1 → coded t d v w ≡ 0 ∷ []
+  leaf-code j w h q e =
+      let b : cell t (cell t v j) 0 ≡ v = c .rows .back v j (c .rows .some) (c .rows .inside) (omega (arith, c .degree)) (ap (deg d) (sym q) ∙ e) in
+      leaf-coded t d v w e (ap (λ i. cell t i 0) q ∙ b)
+
   -- the row of v holds vertices
   pub inside : (j w : ℕ) → j < n → w ≡ getD (getD t (v - 1) []) j 0 → Rows t d w
   inside j w h q =
       let r = c .rows .row v j (c .rows .some) (c .rows .inside) (omega (arith, c .degree)) in
-      record { number = c .rows .number; few = c .rows .few; some = omega (arith, r .0); inside = omega (arith, r .1); degs = c .rows .degs; row = c .rows .row }
+      record { number = c .rows .number; few = c .rows .few; some = omega (arith, r .0); inside = omega (arith, r .1); degs = c .rows .degs; row = c .rows .row; back = c .rows .back }
 
   pub begin : (at rest : ℕ) (lens : List ℕ) → at ≡ length xs - left → rest ≡ left - 1 → length lens ≡ valence
       → Sofar (coded t d v) p (getD t (v - 1) []) n (at + 1) xs xs lens rest 0 0

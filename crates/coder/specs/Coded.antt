@@ -45,15 +45,23 @@ codeBy K (suc n) p v = join (map (codeBy K n v) (K p v))
 unfoldable pub coded : List (List ℕ) → List ℕ → ℕ → ℕ → List ℕ
 coded t d p v = codeBy (kids t d) (suc size) p v
 
--- v is a vertex, and the rows of vertices hold vertices, no more than the array has room for
+-- the number of v's neighbours, and the one in column j, by the table
+abbrev pub deg : List ℕ → ℕ → ℕ
+deg d v = getD d (v - 1) 0
+
+abbrev pub cell : List (List ℕ) → ℕ → ℕ → ℕ
+cell t v j = getD (getD t (v - 1) []) j 0
+
+-- v is a vertex; the rows of vertices hold vertices, no more than the array has room for; and a neighbour of u with one neighbour
+-- has u for it
 pub record Rows (t : List (List ℕ)) (d : List ℕ) (v : ℕ) : Type 0 where
   pub number : ℕ
   pub few : number ≤ size
   pub some : 1 ≤ v
   pub inside : v ≤ number
-  pub degs : (u : ℕ) → 1 ≤ u → u ≤ number → getD d (u - 1) 0 ≤ valence
-  pub row : (u j : ℕ) → 1 ≤ u → u ≤ number → j < getD d (u - 1) 0
-      → (1 ≤ getD (getD t (u - 1) []) j 0) × (getD (getD t (u - 1) []) j 0 ≤ number)
+  pub degs : (u : ℕ) → 1 ≤ u → u ≤ number → deg d u ≤ valence
+  pub row : (u j : ℕ) → 1 ≤ u → u ≤ number → j < deg d u → (1 ≤ cell t u j) × (cell t u j ≤ number)
+  pub back : (u j : ℕ) → 1 ≤ u → u ≤ number → j < deg d u → deg d (cell t u j) ≡ 1 → cell t (cell t u j) 0 ≡ u
 
 -- the codes L stand one behind the other before `a`, and their lengths begin lens
 pub record Stand (s lens : List ℕ) (i a : ℕ) (p : List ℕ) (L : List (List ℕ)) (q : List ℕ) : Type 0 where

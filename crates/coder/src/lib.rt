@@ -125,10 +125,19 @@ fn code(
         let w = neighbour(rows, v, j);
         j += 1;
         if w != parent {
-            let after = code(rows, degs, v, w, rest, out);
-            settle(out, &mut lens, k, out.len() - rest, out.len() - after);
-            rest = after;
-            k += 1;
+            if degree(degs, w) == 1 {
+                // A leaf has the smallest of all codes, which stays behind the others.
+                let end = out.len() - rest;
+                out[end] = 0;
+                lens[k] = 1;
+                rest -= 1;
+                k += 1;
+            } else {
+                let after = code(rows, degs, v, w, rest, out);
+                settle(out, &mut lens, k, out.len() - rest, out.len() - after);
+                rest = after;
+                k += 1;
+            }
         }
     }
     out[at] = k as u8;

@@ -1,7 +1,7 @@
 -- `coder::settle` meets its contract. Assumes nothing.
 use mathlib.Core.List.{_++_}
 use borrow.Author.Needs.{needs}
-use Rattle.coder.proofs.Settling.{idle, settled}
+use Rattle.coder.proofs.Settling.{idle, settled-part}
 use Rattle.coder.proofs.settle.Statement.{statement}
 use Rattle.coder.proofs.settle.Tie as tie
 
@@ -15,9 +15,9 @@ settle-spec =
     (λ c.
     let u = c .before .before .before .before .before in (
       u .spot .ensures .0 .1,
-      λ p d z L t h f. settled p d z L t _ h (u .spot .ensures .1 p (d ++ z) L t f) (c .before .before .exchange .ensures),
+      λ p d z L t h f. settled-part p d z L t _ h (u .spot .ensures .1 p (d ++ z) L t f) (c .before .before .exchange .ensures),
     ))
     (λ c. search needs)
     (λ c.
     let u = c .before in
-    (u .spot .ensures .0 .1, λ p d z L t h f. settled p d z L t _ h (u .spot .ensures .1 p (d ++ z) L t f) (idle _ _ _ _ (c .if1 .left)))))
+    (u .spot .ensures .0 .1, λ p d z L t h f. settled-part p d z L t _ h (u .spot .ensures .1 p (d ++ z) L t f) (idle _ _ _ _ (c .if1 .left)))))
