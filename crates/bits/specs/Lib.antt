@@ -1,0 +1,4 @@
+-- The bit-tuple of a rooted code, and its three carriers. Assumes nothing.
+pub mod Bits
+pub mod Ends
+pub mod Laws
