@@ -1,3 +1,4 @@
 -- Refusals, once, for every call of every crate. Assumes nothing.
 pub mod Table
 pub mod Outcome
+pub mod Laws

@@ -57,6 +57,6 @@ pub record Writes (Right : List ℕ → Type 0) (old : List ℕ) (n : ℕ) (new 
 abbrev pub Outside : ℕ → ℕ → Type 0
 Outside most v = (v ≡ 0) ⊎ (most < v)
 
--- 15: the lent output is too short; the place is the length needed
-abbrev pub row15 : ℕ → List ℕ → Row
-row15 need out = record { number = 15; applies = λ p. (p ≡ need) × (length out < need) }
+-- 15: the lent output, of the length `lent`, is too short; the place is the length needed
+abbrev pub row15 : ℕ → ℕ → Row
+row15 need lent = record { number = 15; applies = λ p. (p ≡ need) × (lent < need) }
