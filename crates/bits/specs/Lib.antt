@@ -2,3 +2,5 @@
 pub mod Bits
 pub mod Ends
 pub mod Laws
+pub mod Words
+pub mod Steps
