@@ -3,4 +3,6 @@ pub mod Bits
 pub mod Ends
 pub mod Laws
 pub mod Words
+pub mod Digit
 pub mod Steps
+pub mod Found

@@ -20,11 +20,7 @@ use Rattle.bits.specs.Bits.{bits, digitsFrom, cutFrom, whole, runs, row1
 use Rattle.bits.specs.Ends.{Open, sum-append, ends-more, open-none}
 use Rattle.bits.specs.Laws.{one-digit, no-digit, cut-ones, read-bits, cut-bits, bits-append, length-bits}
 use Rattle.bits.specs.Words.{lead}
-
--- r counts the ones that the bits begin with, as far as m bits show it
-pub record Near (m r : ℕ) (bs : List Bool) : Type 0 where
-  pub low : r ≤ lead bs
-  pub exact : r < m → r ≡ lead bs
+use Rattle.bits.specs.Digit.{Near}
 
 -- a run that a zero ends
 run-zero : (bs : List Bool) → lead bs < length bs → bs ≡ replicate (lead bs) true ++ (false ∷ drop (suc (lead bs)) bs)
@@ -46,7 +42,7 @@ first-run n [] = sym (add-zero n)
 first-run n (true ∷ bs) = first-run (suc n) bs ∙ rw (suc-add, add-suc)
 first-run n (false ∷ bs) = sym (add-zero n)
 
-cap-le : (R p : ℕ) → cap R p ≤ R
+pub cap-le : (R p : ℕ) → cap R p ≤ R
 cap-le R zero = le-refl R
 cap-le R (suc zero) = le-refl R
 cap-le R (suc (suc p)) = omega arith
