@@ -9,7 +9,7 @@ use native.Mathlib.Decide.{decLt, decLe}
 use native.Mathlib.Nat.{zero-add, add-assoc, le-refl}
 use native.Mathlib.Numerals.{sub-one}
 use native.Mathlib.Omega.{arith}
-use lib.ListN.{length, take, drop, getD, length-append}
+use lib.ListN.{length, take, drop, getD, length-append, take-append-drop}
 use lib.Seq.{take-append-le, take-length, length-take-le}
 use Rattle.refusal.specs.Table.{Clear}
 use Rattle.code.specs.Code.{sum, EndsAt, digit, cap, digitRows}
@@ -59,6 +59,12 @@ ends-part c ds {e} w h =
       less = rw take-append-le at (h .less);
       not-before = λ i l. let j : i ≤ length c = omega arith in rw (take-append-le i c ds j) at (h .not-before i l);
     }
+
+-- the digits up to the end
+pub first-end : {c : List ℕ} {e : ℕ} → EndsAt c e → EndsAt (take e c) (length (take e c))
+first-end {c} {e} h =
+    let n : length (take e c) ≡ e = length-take-le e c (h .within) in
+    rw n (ends-part (take e c) (drop e c) (rw n (le-refl e)) (rw take-append-drop h))
 
 -- digits that are open have no end among them
 pub open-none : {c : List ℕ} {n : ℕ} → Open c n → (e : ℕ) → EndsAt c e → n < e

@@ -6,3 +6,6 @@ pub mod Words
 pub mod Digit
 pub mod Steps
 pub mod Found
+pub mod Reading
+pub mod Answered
+pub mod Follow

@@ -1,13 +1,15 @@
 // The bit forms of a rooted code: packed bytes, a whole number, the 53 bits of a fraction.
 ghost use mathlib.Core.Path.{_≡_};
-ghost use Prim.Native.Nat.{_+_, _*_, _<_, _≤_};
+ghost use Prim.Native.Nat.{_+_, _-_, _*_, _^_, _<_, _≤_};
 ghost use lib.ListN.{length, getD, drop};
 ghost use Rattle.code.specs.Limits.{valence};
 ghost use Rattle.code.specs.Code.{cap};
-ghost use Rattle.bits.specs.Bits.{bytes, word};
+ghost use Rattle.bits.specs.Bits.{bytes, word, fractionBits, Fill, Nothing, Zeros};
 ghost use Rattle.bits.specs.Words.{lead};
 ghost use Rattle.bits.specs.Digit.{Near};
 ghost use Rattle.bits.specs.Found.{Scanned};
+ghost use Rattle.bits.specs.Answered.{Reading};
+use refusal::Answer;
 
 // What a reader of digits came to.
 pub enum Found {
@@ -103,4 +105,73 @@ pub fn word_digits(x: u64, len: usize, out: &mut [u8; 64]) -> Found
         }
     }
     Found::Short(n)
+}
+
+// The digits of a packed code, with rows 10 to 12.
+pub fn packed(s: &[u8], out: &mut [u8; 64]) -> Answer
+    requires { ⌜ (length (now s) ≤ 16) × (length (now out) ≡ 64) ⌝ }
+    ensures { λ r. ⌜ Reading valence Fill (bytes (now (s .entry))) (now (out .exit)) r ⌝ }
+{
+    match digits(s, out) {
+        Found::Over(p) => Answer::Refused(10, p),
+        Found::Short(n) => Answer::Refused(12, n),
+        Found::Ended(n) => {
+            if 2 * n + 7 <= 8 * s.len() {
+                return Answer::Refused(11, n + 1);
+            }
+            let last = s[s.len() - 1];
+            if last << ((2 * n - 1) % 8) == 0 {
+                return Answer::Done(n);
+            }
+            Answer::Refused(11, n + 1)
+        }
+    }
+}
+
+// The digits of a whole number with N = n beside it, with rows 10 to 12.
+pub fn number(n: usize, x: u64, out: &mut [u8; 64]) -> Answer
+    requires { ⌜ (1 ≤ n) × ((n ≤ 32) × (length (now out) ≡ 64)) ⌝ }
+    ensures { λ r. ⌜ Reading valence Nothing (word (2 * n - 1) x) (now (out .exit)) r ⌝ }
+{
+    match word_digits(x, 2 * n - 1, out) {
+        Found::Over(p) => Answer::Refused(10, p),
+        Found::Short(e) => Answer::Refused(12, e),
+        Found::Ended(e) => {
+            if e < n {
+                return Answer::Refused(11, e + 1);
+            }
+            Answer::Done(e)
+        }
+    }
+}
+
+// The digits of the len lowest bits of x, behind which only zeros may follow, with rows 10 to 12.
+fn zeros_behind(x: u64, len: usize, out: &mut [u8; 64]) -> Answer
+    requires { ⌜ (len ≤ 64) × (length (now out) ≡ 64) ⌝ }
+    ensures { λ r. ⌜ Reading valence Zeros (word len x) (now (out .exit)) r ⌝ }
+{
+    match word_digits(x, len, out) {
+        Found::Over(p) => Answer::Refused(10, p),
+        Found::Short(n) => Answer::Refused(12, n),
+        Found::Ended(n) => {
+            if len < 2 * n {
+                return Answer::Done(n);
+            }
+            if x << (64 - len + (2 * n - 1)) == 0 {
+                return Answer::Done(n);
+            }
+            Answer::Refused(11, n + 1)
+        }
+    }
+}
+
+// The digits of the 53 bits of a fraction, with rows 10 to 12; `rest`: there is a rest other than zero behind them.
+pub fn fraction(x: u64, rest: bool, out: &mut [u8; 64]) -> Answer
+    requires { ⌜ (x < 2 ^ 53) × (length (now out) ≡ 64) ⌝ }
+    ensures { λ r. ⌜ Reading valence Zeros (fractionBits x rest) (now (out .exit)) r ⌝ }
+{
+    if rest {
+        return zeros_behind(2 * x + 1, 54, out);
+    }
+    zeros_behind(x, 53, out)
 }
