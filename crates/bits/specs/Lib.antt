@@ -9,3 +9,6 @@ pub mod Found
 pub mod Reading
 pub mod Answered
 pub mod Follow
+pub mod Written
+pub mod Writing
+pub mod Packing

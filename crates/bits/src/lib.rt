@@ -1,6 +1,6 @@
 // The bit forms of a rooted code: packed bytes, a whole number, the 53 bits of a fraction.
 ghost use mathlib.Core.Path.{_≡_};
-ghost use Prim.Native.Nat.{_+_, _-_, _*_, _^_, _<_, _≤_};
+ghost use Prim.Native.Nat.{_+_, _-_, _*_, _/_, _^_, _<_, _≤_};
 ghost use lib.ListN.{length, getD, drop};
 ghost use Rattle.code.specs.Limits.{valence};
 ghost use Rattle.code.specs.Code.{cap};
@@ -9,6 +9,9 @@ ghost use Rattle.bits.specs.Words.{lead};
 ghost use Rattle.bits.specs.Digit.{Near};
 ghost use Rattle.bits.specs.Found.{Scanned};
 ghost use Rattle.bits.specs.Answered.{Reading};
+ghost use Rattle.bits.specs.Written.{Coded, Packs, Numbers};
+ghost use Rattle.bits.specs.Writing.{Room};
+ghost use Rattle.refusal.specs.Table.{Writes};
 use refusal::Answer;
 
 // What a reader of digits came to.
@@ -174,4 +177,58 @@ pub fn fraction(x: u64, rest: bool, out: &mut [u8; 64]) -> Answer
         return zeros_behind(2 * x + 1, 54, out);
     }
     zeros_behind(x, 53, out)
+}
+
+// x with the digit k, k ones and a zero, behind its bits.
+fn append(x: u64, k: u64) -> u64
+    requires { ⌜ Room k x ⌝ }
+    ensures { λ r. ⌜ r ≡ x * 2 ^ (k + 1) + (2 ^ (k + 1) - 2) ⌝ }
+{
+    (x << (k + 1)) + ((1u64 << (k + 1)) - 2)
+}
+
+// The digit i of a code.
+fn digit(code: &[u8], i: usize) -> u64
+    requires { ⌜ i < length (now code) ⌝ }
+    ensures { λ r. ⌜ r ≡ getD (now (code .entry)) i 0 ⌝ }
+{
+    code[i] as u64
+}
+
+// The whole number of a code.
+pub fn number_of(code: &[u8]) -> u64
+    requires { ⌜ Coded valence 32 (now code) ⌝ }
+    ensures { λ r. ⌜ Numbers (now (code .entry)) r ⌝ }
+{
+    let mut x: u64 = 0;
+    let mut i: usize = 0;
+    while i < code.len() {
+        x = append(x, digit(code, i));
+        i += 1;
+    }
+    x
+}
+
+// The packed form of a code, at the start of out; how many bytes it has. The c lowest bits of a are still to be written.
+pub fn pack(code: &[u8], out: &mut [u8]) -> usize
+    requires { ⌜ Coded valence 64 (now code) × ((2 * length (now code) + 6) / 8 ≤ length (now out)) ⌝ }
+    ensures { λ r. ⌜ Writes (Packs (now (code .entry))) (now (out .entry)) r (now (out .exit)) ⌝ }
+{
+    let mut a: u64 = 0;
+    let mut c: u64 = 0;
+    let mut m: usize = 0;
+    let mut i: usize = 0;
+    while i < code.len() {
+        let k = digit(code, i);
+        a = append(a % 256, k);
+        c += k + 1;
+        i += 1;
+        if 8 <= c {
+            c -= 8;
+            out[m] = ((a >> c) % 256) as u8;
+            m += 1;
+        }
+    }
+    out[m] = ((a << (8 - c)) % 256) as u8;
+    m + 1
 }
