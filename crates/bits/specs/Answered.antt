@@ -21,7 +21,7 @@ use Rattle.bits.specs.Bits.{bits, whole, after, row10, row11, endRows, b
 use Rattle.bits.specs.Ends.{one-end, end-sum, first-end}
 use Rattle.bits.specs.Laws.{length-bits, after-end}
 use Rattle.bits.specs.Found.{Finds, over, short, ended, Scanned}
-use Rattle.bits.specs.Reading.{carries-end, carried-alike, alike-answers}
+use Rattle.bits.specs.Reading.{more-lowest, carries-end, carried-alike, alike-answers}
 
 -- the n digits in out end a code, the bits carry it, and none of rows 10 to 12 applies
 pub record Accepted (R : ℕ) (May : List Bool → Type 0) (bs : List Bool) (out : List ℕ) (n : ℕ) : Type 0 where
@@ -104,9 +104,7 @@ module _ {R : ℕ} (May : List Bool → Type 0) {bs : List Bool} {out : List ℕ
     -- more follows than may
     pub answer-more : (May (after bs n) → ⊥) → Reading R May bs out (Refused 11 (n + 1))
     answer-more m =
-        let z : n + 1 - 1 ≡ n = omega arith in
-        let f = first-place {r = row11 May bs} {p = n + 1} (rw z end-at, rw z m) (λ q l a. omega (arith, eleven q a)) in
-        record { answer = refused (lowest-front (row12 (whole bs) ∷ []) refl (lowest-back (was-ended (s .finds) e .0) f)); size = s .size }
+        record { answer = refused (more-lowest R May bs (was-ended (s .finds) e .0) end-at m); size = s .size }
 
     -- what follows may follow
     pub answer-read : May (after bs n) → Reading R May bs out (Done n)

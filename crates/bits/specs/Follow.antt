@@ -2,10 +2,11 @@
 --
 -- In order: the low bits of a word; a whole number or fraction; a packed code. Assumes nothing.
 use mathlib.Core.Path.{_≡_, refl, sym, ap, _∙_}
-use mathlib.Core.Bool.{Bool, true, false}
+use mathlib.Core.Bool.{Bool, true, false, true≢false}
 use mathlib.Core.List.{List, [], _∷_, _++_, append-nil}
 use Prim.Native.Nat.{ℕ, zero, suc, _+_, _-_, _*_, _/_, _%_, _^_, _≤_, _<_}
 use native.Mathlib.Nat.{mod-lt, mod-mod, zero-mod, mul-comm}
+use native.Mathlib.Decide.{decLt}
 use native.Mathlib.Omega.{arith}
 use lib.Dec.{lit<}
 use lib.Pow.{pow-pos}
@@ -110,3 +111,26 @@ module _ (s : List ℕ) (e : ℕ) (o : 1 ≤ e) (h : 2 * e ≤ 8 * length s + 1)
         let k : 8 - r + r ≡ 8 = omega arith in
         let w : word (8 - r) x ≡ replicate (8 - r) false = rw (last, length-word) at (f .0) in
         n (rw k at (low-zeros (8 - r) r x w))
+
+-- ---- which it is
+
+pub dec-zeros : (fs : List Bool) → Dec (Zeros fs)
+dec-zeros [] = yes refl
+dec-zeros (true ∷ fs) = no (λ e. true≢false (ap (λ (l : List Bool). getD l 0 true) e))
+dec-zeros (false ∷ fs) = go (dec-zeros fs)
+  where
+    go : Dec (Zeros fs) → Dec (Zeros (false ∷ fs))
+    go (yes e) = yes (ap {B = List Bool} (λ l. false ∷ l) e)
+    go (no n) = no (λ e. n (ap (drop 1) e))
+
+pub dec-fill : (fs : List Bool) → Dec (Fill fs)
+dec-fill fs = go (dec-zeros fs) (decLt (length fs) 8)
+  where
+    go : Dec (Zeros fs) → Dec (length fs < 8) → Dec (Fill fs)
+    go (yes z) (yes l) = yes (z, l)
+    go (yes z) (no l) = no (λ f. l (f .1))
+    go (no z) l = no (λ f. z (f .0))
+
+pub dec-nothing : (fs : List Bool) → Dec (Nothing fs)
+dec-nothing [] = yes refl
+dec-nothing (b ∷ fs) = no (λ e. omega (arith, ap length e))

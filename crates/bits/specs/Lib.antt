@@ -12,3 +12,4 @@ pub mod Follow
 pub mod Written
 pub mod Writing
 pub mod Packing
+pub mod Examples

@@ -12,11 +12,11 @@ use native.Mathlib.Nat.{le-refl}
 use native.Mathlib.Omega.{arith}
 use lib.ListN.{length, take, getD, length-append, List·getD-append}
 use Rattle.refusal.specs.Table.{Row, Applies, Clear, Lowest, Answers, passes, fails}
-use Rattle.refusal.specs.Laws.{never}
+use Rattle.refusal.specs.Laws.{clear-one, first-place, lowest-front, lowest-back}
 use Rattle.refusal.specs.declared.Check.{Check}
 use Rattle.code.specs.Code.{EndsAt, Larger, digit, cap, row12, digitRows}
 use Rattle.code.specs.Code as code
-use Rattle.bits.specs.Bits.{bits, whole, runs, after, row10, row11, row13, bitRows, Carries, Reads}
+use Rattle.bits.specs.Bits.{bits, whole, runs, after, row10, row11, row13, endRows, bitRows, Carries, Reads}
 use Rattle.bits.specs.Ends.{Open, one-end, open-none, end-or-open, first-end, right-ends}
 use Rattle.bits.specs.Laws.{read-bits, cut-bits, after-end, after-code, code-ends, code-read, one-code}
 
@@ -99,6 +99,15 @@ module _ (c : List ℕ) (fs : List Bool) (h : EndsAt c (length c)) where
       from k p (inr (inr (inl a))) = absurd (never-cut p (a .1))
       from k p (inr (inr (inr (inl a)))) = inr (inr (inr (inl (a .0, thirteen-digits p (a .1)))))
 
+-- where more follows the end than may, and no digit is above its cap, 11 is given at the next digit's number
+pub more-lowest :
+    (R : ℕ) (May : List Bool → Type 0) (bs : List Bool) {n : ℕ} → Clear (row10 R bs ∷ []) → EndsAt (whole bs) n → (May (after bs n) → ⊥)
+    → Lowest (endRows R May bs) 11 (n + 1)
+more-lowest R May bs {n} c w m =
+    let z : n + 1 - 1 ≡ n = omega arith in
+    lowest-front (row12 (whole bs) ∷ []) refl
+    (lowest-back c (first-place {r = row11 May bs} {p = n + 1} (rw z w, rw z m) (λ q l a. omega (arith, one-end (a .0) w, w .less))))
+
 -- up to its end, what is read is carried, and what follows it may follow
 pub carries-end : {May : List Bool → Type 0} {bs : List Bool} {e : ℕ} → EndsAt (whole bs) e → May (after bs e) → Carries May bs (take e (whole bs))
 carries-end {bs = bs} {e} w m = record { fill = after bs e; same = after-end w; may = m }
@@ -138,3 +147,11 @@ one-reading {c = c} {d} r q =
     let a = r .carries in
     let b = q .carries in
     one-code c d (a .fill) (b .fill) (right-ends c (r .right)) (right-ends d (q .right)) (sym (a .same) ∙ b .same)
+
+-- bits that begin with a code whose digits are within their caps, and go on as May does not allow, are refused 11 behind it
+pub more-refused :
+    (R : ℕ) (May : List Bool → Type 0) (c : List ℕ) (fs : List Bool) → EndsAt c (length c) → ((p : ℕ) → code.row10 R c .applies p → ⊥)
+    → (May fs → ⊥) → Lowest (bitRows R May (bits c ++ fs)) 11 (length c + 1)
+more-refused R May c fs h s m =
+    lowest-front (row13 (bits c ++ fs) ∷ []) refl
+    (more-lowest R May (bits c ++ fs) (clear-one (λ p a. s p (ten-digits c fs h R p a))) (code-ends fs h) (rw (after-code c fs h) m))
