@@ -1,5 +1,5 @@
 -- Document 01, "Codes", on the digits alone: where a rooted code ends, the children's codes in it, and the edges that it decodes to;
--- then rows 3 and 10 to 13 of "Refusal numbers" for a digit code lent by itself.
+-- then rows 10 to 13 of "Refusal numbers" for a digit code lent by itself.
 --
 -- What the rooted code of a skeleton is, and that a right digit code is one, is in the crate `tree`. Assumes nothing.
 use mathlib.Core.Path.{_≡_}
@@ -8,7 +8,7 @@ use mathlib.Core.List.{List, [], _∷_, _++_, flatten}
 use Prim.Native.Nat.{ℕ, zero, suc, _+_, _-_, _*_, _≤_, _<_}
 use lib.ListN.{length, getD, take, drop, replicate}
 use Rattle.laws.specs.Order.{_≽_}
-use Rattle.refusal.specs.Table.{Row, Outside, row15}
+use Rattle.refusal.specs.Table.{Row, row3}
 
 -- digit number p, from 1
 abbrev pub digit : List ℕ → ℕ → ℕ
@@ -51,18 +51,18 @@ cap R zero = R
 cap R (suc zero) = R
 cap R (suc (suc p)) = R - 1
 
+-- of the children of digit v, the one whose code begins at digit p has a larger code than the sibling before it
+pub record LargerOf (c : List ℕ) (v p : ℕ) : Type 0 where
+  pub before : ℕ
+  pub siblings : suc before < length (childCodes c v)
+  pub larger : getD (childCodes c v) before [] ≽ getD (childCodes c v) (suc before) [] → ⊥
+  pub begins : p ≡ v + 1 + length (flatten (take (suc before) (childCodes c v)))
+
 -- at digit p begins a child's code that is larger than that of the sibling before it
 pub record Larger (c : List ℕ) (p : ℕ) : Type 0 where
   pub parent : ℕ
-  pub before : ℕ
   pub some : 1 ≤ parent
-  pub siblings : suc before < length (childCodes c parent)
-  pub larger : getD (childCodes c parent) before [] ≽ getD (childCodes c parent) (suc before) [] → ⊥
-  pub begins : p ≡ parent + 1 + length (flatten (take (suc before) (childCodes c parent)))
-
--- 3: a digit code lent by itself is empty or over `most`
-abbrev pub row3 : ℕ → List ℕ → Row
-row3 most c = record { number = 3; applies = λ p. (p ≡ 0) × Outside most (length c) }
+  pub child : LargerOf c parent p
 
 -- 10: a digit is above R at the root or above R - 1 elsewhere; the place is the digit
 abbrev pub row10 : ℕ → List ℕ → Row
@@ -84,6 +84,6 @@ row13 c = record { number = 13; applies = λ p. Larger c p }
 abbrev pub digitRows : ℕ → List ℕ → List Row
 digitRows R c = row10 R c ∷ row11 c ∷ row12 c ∷ row13 c ∷ []
 
--- what is refused of a digit code lent by itself
+-- what is refused of a digit code lent by itself, which 3 does where it is empty or over `most`
 abbrev pub codeRows : ℕ → ℕ → List ℕ → List Row
-codeRows most R c = row3 most c ∷ digitRows R c
+codeRows most R c = row3 most (length c) ∷ digitRows R c

@@ -2,4 +2,10 @@
 pub mod Limits
 pub mod Code
 pub mod Ends
+pub mod Counting
+pub mod Ordered
+pub mod Parts
+pub mod Siblings
+pub mod Search
+pub mod Compare
 pub mod Examples

@@ -1,1 +1,212 @@
-// Rooted digit codes.
+// Rooted digit codes: the comparer, the check of a digit code, and decoding.
+use refusal::Check;
+ghost use mathlib.Core.Path.{_≡_};
+ghost use mathlib.Core.List.{[], _∷_};
+ghost use Prim.Native.Nat.{ℕ, suc, _≤_, _<_};
+ghost use lib.ListN.{length};
+ghost use Rattle.refusal.specs.Table.{Answers, row3};
+ghost use Rattle.code.specs.Limits.{size, valence};
+ghost use Rattle.code.specs.Code.{cap, row10, row11, row12, row13, codeRows};
+ghost use Rattle.code.specs.Ends.{Ends};
+ghost use Rattle.code.specs.Parts.{Ending};
+ghost use Rattle.code.specs.Compare.{lex, Falls};
+ghost use Rattle.code.specs.Search.{Known, FirstOf, Lower};
+
+// How one code stands to another in the dictionary.
+pub enum Order {
+    Less,
+    Equal,
+    Greater,
+}
+
+// Two codes, each where it stands: parts of a code buffer that may start in its middle.
+pub fn compare(a: &[u8], b: &[u8]) -> Order
+    ensures { λ r. ⌜ r ≡ lex (now (a .entry)) (now (b .entry)) ⌝ }
+{
+    let mut i = 0;
+    while i < a.len() {
+        if b.len() <= i {
+            return Order::Greater;
+        }
+        let x = a[i];
+        let y = b[i];
+        if x < y {
+            return Order::Less;
+        }
+        if y < x {
+            return Order::Greater;
+        }
+        i += 1;
+    }
+    if i < b.len() {
+        return Order::Less;
+    }
+    Order::Equal
+}
+
+// Whether a stands at or after b in the dictionary.
+pub fn falls(a: &[u8], b: &[u8]) -> bool
+    ensures { λ r. ⌜ Falls (now (a .entry)) (now (b .entry)) r ⌝ }
+{
+    match compare(a, b) {
+        Order::Less => false,
+        Order::Equal => true,
+        Order::Greater => true,
+    }
+}
+
+// 3: empty, or over 64 digits.
+fn sized(code: &[u8]) -> Check
+    ensures { λ r. ⌜ Answers (row3 size (length (now (code .entry))) ∷ []) r ⌝ }
+{
+    if code.len() == 0 {
+        return Check::Refuse(3, 0);
+    }
+    if 64 < code.len() {
+        return Check::Refuse(3, 0);
+    }
+    Check::Passed
+}
+
+// The most that digit number p may be.
+fn top(p: usize) -> u8
+    ensures { λ r. ⌜ r ≡ cap valence p ⌝ }
+{
+    if p <= 1 { 4 } else { 3 }
+}
+
+// 10: a digit above its cap, those behind the code's end too.
+pub fn capped(code: &[u8]) -> Check
+    ensures { λ r. ⌜ Answers (row10 valence (now (code .entry)) ∷ []) r ⌝ }
+{
+    let mut p = 1;
+    while p <= code.len() {
+        if top(p) < code[p - 1] {
+            return Check::Refuse(10, p);
+        }
+        p += 1;
+    }
+    Check::Passed
+}
+
+// 11 and 12: the code ends before the digits do, or not at all. `open` counts the places that are still to be filled.
+pub fn ended(code: &[u8]) -> Check
+    requires { ⌜ length (now code) ≤ size ⌝ }
+    ensures { λ r. ⌜ Answers (row11 (now (code .entry)) ∷ row12 (now (code .entry)) ∷ []) r ⌝ }
+{
+    let mut open: usize = 1;
+    let mut i = 0;
+    while i < code.len() {
+        open = open - 1 + code[i] as usize;
+        i += 1;
+        if open == 0 {
+            if i < code.len() {
+                return Check::Refuse(11, i + 1);
+            }
+            return Check::Passed;
+        }
+    }
+    Check::Refuse(12, i)
+}
+
+// Where the part that begins at digit i ends, from where those behind it do.
+fn end_of(code: &[u8], ends: &[u8], i: usize) -> usize
+    requires { ⌜ Known (now code) (now ends) (suc i) ⌝ }
+    requires { ⌜ i < length (now code) ⌝ }
+    ensures { λ r. ⌜ Ending (now (code .entry)) i r ⌝ }
+{
+    let k = code[i];
+    let mut e = i + 1;
+    let mut m = 0;
+    while m < k {
+        e = ends[e] as usize;
+        m += 1;
+    }
+    e
+}
+
+// Where each part ends.
+pub fn ends_of(code: &[u8], ends: &mut [u8])
+    requires { ⌜ Ends 1 (now code) ⌝ }
+    requires { ⌜ length (now code) ≤ size ⌝ }
+    requires { ⌜ length (now ends) ≡ size ⌝ }
+    ensures { λ _. ⌜ Known (now (code .entry)) (now (ends .exit)) 0 ⌝ }
+{
+    let mut i = code.len();
+    while 0 < i {
+        i -= 1;
+        let e = end_of(code, ends, i);
+        ends[i] = e as u8;
+    }
+}
+
+// The first digit of the first child of digit i that is larger than the sibling before it, by the digit's number; 0 where none is.
+fn larger_of(code: &[u8], ends: &[u8], i: usize) -> usize
+    requires { ⌜ Known (now code) (now ends) 0 ⌝ }
+    requires { ⌜ i < length (now code) ⌝ }
+    ensures { λ r. ⌜ FirstOf (now (code .entry)) (suc i) r ⌝ }
+{
+    let k = code[i];
+    let mut a = i + 1;
+    let mut m = 1;
+    while m < k {
+        let b = ends[a] as usize;
+        let e = ends[b] as usize;
+        if !falls(&code[a..b], &code[b..e]) {
+            return b + 1;
+        }
+        a = b;
+        m += 1;
+    }
+    0
+}
+
+// The lower of two places, where 0 is none.
+fn lower(a: usize, b: usize) -> usize
+    ensures { λ r. ⌜ Lower a b r ⌝ }
+{
+    if a == 0 {
+        return b;
+    }
+    if b == 0 {
+        return a;
+    }
+    if a < b { a } else { b }
+}
+
+// 13: a child's code larger than that of the sibling before it.
+pub fn ordered(code: &[u8]) -> Check
+    requires { ⌜ Ends 1 (now code) ⌝ }
+    requires { ⌜ length (now code) ≤ size ⌝ }
+    ensures { λ r. ⌜ Answers (row13 (now (code .entry)) ∷ []) r ⌝ }
+{
+    let mut ends = [0u8; 64];
+    ends_of(code, &mut ends);
+    let mut best = 0;
+    let mut i = 0;
+    while i < code.len() {
+        let p = larger_of(code, &ends, i);
+        best = lower(best, p);
+        i += 1;
+    }
+    if best == 0 {
+        return Check::Passed;
+    }
+    Check::Refuse(13, best)
+}
+
+// A digit code lent by itself: 3, 10, 11, 12 and 13.
+pub fn check(code: &[u8]) -> Check
+    ensures { λ r. ⌜ Answers (codeRows size valence (now (code .entry))) r ⌝ }
+{
+    if let Check::Refuse(k, p) = sized(code) {
+        return Check::Refuse(k, p);
+    }
+    if let Check::Refuse(k, p) = capped(code) {
+        return Check::Refuse(k, p);
+    }
+    if let Check::Refuse(k, p) = ended(code) {
+        return Check::Refuse(k, p);
+    }
+    ordered(code)
+}

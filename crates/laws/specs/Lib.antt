@@ -1,4 +1,8 @@
 -- Laws of lists that more than one crate cites. Assumes nothing.
 pub mod Order
+pub mod Sorting
 pub mod Laid
 pub mod Perms
+pub mod Once
+pub mod Places
+pub mod Part

@@ -14,7 +14,7 @@ use borrow.Author.Tests.{ltb-true}
 use Rattle.laws.specs.Laid.{laidOver}
 use Rattle.refusal.specs.declared.Check.{Check}
 use Rattle.refusal.specs.declared.Check.the-variants.{Passed, Refuse}
-use Rattle.refusal.specs.Table.{Row, Applies, Clear, Lowest, Answers, passes, fails, Outcome, gives, refuses, Promise, kept, left, Writes, row15}
+use Rattle.refusal.specs.Table.{Row, Applies, Clear, Lowest, Answers, passes, fails, Outcome, gives, refuses, Promise, kept, left, Writes, row3, row15}
 
 -- ---- one answer
 
@@ -165,7 +165,14 @@ pub goes-on : {xs ys : List Row} {a b : Check} → Answers xs a → a ≡ Passed
 goes-on h e (passes c) = passes (clear-both (was-clear h e) c)
 goes-on h e (fails l) = fails (lowest-back (was-clear h e) l)
 
--- ---- the lent output
+-- ---- rows 3 and 15
+
+-- where 3 does not apply, the number is at least 1 and at most `most`
+pub at-most : {most n : ℕ} {rs : List Row} → Clear (row3 most n ∷ rs) → n ≤ most
+at-most {most} {n} c = let z : most < n → ⊥ = λ l. never c 0 (refl, inr l) in omega arith
+
+pub at-least : {most n : ℕ} {rs : List Row} → Clear (row3 most n ∷ rs) → 1 ≤ n
+at-least {most} {n} c = let z : n ≡ 0 → ⊥ = λ e. never c 0 (refl, inl e) in omega arith
 
 -- 15 applies nowhere where the output has room
 pub room : {need lent : ℕ} → need ≤ lent → Clear (row15 need lent ∷ [])

@@ -57,6 +57,10 @@ pub record Writes (Right : List ℕ → Type 0) (old : List ℕ) (n : ℕ) (new 
 abbrev pub Outside : ℕ → ℕ → Type 0
 Outside most v = (v ≡ 0) ⊎ (most < v)
 
+-- 3: a number, N or a length, is 0 or above `most`
+abbrev pub row3 : ℕ → ℕ → Row
+row3 most n = record { number = 3; applies = λ p. (p ≡ 0) × Outside most n }
+
 -- 15: the lent output, of the length `lent`, is too short; the place is the length needed
 abbrev pub row15 : ℕ → ℕ → Row
 row15 need lent = record { number = 15; applies = λ p. (p ≡ need) × (lent < need) }

@@ -1,0 +1,2 @@
+-- The forms of a code: N-tuple and centred. Assumes nothing.
+pub mod Form

@@ -1,0 +1,1 @@
+// The N-tuple code, the centre, the centred code and the verdict.

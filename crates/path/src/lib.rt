@@ -1,0 +1,1 @@
+// Paths of a skeleton and its centre: definitions and theorems, in specs/. No code stands here.
