@@ -7,21 +7,23 @@ use mathlib.Core.Bool.{Bool}
 use mathlib.Core.List.{List, [], _∷_, _++_}
 use Prim.Native.Nat.{ℕ, zero, suc, _+_, _-_, _*_, _≤_, _<_}
 use native.Mathlib.Omega.{arith}
-use lib.ListN.{length, take, length-append}
+use lib.ListN.{length, take, length-append, length-take}
 use lib.Seq.{length-take-le}
-use Rattle.refusal.specs.Table.{Row, Clear, Lowest, Answers}
-use Rattle.refusal.specs.Laws.{clear-one, clear-both, first-place, lowest-front, lowest-back}
+use Rattle.refusal.specs.Table.{Row, Clear, Lowest, Answers, passes}
+use Rattle.refusal.specs.Laws.{clear-one, clear-both, first-place, lowest-front, lowest-back, goes-on}
 use Rattle.refusal.specs.declared.Answer.{Answer}
 use Rattle.refusal.specs.declared.Answer.the-variants.{Done, Refused}
 use Rattle.refusal.specs.declared.Check.{Check}
 use Rattle.code.specs.Code.{EndsAt, row12, digitRows}
+use Rattle.code.specs.Code as code
+use Rattle.code.specs.Counting.{one-end}
 use Rattle.bits.specs.declared.Found.{Found}
 use Rattle.bits.specs.declared.Found.the-variants.{Over, Short, Ended}
 use Rattle.bits.specs.Bits.{bits, whole, after, row10, row11, endRows, bitRows, Carries}
-use Rattle.bits.specs.Ends.{one-end, end-sum, first-end}
+use Rattle.bits.specs.Ends.{end-sum, first-end}
 use Rattle.bits.specs.Laws.{length-bits, after-end}
 use Rattle.bits.specs.Found.{Finds, over, short, ended, Scanned}
-use Rattle.bits.specs.Reading.{more-lowest, carries-end, carried-alike, alike-answers}
+use Rattle.bits.specs.Reading.{more-lowest, carries-end, carried-alike, alike-answers, siblings-alike}
 
 -- the n digits in out end a code, the bits carry it, and none of rows 10 to 12 applies
 pub record Accepted (R : ℕ) (May : List Bool → Type 0) (bs : List Bool) (out : List ℕ) (n : ℕ) : Type 0 where
@@ -29,6 +31,7 @@ pub record Accepted (R : ℕ) (May : List Bool → Type 0) (bs : List Bool) (out
   pub carries : Carries May bs (take n out)
   pub ends : EndsAt (take n out) (length (take n out))
   pub count : length (take n out) ≡ n
+  pub room : n ≤ length out
 
 -- the answer, with out what the reader has written
 pub data Answered (R : ℕ) (May : List Bool → Type 0) (bs : List Bool) (out : List ℕ) : Answer → Type 0 where
@@ -45,6 +48,14 @@ pub answer-digits
     : {R n : ℕ} {May : List Bool → Type 0} {bs : List Bool} {out : List ℕ} {a : Check} → Accepted R May bs out n
     → Answers (digitRows R (take n out)) a → Answers (bitRows R May bs) a
 answer-digits {R} t h = alike-answers (carried-alike R (t .carries) (t .ends)) h
+
+-- and where only the order of siblings is still to be judged, what is refused of that
+pub answer-ordered
+    : {R n : ℕ} {May : List Bool → Type 0} {bs : List Bool} {out : List ℕ} {a : Check} → Accepted R May bs out n
+    → Answers (code.row13 (take n out) ∷ []) a → Answers (bitRows R May bs) a
+answer-ordered {n = n} {out = out} t h =
+    let k = t .carries in
+    goes-on (passes (t .clear)) refl (rw (k .same) (alike-answers (siblings-alike (take n out) (k .fill) (t .ends)) h))
 
 -- ---- what was found, as a caller learns it
 
@@ -111,6 +122,7 @@ module _ {R : ℕ} (May : List Bool → Type 0) {bs : List Bool} {out : List ℕ
     answer-read m =
         let t = was-ended (s .finds) e in
         let z : n + 1 - 1 ≡ n = omega arith in
+        let count : length (take n out) ≡ n = rw (t .2) (length-take-le n (whole bs) (end-at .within)) in
         let more : Clear (row11 May bs ∷ []) = clear-one (λ p a. rw (eleven p a, z) at (a .1) m) in
         let cut : Clear (row12 (whole bs) ∷ []) = clear-one (λ p a. a .1 n end-at) in
         record {
@@ -120,7 +132,8 @@ module _ {R : ℕ} (May : List Bool → Type 0) {bs : List Bool} {out : List ℕ
                 clear = clear-both (t .0) (clear-both more cut);
                 carries = rw (t .2) (carries-end end-at m);
                 ends = rw (t .2) (first-end end-at);
-                count = rw (t .2) (length-take-le n (whole bs) (end-at .within));
+                count = count;
+                room = omega (arith, length-take n out);
               });
           size = s .size;
         }

@@ -9,7 +9,7 @@ use mathlib.Core.Bool.{Bool, true, false}
 use mathlib.Core.List.{List, [], _∷_, _++_}
 use Prim.Native.Nat.{ℕ, zero, suc, _-_, _*_, _/_, _%_, _^_, _≤_, _<_}
 use lib.ListN.{length, take, drop, replicate}
-use Rattle.refusal.specs.Table.{Row, Clear, Outside}
+use Rattle.refusal.specs.Table.{Row, Clear, row3}
 use Rattle.code.specs.Code.{EndsAt, Larger, digit, cap, row12, digitRows}
 
 -- "Digit k becomes k ones and a zero"
@@ -73,10 +73,6 @@ Fill fs = Zeros fs × (length fs < 8)
 -- "a whole number may have no further bit"
 abbrev pub Nothing : List Bool → Type 0
 Nothing fs = fs ≡ []
-
--- 3: N is 0 or above the form's own limit
-abbrev pub row3 : ℕ → ℕ → Row
-row3 most n = record { number = 3; applies = λ p. (p ≡ 0) × Outside most n }
 
 -- 4: a whole number is outside its form's range
 abbrev pub row4 : ℕ → ℕ → Row

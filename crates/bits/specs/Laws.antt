@@ -11,8 +11,9 @@ use native.Mathlib.Omega.{arith}
 use lib.ListN.{length, take, drop, replicate, length-append, length-replicate}
 use lib.Seq.{take-append-seam, drop-append-seam, take-length, length-take-le}
 use Rattle.code.specs.Code.{sum, EndsAt}
+use Rattle.code.specs.Counting.{one-end}
 use Rattle.bits.specs.Bits.{bits, digitsFrom, cutFrom, whole, after}
-use Rattle.bits.specs.Ends.{end-sum, one-end, ends-more, ends-part}
+use Rattle.bits.specs.Ends.{end-sum, ends-more}
 
 -- ones and a zero behind n ones that are passed make one digit
 pub one-digit : (n k : ℕ) (bs : List Bool) → digitsFrom n (replicate k true ++ (false ∷ bs)) ≡ (n + k) ∷ whole bs

@@ -15,12 +15,13 @@ use lib.Seq.{take-suc-set, drop-set-lt, drop-drop, take-all, take-length, length
 use Rattle.laws.specs.Laid.{laidOver}
 use Rattle.refusal.specs.Table.{Writes}
 use Rattle.code.specs.Code.{sum, EndsAt}
+use Rattle.code.specs.Counting.{sum-more}
 use Rattle.bits.specs.Bits.{bits, word, bytes, Carries}
 use Rattle.bits.specs.Ends.{end-sum}
 use Rattle.bits.specs.Laws.{length-bits}
 use Rattle.bits.specs.Words.{length-word, word-shift, bytes-append, length-bytes}
 use Rattle.bits.specs.Written.{Coded, Bytes, Packs}
-use Rattle.bits.specs.Writing.{Room, word-append, word-less, word-byte, bits-take, sum-take, sum-within}
+use Rattle.bits.specs.Writing.{Room, word-append, word-less, word-byte, bits-take, sum-within}
 
 more-below : (s : List ℕ) (v : ℕ) → ((i : ℕ) → getD s i 0 < 256) → v < 256 → (i : ℕ) → getD (s ++ (v ∷ [])) i 0 < 256
 more-below [] v b l zero = l
@@ -99,7 +100,7 @@ module _ {d old out : List ℕ} {i m c a : ℕ} (s : Packing d old out i m c a) 
           record { short = omega arith; below = lt-of-lt-of-le (mod-lt a (lit< tt)) (pow-mono p) }
 
       pub pack-byte : 8 ≤ c + (getD d i 0 + 1) → m < length out
-      pack-byte g = omega (arith, bits-out, s .size, sum-within d (i + 1) (w .ends), sum-take d i h)
+      pack-byte g = omega (arith, bits-out, s .size, sum-within d (i + 1) (w .ends), sum-more d i h)
 
       -- the digit is in the word
       module _ (b : ℕ) (e : b ≡ a % 256 * 2 ^ (getD d i 0 + 1) + (2 ^ (getD d i 0 + 1) - 2)) where

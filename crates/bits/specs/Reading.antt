@@ -16,8 +16,9 @@ use Rattle.refusal.specs.Laws.{clear-one, first-place, lowest-front, lowest-bac
 use Rattle.refusal.specs.declared.Check.{Check}
 use Rattle.code.specs.Code.{EndsAt, Larger, digit, cap, row12, digitRows}
 use Rattle.code.specs.Code as code
+use Rattle.code.specs.Counting.{one-end, some-end}
 use Rattle.bits.specs.Bits.{bits, whole, runs, after, row10, row11, row13, endRows, bitRows, Carries, Reads}
-use Rattle.bits.specs.Ends.{Open, one-end, open-none, end-or-open, first-end, right-ends}
+use Rattle.bits.specs.Ends.{first-end, right-ends}
 use Rattle.bits.specs.Laws.{read-bits, cut-bits, after-end, after-code, code-ends, code-read, one-code}
 
 -- two tables apply alike
@@ -99,6 +100,16 @@ module _ (c : List ℕ) (fs : List Bool) (h : EndsAt c (length c)) where
       from k p (inr (inr (inl a))) = absurd (never-cut p (a .1))
       from k p (inr (inr (inr (inl a)))) = inr (inr (inr (inl (a .0, thirteen-digits p (a .1)))))
 
+  -- 13 of the bits is 13 of the digits
+  pub siblings-alike : Alike (code.row13 c ∷ []) (row13 (bits c ++ fs) ∷ [])
+  siblings-alike = record { to = to; from = from }
+    where
+      to : (k p : ℕ) → Applies (code.row13 c ∷ []) k p → Applies (row13 (bits c ++ fs) ∷ []) k p
+      to k p (inl a) = inl (a .0, thirteen-bits p (a .1))
+
+      from : (k p : ℕ) → Applies (row13 (bits c ++ fs) ∷ []) k p → Applies (code.row13 c ∷ []) k p
+      from k p (inl a) = inl (a .0, thirteen-digits p (a .1))
+
 -- where more follows the end than may, and no digit is above its cap, 11 is given at the next digit's number
 pub more-lowest :
     (R : ℕ) (May : List Bool → Type 0) (bs : List Bool) {n : ℕ} → Clear (row10 R bs ∷ []) → EndsAt (whole bs) n → (May (after bs n) → ⊥)
@@ -126,7 +137,7 @@ reading-clear {R} {c = c} r = alike-clear (carried-alike R (r .carries) (right-e
 pub clear-reading
     : {R : ℕ} {May : List Bool → Type 0} → ((fs : List Bool) → Dec (May fs)) → (bs : List Bool) → Clear (bitRows R May bs)
     → (c : List ℕ) × Reads R May bs c
-clear-reading {R} {May} dec bs t = go (end-or-open (whole bs) (length (whole bs)) (le-refl _))
+clear-reading {R} {May} dec bs t = go (some-end (whole bs))
   where
     may : (e : ℕ) → EndsAt (whole bs) e → Dec (May (after bs e)) → (c : List ℕ) × Reads R May bs c
     may e w (yes m) =
@@ -136,10 +147,9 @@ clear-reading {R} {May} dec bs t = go (end-or-open (whole bs) (length (whole bs)
         let z : suc e - 1 ≡ e = omega arith in
         absurd (t .nowhere 11 (suc e) (inr (inl (refl, (rw z w, rw z m)))))
 
-    go : ((e : ℕ) × EndsAt (whole bs) e) ⊎ Open (whole bs) (length (whole bs)) → (c : List ℕ) × Reads R May bs c
+    go : ((e : ℕ) × EndsAt (whole bs) e) ⊎ ((e : ℕ) → EndsAt (whole bs) e → ⊥) → (c : List ℕ) × Reads R May bs c
     go (inl a) = may (a .0) (a .1) (dec (after bs (a .0)))
-    go (inr o) =
-        absurd (t .nowhere 12 (length (whole bs)) (inr (inr (inl (refl, (refl, λ e w. omega (arith, open-none o e w, w .within)))))))
+    go (inr none) = absurd (t .nowhere 12 (length (whole bs)) (inr (inr (inl (refl, (refl, none))))))
 
 -- the bits carry one right code, whatever may follow
 pub one-reading : {R : ℕ} {May : List Bool → Type 0} {bs : List Bool} {c d : List ℕ} → Reads R May bs c → Reads R May bs d → c ≡ d

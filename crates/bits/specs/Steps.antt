@@ -16,8 +16,9 @@ use lib.Seq.{getD-append-seam, getD-append-add, drop-append-seam, drop-append-ad
 use Rattle.refusal.specs.Table.{Row, Clear, Lowest}
 use Rattle.refusal.specs.Laws.{clear-one, first-place}
 use Rattle.code.specs.Code.{sum, EndsAt, digit, cap, row12}
+use Rattle.code.specs.Counting.{sum-append}
 use Rattle.bits.specs.Bits.{bits, digitsFrom, cutFrom, whole, runs, row10}
-use Rattle.bits.specs.Ends.{Open, sum-append, ends-more, open-none}
+use Rattle.bits.specs.Ends.{Open, ends-more, open-none}
 use Rattle.bits.specs.Laws.{one-digit, no-digit, cut-ones, read-bits, cut-bits, bits-append, length-bits}
 use Rattle.bits.specs.Words.{lead}
 use Rattle.bits.specs.Digit.{Near}

@@ -15,8 +15,9 @@ use lib.Seq.{take-suc, take-length, take-suc-set, drop-set-lt, drop-drop, length
 use Rattle.laws.specs.Laid.{laidOver}
 use Rattle.refusal.specs.Table.{Writes}
 use Rattle.code.specs.Code.{sum, EndsAt}
+use Rattle.code.specs.Counting.{sum-append, sum-more}
 use Rattle.bits.specs.Bits.{bits, bit, word, bytes, Zeros, Fill, Nothing, Carries}
-use Rattle.bits.specs.Ends.{sum-append, end-sum}
+use Rattle.bits.specs.Ends.{end-sum}
 use Rattle.bits.specs.Laws.{bits-append, length-bits}
 use Rattle.bits.specs.Words.{length-word, word-low, word-mod, word-two, word-shift, bytes-append, length-bytes}
 use Rattle.bits.specs.Written.{Coded, Bytes, Packs, Numbers}
@@ -57,10 +58,6 @@ digits-more d i h = rw (add-one, take-suc d i 0 h)
 
 pub bits-take : (d : List ℕ) (i : ℕ) → i < length d → bits (take (i + 1) d) ≡ bits (take i d) ++ bits (getD d i 0 ∷ [])
 bits-take d i h = rw (digits-more d i h) (bits-append (take i d) (getD d i 0 ∷ []))
-
-pub sum-take : (d : List ℕ) (i : ℕ) → i < length d → sum (take (i + 1) d) ≡ sum (take i d) + getD d i 0
-unfolding sum
-sum-take d i h = rw (digits-more d i h, sum-append) (omega arith)
 
 -- the bits of some digits of a code are among its 2N - 1
 pub sum-within : (d : List ℕ) (i : ℕ) → EndsAt d (length d) → sum (take i d) + 1 ≤ length d
@@ -110,14 +107,14 @@ module _ {d : List ℕ} {i x : ℕ} (s : Numbering d i x) (h : i < length d) whe
   number-room c =
       let k = getD d i 0 in
       let w = sum-within d (i + 1) (c .ends) in
-      let l : i + sum (take i d) ≤ 62 - k = omega (arith, w, sum-take d i h, c .size) in
-      record { short = omega (arith, w, sum-take d i h, c .size); below = lt-of-lt-of-le (s .below) (pow-mono l) }
+      let l : i + sum (take i d) ≤ 62 - k = omega (arith, w, sum-more d i h, c .size) in
+      record { short = omega (arith, w, sum-more d i h, c .size); below = lt-of-lt-of-le (s .below) (pow-mono l) }
 
   pub number-more : (y : ℕ) → y ≡ x * 2 ^ (getD d i 0 + 1) + (2 ^ (getD d i 0 + 1) - 2) → Numbering d (i + 1) y
   number-more y e =
       let k = getD d i 0 in
       let b = i + sum (take i d) in
-      let n : i + 1 + sum (take (i + 1) d) ≡ b + (k + 1) = omega (arith, sum-take d i h) in
+      let n : i + 1 + sum (take (i + 1) d) ≡ b + (k + 1) = omega (arith, sum-more d i h) in
       let two : 2 ≤ 2 ^ (k + 1) = pow-mono {i = 1} {j = k + 1} (omega arith) in
       let l : 2 ^ (k + 1) - 2 < 2 ^ (k + 1) = omega arith in
       record {
