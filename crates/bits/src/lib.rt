@@ -3,7 +3,6 @@ ghost use mathlib.Core.Path.{_≡_};
 ghost use Prim.Native.Nat.{_+_, _-_, _*_, _/_, _^_, _<_, _≤_};
 ghost use lib.ListN.{length, getD, drop};
 ghost use Rattle.code.specs.Limits.{valence};
-ghost use Rattle.code.specs.Code.{cap};
 ghost use Rattle.bits.specs.Bits.{bytes, word, fractionBits, Fill, Nothing, Zeros};
 ghost use Rattle.bits.specs.Words.{lead};
 ghost use Rattle.bits.specs.Digit.{Near};
@@ -51,13 +50,6 @@ fn digit_in(x: u64, len: usize, bit: usize) -> usize
     u64::leading_zeros(!(x << (64 - len + bit))) as usize
 }
 
-// The cap of the digit behind n others.
-fn top(n: usize) -> usize
-    ensures { λ r. ⌜ r ≡ cap valence (n + 1) ⌝ }
-{
-    if n == 0 { 4 } else { 3 }
-}
-
 // The digits of a packed code, up to its end. The bits read are the digits and their sum, so the code has ended as soon as they are
 // fewer than two for each digit.
 pub fn digits(s: &[u8], out: &mut [u8; 64]) -> Found
@@ -69,7 +61,7 @@ pub fn digits(s: &[u8], out: &mut [u8; 64]) -> Found
     let mut b: usize = 0;
     while b < m {
         let k = digit_at(s, b);
-        if top(n) < k {
+        if (code::top(n + 1) as usize) < k {
             return Found::Over(n + 1);
         }
         if m <= b + k {
@@ -94,7 +86,7 @@ pub fn word_digits(x: u64, len: usize, out: &mut [u8; 64]) -> Found
     let mut b: usize = 0;
     while b < len {
         let k = digit_in(x, len, b);
-        if top(n) < k {
+        if (code::top(n + 1) as usize) < k {
             return Found::Over(n + 1);
         }
         if len <= b + k {

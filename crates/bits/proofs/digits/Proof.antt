@@ -37,11 +37,17 @@ loop-holds c = sofar-none _ _ _ (c .before .pre .1)
 digit-at-requires : tie.Need-digit-at-requires Inv-loop μ-loop
 digit-at-requires c κs = omega arith
 
+add-top : tie.Need-add-top Inv-loop μ-loop
+add-top c = omega (arith, twice (c .before .before .loop .inv))
+
 top-requires : tie.Need-top-requires Inv-loop μ-loop
 top-requires c κs = tt
 
-add-t10 : tie.Need-add-t10 Inv-loop μ-loop
-add-t10 c = omega (arith, twice (c .before .before .before .before .loop .inv))
+cast-if1 : tie.Need-cast-if1 Inv-loop μ-loop
+cast-if1 c = omega arith
+
+add-t12 : tie.Need-add-t12 Inv-loop μ-loop
+add-t12 c = omega (arith, twice (c .before .before .before .before .loop .inv))
 
 returns : tie.Need-returns Inv-loop μ-loop
 returns c =
@@ -123,8 +129,10 @@ digits-spec =
     mul-m
     loop-holds
     digit-at-requires
+    add-top
     top-requires
-    add-t10
+    cast-if1
+    add-t12
     returns
     add-if2
     returns-2

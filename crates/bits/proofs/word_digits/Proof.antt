@@ -33,11 +33,17 @@ loop-holds c = sofar-none _ _ _ (c .pre .1)
 digit-in-requires : tie.Need-digit-in-requires Inv-loop μ-loop
 digit-in-requires c κs = omega arith
 
+add-top : tie.Need-add-top Inv-loop μ-loop
+add-top c = omega (arith, twice (c .before .before .loop .inv))
+
 top-requires : tie.Need-top-requires Inv-loop μ-loop
 top-requires c κs = tt
 
-add-t9 : tie.Need-add-t9 Inv-loop μ-loop
-add-t9 c = omega (arith, twice (c .before .before .before .before .loop .inv))
+cast-if1 : tie.Need-cast-if1 Inv-loop μ-loop
+cast-if1 c = omega arith
+
+add-t11 : tie.Need-add-t11 Inv-loop μ-loop
+add-t11 c = omega (arith, twice (c .before .before .before .before .loop .inv))
 
 returns : tie.Need-returns Inv-loop μ-loop
 returns c =
@@ -118,8 +124,10 @@ word-digits-spec =
     μ-loop
     loop-holds
     digit-in-requires
+    add-top
     top-requires
-    add-t9
+    cast-if1
+    add-t11
     returns
     add-if2
     returns-2
