@@ -177,11 +177,11 @@ module _ {x t : Float} {i w : ℕ} (s : Drawing x t i w) where
       }
 
 -- one size, cut at the same place: A / D is M / c
-cut-same : (A D M c : ℕ) → 0 < D → 0 < c → A * c ≡ M * D → A / D ≡ M / c
+pub cut-same : (A D M c : ℕ) → 0 < D → 0 < c → A * c ≡ M * D → A / D ≡ M / c
 cut-same A D M c d p e =
     sym (mul-div-mul-right A D p) ∙ ap (λ (n : ℕ). n / (D * c)) e ∙ ap (λ (n : ℕ). M * D / n) (mul-comm D c) ∙ mul-div-mul-right M c d
 
-left-same : (A D M c : ℕ) → 0 < D → 0 < c → A * c ≡ M * D → A % D * c ≡ M % c * D
+pub left-same : (A D M c : ℕ) → 0 < D → 0 < c → A * c ≡ M * D → A % D * c ≡ M % c * D
 left-same A D M c d p e =
     let q = A / D in
     let a : A * c ≡ q * D * c + A % D * c = ap (λ (n : ℕ). n * c) (sym (div-add-mod' A D)) ∙ add-mul (q * D) (A % D) c in

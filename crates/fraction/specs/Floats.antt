@@ -31,7 +31,7 @@ frac-value k m h l =
 -- ---- two ways to write one size: P / D is a / c
 
 module _ (P D a c : ℕ) (C : 0 < c) (E : 0 < D) (v : P * c ≡ a * D) where
-  cross-lt : a < c → P < D
+  pub cross-lt : a < c → P < D
   cross-lt l =
       let k : a * D < c * D = mul-lt-mul-of-pos-right l E in
       lt-of-mul-lt-mul-right c (let w : P * c < D * c = omega (arith, mul-comm c D) in w)

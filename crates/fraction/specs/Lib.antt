@@ -5,3 +5,4 @@ pub mod Drawing
 pub mod Range
 pub mod Outcome
 pub mod Writing
+pub mod Back
