@@ -71,7 +71,7 @@ fn sized(code: &[u8]) -> Check
 }
 
 // The most that digit number p may be.
-fn top(p: usize) -> u8
+pub fn top(p: usize) -> u8
     ensures { λ r. ⌜ r ≡ cap valence p ⌝ }
 {
     if p <= 1 { 4 } else { 3 }
