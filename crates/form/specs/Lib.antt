@@ -1,2 +1,3 @@
 -- The forms of a code: N-tuple and centred. Assumes nothing.
 pub mod Form
+pub mod One
