@@ -1,3 +1,4 @@
 -- The forms of a code: N-tuple and centred. Assumes nothing.
 pub mod Form
 pub mod One
+pub mod Carried
