@@ -2,3 +2,6 @@
 pub mod Form
 pub mod One
 pub mod Carried
+pub mod Forms
+pub mod Accepted
+pub mod Theorems
