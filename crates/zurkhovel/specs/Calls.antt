@@ -9,6 +9,7 @@ use lib.ListN.{length}
 use Rattle.refusal.specs.Table.{Outcome, Promise, Answered, Writes, row15}
 use Rattle.code.specs.Limits.{size, valence}
 use Rattle.code.specs.Code.{codeRows, decode}
+use Rattle.skeleton.specs.Edges.{edgeRows}
 
 -- a right rooted code: nothing is written
 abbrev pub CheckCode : List ℕ → Outcome ℕ → Type 0
@@ -18,3 +19,7 @@ CheckCode c o = Answered (codeRows size valence c) (λ n. n ≡ 0) o
 abbrev pub DecodeCode : List ℕ → List ℕ → List ℕ → Outcome ℕ → Type 0
 DecodeCode c old new o =
     Promise (codeRows size valence c ++ (row15 (2 * (length c - 1)) (length old) ∷ [])) (Writes (λ E. E ≡ decode c) old) old new o
+
+-- N vertices, the edge list E and the root r: nothing is written
+abbrev pub CheckEdges : ℕ → List ℕ → ℕ → Outcome ℕ → Type 0
+CheckEdges N E r o = Answered (edgeRows size valence N E r) (λ n. n ≡ 0) o
