@@ -18,7 +18,8 @@ use Rattle.tree.specs.Codes.{code-of-tree, rooted-join}
 use Rattle.tree.specs.Grow.{rooted-tree}
 use Rattle.tree.specs.Theorems as Theorems
 use Rattle.coder.proofs.Neighbours.{neighbour-in, mutual-in, lone}
-use Rattle.coder.specs.Table.{IsTable, IsSomeTable}
+use Rattle.skeleton.specs.Table.{IsTable}
+use Rattle.coder.specs.Table.{IsSomeTable}
 use Rattle.coder.specs.Coded.{cells, but, kids, codeBy, coded, put, cell, Rows}
 
 filter-in : {A : Type 0} {P : A → Type 0} (d : (a : A) → Dec (P a)) {x : A} (l : List A) → List·Memᴰ x (filter d l) → List·Memᴰ x l
