@@ -7,24 +7,10 @@ use native.Mathlib.Decide.{ℕ-discrete}
 use native.Mathlib.Omega.{arith}
 use lib.ListN.{length, getD}
 use Rattle.tree.specs.Skeleton.{Arc, arcs, neighbours}
+use Rattle.tree.specs.Walks.{turn, arc-end}
 use Rattle.tree.specs.Codes.{neighbours-at, neighbours-past}
 
-arcs-in : (E : List ℕ) {u w : ℕ} → List·Memᴰ (u, w) (arcs E) → List·Memᴰ w E
-unfolding arcs
-arcs-in [] m = absurd (List·Memᴰ·not-nil m)
-arcs-in (a ∷ []) m = absurd (List·Memᴰ·not-nil m)
-arcs-in (a ∷ b ∷ E) (List·Memᴰ·head e) = List·Memᴰ·tail (List·Memᴰ·head (ap (λ (x : Arc). x .1) e))
-arcs-in (a ∷ b ∷ E) (List·Memᴰ·tail (List·Memᴰ·head e)) = List·Memᴰ·head (ap (λ (x : Arc). x .1) e)
-arcs-in (a ∷ b ∷ E) (List·Memᴰ·tail (List·Memᴰ·tail m)) = List·Memᴰ·tail (List·Memᴰ·tail (arcs-in E m))
-
-arcs-back : (E : List ℕ) {u w : ℕ} → List·Memᴰ (u, w) (arcs E) → List·Memᴰ (w, u) (arcs E)
-unfolding arcs
-arcs-back [] m = absurd (List·Memᴰ·not-nil m)
-arcs-back (a ∷ []) m = absurd (List·Memᴰ·not-nil m)
-arcs-back (a ∷ b ∷ E) (List·Memᴰ·head e) = List·Memᴰ·tail (List·Memᴰ·head (ap (λ (x : Arc). (x .1, x .0)) e))
-arcs-back (a ∷ b ∷ E) (List·Memᴰ·tail (List·Memᴰ·head e)) = List·Memᴰ·head (ap (λ (x : Arc). (x .1, x .0)) e)
-arcs-back (a ∷ b ∷ E) (List·Memᴰ·tail (List·Memᴰ·tail m)) = List·Memᴰ·tail (List·Memᴰ·tail (arcs-back E m))
-
+-- an arc leads to a neighbour, and back
 to-arc : (A : List Arc) (v : ℕ) {w : ℕ} → List·Memᴰ w (neighbours A v) → List·Memᴰ (v, w) A
 to-arc [] v {w} m = let n : List·Memᴰ w [] = (unfold neighbours in m) in absurd (List·Memᴰ·not-nil n)
 to-arc (a ∷ A) v {w} m = step (ℕ-discrete (a .0) v) (to-arc A v)
@@ -45,11 +31,11 @@ of-arc (a ∷ A) {v} {w} (List·Memᴰ·tail m) = step (ℕ-discrete (a .0) v) (
 
 -- a neighbour is an end of an edge
 pub neighbour-in : (E : List ℕ) (v : ℕ) {w : ℕ} → List·Memᴰ w (neighbours (arcs E) v) → List·Memᴰ w E
-neighbour-in E v m = arcs-in E (to-arc (arcs E) v m)
+neighbour-in E v m = arc-end E (to-arc (arcs E) v m)
 
 -- neighbours are so of each other
 pub mutual-in : (E : List ℕ) {u w : ℕ} → List·Memᴰ w (neighbours (arcs E) u) → List·Memᴰ u (neighbours (arcs E) w)
-mutual-in E {u} m = of-arc (arcs E) (arcs-back E (to-arc (arcs E) u m))
+mutual-in E {u} m = of-arc (arcs E) (turn E (to-arc (arcs E) u m))
 
 -- the one member of a list
 pub lone : (l : List ℕ) (u : ℕ) → length l ≡ 1 → List·Memᴰ u l → getD l 0 0 ≡ u
