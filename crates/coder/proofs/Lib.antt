@@ -4,5 +4,9 @@ pub mod Inserting
 pub mod Spots
 pub mod Settling
 pub mod Depth
+pub mod Upto
+pub mod Writing
 pub mod Turns
+pub mod Calls
+pub mod Neighbours
 pub mod Tables

@@ -1,17 +1,19 @@
--- Finding the place of a code among the codes before it, from the last one on. Assumes nothing.
+-- Finding the place of a code among the codes before it, from the last one on. In order: what stands in the buffer with and without its
+-- last code (`Stand`), the place where the last code stands at or after the new one and where it does not (`Found`), and the loop that
+-- looks for it (`Looking`). What sorting says of it is in `Inserting`. Assumes nothing.
 use mathlib.Core.Path.{_≡_, refl, sym, ap, ap₂, subst, _∙_}
 use mathlib.Core.Bool.{Bool, true, false}
 use mathlib.Core.List.{List, [], _∷_, _++_, append-assoc, append-nil, flatten, map, map-append}
 use Prim.Native.Nat.{ℕ, zero, suc, _+_, _-_, _≤_, _<_}
-use native.Mathlib.Nat.{add-zero}
 use native.Mathlib.Numerals.{add-one}
 use native.Mathlib.Omega.{arith}
 use lib.ListN.{length, getD, take, drop, set, length-append, length-set, length-map}
-use lib.Seq.{take-at, drop-at, getD-at, getD-take, take-take, take-suc, take-all, take-add, drop-drop, drop-cons, drop-set-lt, take-set-le, take-suc-set, length-take-le, getD-set-same}
+use lib.Seq.{take-at, drop-at, getD-at, getD-take, take-take, take-add, drop-drop, drop-cons, drop-set-lt, take-set-le, take-suc-set, length-take-le, getD-set-same}
 use Rattle.laws.specs.Part.{part}
 use Rattle.laws.specs.Order.{_≽_, insert, Falling}
 use Rattle.laws.specs.Sorting.{below≽, refl≽}
 use Rattle.code.specs.Code.{sum}
+use Rattle.code.specs.Counting.{sum-more}
 use Rattle.code.specs.Limits.{valence}
 use Rattle.code.specs.Parts.{flatten-append}
 use Rattle.code.specs.Compare.{lex, lex-says, Compares, less, equal, greater}
@@ -23,31 +25,22 @@ use Rattle.coder.proofs.Inserting.{Last, last-of, falling-init, insert-
 pub part-at : (p x q : List ℕ) (a e : ℕ) → length p ≡ a → a + length x ≡ e → part a e (p ++ (x ++ q)) ≡ x
 part-at p x q a e h k = rw (drop-at p (x ++ q) a h) (take-at x q (e - a) (omega arith))
 
-sum-append : (x y : List ℕ) → sum (x ++ y) ≡ sum x + sum y
-unfolding sum
-sum-append [] y = omega arith
-sum-append (k ∷ x) y = omega (arith, sum-append x y)
-
-pub sum-take : (l : List ℕ) (i : ℕ) → i < length l → sum (take (suc i) l) ≡ sum (take i l) + getD l i 0
-unfolding sum
-sum-take l i h = ap sum (take-suc l i 0 h) ∙ sum-append (take i l) (getD l i 0 ∷ []) ∙ omega arith
-
 flatten-one : (L : List (List ℕ)) (c : List ℕ) → flatten (L ++ (c ∷ [])) ≡ flatten L ++ c
 unfolding flatten
 flatten-one L c = flatten-append L (c ∷ []) ∙ ap (λ l. flatten L ++ l) (append-nil c)
 
-pub says-less : {d c : List ℕ} {o : Order} → Compares d c o → isLess o ≡ true → c ≽ d
+says-less : {d c : List ℕ} {o : Order} → Compares d c o → isLess o ≡ true → c ≽ d
 says-less {d} {c} (less n) e = below≽ d c n
 says-less (equal h) e = let z : _≡_ {A = ℕ} 0 1 = cc in absurd (let y : ⊥ = omega arith in y)
 says-less (greater g n) e = let z : _≡_ {A = ℕ} 0 1 = cc in absurd (let y : ⊥ = omega arith in y)
 
-pub says-not : {d c : List ℕ} {o : Order} → Compares d c o → isLess o ≡ false → d ≽ c
+says-not : {d c : List ℕ} {o : Order} → Compares d c o → isLess o ≡ false → d ≽ c
 says-not (less n) e = let z : _≡_ {A = ℕ} 0 1 = cc in absurd (let y : ⊥ = omega arith in y)
 says-not {d} {c} (equal h) e = rw h (refl≽ c)
 says-not (greater g n) e = g
 
 module _ {s lens : List ℕ} {i a : ℕ} {p : List ℕ} {L : List (List ℕ)} {q : List ℕ} (t : Stand s lens i a p L q) where
-  pub count : i ≤ length lens → length L ≡ i
+  count : i ≤ length lens → length L ≡ i
   count h = sym (length-map L length) ∙ ap length (sym (t .lengths)) ∙ length-take-le i lens h
 
   -- the new code goes behind them all
@@ -75,7 +68,7 @@ module _ {s lens : List ℕ} {i a : ℕ} {p : List ℕ} {L : List (List ℕ)} {q
         let l : length (map length xs) + 1 ≡ i = sym (length-append (map length xs) (length d ∷ [])) ∙ ap length (sym numbers) ∙ length-take-le i lens k in
         omega arith
 
-    pub last-length : getD lens (i - 1) 0 ≡ length d
+    last-length : getD lens (i - 1) 0 ≡ length d
     last-length =
         sym (getD-take i lens (i - 1) 0 (omega arith)) ∙ ap (λ l. getD l (i - 1) 0) numbers ∙ getD-at (map length xs) (length d) [] 0 (i - 1) few
 
@@ -87,10 +80,10 @@ module _ {s lens : List ℕ} {i a : ℕ} {p : List ℕ} {L : List (List ℕ)} {q
         let l : length (flatten L) ≡ length (flatten xs) + length d = ap (λ l. length (flatten l)) e ∙ ap length (flatten-one xs d) ∙ length-append (flatten xs) d in
         rw length-append (omega (arith, t .ends))
 
-    pub last-part : part (a - length d) a s ≡ d
+    last-part : part (a - length d) a s ≡ d
     last-part = ap (part (a - length d) a) whole ∙ part-at (p ++ flatten xs) d q (a - length d) a (omega (arith, ends)) (omega (arith, ends))
 
-    pub but-last : Stand s lens (i - 1) (a - length d) p xs (d ++ q)
+    but-last : Stand s lens (i - 1) (a - length d) p xs (d ++ q)
     but-last = record {
       whole = whole ∙ append-assoc p (flatten xs) (d ++ q);
       ends = (let l : length p + length (flatten xs) + length d ≡ a = rw length-append at ends in omega arith);
@@ -98,7 +91,7 @@ module _ {s lens : List ℕ} {i a : ℕ} {p : List ℕ} {L : List (List ℕ)} {q
     }
 
     -- the place found among those before the last is the place among them all, where the new code stands at or after the last
-    pub pass : {c : List ℕ} {r : ℕ} {lens' : List ℕ} → i < length lens → c ≽ d → Spot p xs c r lens' (i - 1)
+    pass : {c : List ℕ} {r : ℕ} {lens' : List ℕ} → i < length lens → c ≽ d → Spot p xs c r lens' (i - 1)
         → drop (i - 1 + 1) lens' ≡ drop (i - 1 + 1) (set lens i (getD lens (i - 1) 0)) → Spot p L c r lens' i
     pass {c} {r} {lens'} l g u f =
         let sorts : insert c L ≡ insert c xs ++ (d ∷ []) = ap (insert c) e ∙ insert-before xs d c g in
@@ -124,7 +117,7 @@ abbrev pub Found : List ℕ → List ℕ → ℕ → ℕ → List ℕ → ℕ �
 Found s lens i a c r lens' = (p q : List ℕ) (L : List (List ℕ)) → Stand s lens i a p L q → Falling L → Spot p L c r lens' i
 
 -- no code stands there
-pub none : (s lens : List ℕ) (i a n : ℕ) (c : List ℕ) → i ≡ 0 → i < length lens → n ≡ length c → Found s lens i a c a (set lens i n)
+none : (s lens : List ℕ) (i a n : ℕ) (c : List ℕ) → i ≡ 0 → i < length lens → n ≡ length c → Found s lens i a c a (set lens i n)
 none s lens i a n c z l k p q L t f = stay t c n l (empty L (count t (omega arith) ∙ z)) k
   where
     empty : (L : List (List ℕ)) → length L ≡ 0 → insert c L ≡ L ++ (c ∷ [])
@@ -138,7 +131,7 @@ module _ (s lens : List ℕ) (i a : ℕ) (c : List ℕ) (h : 0 < i) (l : i < len
       ap (λ k. part (a - k) a s) (last-length t (z .init) (z .last) (z .is) h (omega arith)) ∙ last-part t (z .init) (z .last) (z .is) h (omega arith)
 
   -- the last code stands at or after c
-  pub stop : (n : ℕ) → n ≡ length c → isLess (lex (part (a - getD lens (i - 1) 0) a s) c) ≡ false → Found s lens i a c a (set lens i n)
+  stop : (n : ℕ) → n ≡ length c → isLess (lex (part (a - getD lens (i - 1) 0) a s) c) ≡ false → Found s lens i a c a (set lens i n)
   stop n k e p q L t f =
       let z = last-of L (omega (arith, count t (omega arith))) in
       let down : Falling (z .init ++ (z .last ∷ [])) = subst Falling (z .is) f in
@@ -146,7 +139,7 @@ module _ (s lens : List ℕ) (i a : ℕ) (c : List ℕ) (h : 0 < i) (l : i < len
       stay t c n l (ap (insert c) (z .is) ∙ insert-last (z .init) (z .last) c down above ∙ ap (λ l. l ++ (c ∷ [])) (sym (z .is))) k
 
   -- the last code stands before c, so the place is looked for among those before it
-  pub on : {r : ℕ} {lens' : List ℕ} → isLess (lex (part (a - getD lens (i - 1) 0) a s) c) ≡ true
+  on : {r : ℕ} {lens' : List ℕ} → isLess (lex (part (a - getD lens (i - 1) 0) a s) c) ≡ true
       → Found s (set lens i (getD lens (i - 1) 0)) (i - 1) (a - getD lens (i - 1) 0) c r lens'
       → drop (i - 1 + 1) lens' ≡ drop (i - 1 + 1) (set lens i (getD lens (i - 1) 0)) → Found s lens i a c r lens'
   on e g d p q L t f =
@@ -159,14 +152,14 @@ module _ (s lens : List ℕ) (i a : ℕ) (c : List ℕ) (h : 0 < i) (l : i < len
       pass t (z .init) (z .last) (z .is) h (omega arith) l below (g p (z .last ++ q) (z .init) there (falling-init (z .init) (z .last) (subst Falling (z .is) f))) d
 
 -- the last length is part of what stands before a
-pub fits : (lens : List ℕ) (i a : ℕ) → 0 < i → i < length lens → sum (take i lens) ≤ a → sum (take (i - 1) lens) + getD lens (i - 1) 0 ≤ a
+fits : (lens : List ℕ) (i a : ℕ) → 0 < i → i < length lens → sum (take i lens) ≤ a → sum (take (i - 1) lens) + getD lens (i - 1) 0 ≤ a
 fits lens i a h l k =
-    let e : suc (i - 1) ≡ i = omega arith in
-    let s : sum (take i lens) ≡ sum (take (i - 1) lens) + getD lens (i - 1) 0 = ap (λ j. sum (take j lens)) (sym e) ∙ sum-take lens (i - 1) (omega arith) in
+    let e : i - 1 + 1 ≡ i = omega arith in
+    let s : sum (take i lens) ≡ sum (take (i - 1) lens) + getD lens (i - 1) 0 = ap (λ j. sum (take j lens)) (sym e) ∙ sum-more lens (i - 1) (omega arith) in
     omega arith
 
 -- what stands behind a store is as it was
-pub behind : (lens lens' : List ℕ) (i n : ℕ) → 0 < i → drop (i - 1 + 1) lens' ≡ drop (i - 1 + 1) (set lens i n) → drop (i + 1) lens' ≡ drop (i + 1) lens
+behind : (lens lens' : List ℕ) (i n : ℕ) → 0 < i → drop (i - 1 + 1) lens' ≡ drop (i - 1 + 1) (set lens i n) → drop (i + 1) lens' ≡ drop (i + 1) lens
 behind lens lens' i n h e =
     let one : i - 1 + 1 ≡ i = omega arith in
     sym (drop-drop 1 i lens')

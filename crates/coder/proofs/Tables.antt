@@ -1,7 +1,8 @@
--- The code by the table is the rooted code of the skeleton whose table it is. Assumes nothing.
-use mathlib.Core.Path.{_≡_, refl, sym, ap, ap₂, subst, _∙_}
-use mathlib.Core.Logic.{ite, ⊎-elim, Dec·not}
-use mathlib.Core.List.{List, [], _∷_, _++_, append-nil, filter, map, List·Memᴰ, List·Memᴰ·head, List·Memᴰ·tail, List·Memᴰ·not-nil, List·Memᴰ·cases-cons, List·Memᴰ·eq-of-singleton, Memᴰ·cast}
+-- The code by the table is the rooted code of the skeleton whose table it is. In order: the children, the codes, what the coder asks of a
+-- table, and what it then writes. Assumes nothing.
+use mathlib.Core.Path.{_≡_, refl, sym, ap, ap₂, _∙_}
+use mathlib.Core.Logic.{ite, Dec·not}
+use mathlib.Core.List.{List, [], _∷_, _++_, append-nil, filter, map, List·Memᴰ, List·Memᴰ·head, List·Memᴰ·tail, Memᴰ·cast}
 use Prim.Native.Nat.{ℕ, zero, suc, _+_, _-_, _≤_, _<_}
 use native.Mathlib.Decide.{ℕ-discrete}
 use native.Mathlib.Omega.{arith}
@@ -10,14 +11,15 @@ use lib.Seq.{take-suc, take-length, length-take-le}
 use Rattle.laws.specs.Places.{at-in}
 use Rattle.laws.specs.Laid.{laidOver}
 use Rattle.code.specs.Limits.{size, valence}
-use Rattle.tree.specs.Skeleton.{Arc, arcs, neighbours, degree, Degrees, IsTree, IsSkeleton, children, join, codeAt, rooted}
-use Rattle.tree.specs.Forest.{Rooted}
+use Rattle.tree.specs.Skeleton.{Arc, arcs, neighbours, degree, Degrees, IsTree, children, join, codeAt, rooted}
 use Rattle.tree.specs.Label.{rootedₗ}
 use Rattle.tree.specs.Base.{base, rooted-base}
-use Rattle.tree.specs.Codes.{neighbours-at, neighbours-past, code-of-tree, rooted-join}
+use Rattle.tree.specs.Codes.{code-of-tree, rooted-join}
 use Rattle.tree.specs.Grow.{rooted-tree}
 use Rattle.tree.specs.Theorems as Theorems
-use Rattle.coder.specs.Table.{IsTable, IsSomeTable}
+use Rattle.coder.proofs.Neighbours.{neighbour-in, mutual-in, lone}
+use Rattle.skeleton.specs.Table.{IsTable}
+use Rattle.coder.specs.Table.{IsSomeTable}
 use Rattle.coder.specs.Coded.{cells, but, kids, codeBy, coded, put, cell, Rows}
 
 filter-in : {A : Type 0} {P : A → Type 0} (d : (a : A) → Dec (P a)) {x : A} (l : List A) → List·Memᴰ x (filter d l) → List·Memᴰ x l
@@ -28,53 +30,6 @@ filter-in {A} {P} d {x} (y ∷ l) m = step (d y) (filter-in d l) m
     step (yes h) r (List·Memᴰ·head e) = List·Memᴰ·head e
     step (yes h) r (List·Memᴰ·tail n) = List·Memᴰ·tail (r n)
     step (no h) r n = List·Memᴰ·tail (r n)
-
-arcs-in : (E : List ℕ) {u w : ℕ} → List·Memᴰ (u, w) (arcs E) → List·Memᴰ w E
-unfolding arcs
-arcs-in [] m = absurd (List·Memᴰ·not-nil m)
-arcs-in (a ∷ []) m = absurd (List·Memᴰ·not-nil m)
-arcs-in (a ∷ b ∷ E) (List·Memᴰ·head e) = List·Memᴰ·tail (List·Memᴰ·head (ap (λ (x : Arc). x .1) e))
-arcs-in (a ∷ b ∷ E) (List·Memᴰ·tail (List·Memᴰ·head e)) = List·Memᴰ·head (ap (λ (x : Arc). x .1) e)
-arcs-in (a ∷ b ∷ E) (List·Memᴰ·tail (List·Memᴰ·tail m)) = List·Memᴰ·tail (List·Memᴰ·tail (arcs-in E m))
-
-arcs-back : (E : List ℕ) {u w : ℕ} → List·Memᴰ (u, w) (arcs E) → List·Memᴰ (w, u) (arcs E)
-unfolding arcs
-arcs-back [] m = absurd (List·Memᴰ·not-nil m)
-arcs-back (a ∷ []) m = absurd (List·Memᴰ·not-nil m)
-arcs-back (a ∷ b ∷ E) (List·Memᴰ·head e) = List·Memᴰ·tail (List·Memᴰ·head (ap (λ (x : Arc). (x .1, x .0)) e))
-arcs-back (a ∷ b ∷ E) (List·Memᴰ·tail (List·Memᴰ·head e)) = List·Memᴰ·head (ap (λ (x : Arc). (x .1, x .0)) e)
-arcs-back (a ∷ b ∷ E) (List·Memᴰ·tail (List·Memᴰ·tail m)) = List·Memᴰ·tail (List·Memᴰ·tail (arcs-back E m))
-
-to-arc : (A : List Arc) (v : ℕ) {w : ℕ} → List·Memᴰ w (neighbours A v) → List·Memᴰ (v, w) A
-to-arc [] v {w} m = let n : List·Memᴰ w [] = (unfold neighbours in m) in absurd (List·Memᴰ·not-nil n)
-to-arc (a ∷ A) v {w} m = step (ℕ-discrete (a .0) v) (to-arc A v)
-  where
-    step : Dec (a .0 ≡ v) → (List·Memᴰ w (neighbours A v) → List·Memᴰ (v, w) A) → List·Memᴰ (v, w) (a ∷ A)
-    step (no n) r = List·Memᴰ·tail (r (subst (List·Memᴰ w) (neighbours-past (a .0) v (a .1) A n) m))
-    step (yes e) r = ⊎-elim (λ k. List·Memᴰ·head (ap₂ (λ x y. (x, y)) (sym e) k)) (λ k. List·Memᴰ·tail (r k)) (List·Memᴰ·cases-cons (subst (List·Memᴰ w) (neighbours-at (a .0) v (a .1) A e) m))
-
-of-arc : (A : List Arc) {v w : ℕ} → List·Memᴰ (v, w) A → List·Memᴰ w (neighbours A v)
-of-arc [] m = absurd (List·Memᴰ·not-nil m)
-of-arc (a ∷ A) {v} {w} (List·Memᴰ·head e) =
-    subst (List·Memᴰ w) (sym (neighbours-at (a .0) v (a .1) A (ap (λ (x : Arc). x .0) (sym e)))) (List·Memᴰ·head (ap (λ (x : Arc). x .1) e))
-of-arc (a ∷ A) {v} {w} (List·Memᴰ·tail m) = step (ℕ-discrete (a .0) v) (of-arc A m)
-  where
-    step : Dec (a .0 ≡ v) → List·Memᴰ w (neighbours A v) → List·Memᴰ w (neighbours (a ∷ A) v)
-    step (yes e) r = subst (List·Memᴰ w) (sym (neighbours-at (a .0) v (a .1) A e)) (List·Memᴰ·tail r)
-    step (no n) r = subst (List·Memᴰ w) (sym (neighbours-past (a .0) v (a .1) A n)) r
-
--- a neighbour is an end of an edge
-neighbour-in : (E : List ℕ) (v : ℕ) {w : ℕ} → List·Memᴰ w (neighbours (arcs E) v) → List·Memᴰ w E
-neighbour-in E v m = arcs-in E (to-arc (arcs E) v m)
-
--- neighbours are so of each other
-mutual-in : (E : List ℕ) {u w : ℕ} → List·Memᴰ w (neighbours (arcs E) u) → List·Memᴰ u (neighbours (arcs E) w)
-mutual-in E {u} m = of-arc (arcs E) (arcs-back E (to-arc (arcs E) u m))
-
-lone : (l : List ℕ) (u : ℕ) → length l ≡ 1 → List·Memᴰ u l → getD l 0 0 ≡ u
-lone [] u h m = absurd (List·Memᴰ·not-nil m)
-lone (x ∷ []) u h m = sym (List·Memᴰ·eq-of-singleton m)
-lone (x ∷ y ∷ l) u h m = let z : ⊥ = omega arith in absurd z
 
 cells-take : (row l : List ℕ) (n : ℕ) → n ≤ length l → ((j : ℕ) → j < n → getD row j 0 ≡ getD l j 0) → cells row n ≡ take n l
 unfolding cells
@@ -163,9 +118,15 @@ ready-at {t} {d} {N} r s h k =
     }
 
 -- the code, written over the first n places alone
-pub laid : (n : ℕ) (c xs ys : List ℕ) → length c ≡ n → n ≤ length xs → ys ≡ put (length (take n xs) - n) c (take n xs) → ys ++ drop n xs ≡ laidOver c xs
+laid : (n : ℕ) (c xs : List ℕ) {ys : List ℕ} → length c ≡ n → n ≤ length xs → ys ≡ put (length (take n xs) - n) c (take n xs) → ys ++ drop n xs ≡ laidOver c xs
 unfolding put laidOver
-laid n c xs ys h k e =
+laid n c xs h k e =
     let z : length (take n xs) - n ≡ 0 = (let l = length-take-le n xs k in omega arith) in
     let none : drop (0 + length c) (take n xs) ≡ [] = drop-of-length-le (take n xs) {i = 0 + length c} (let l = length-take-le n xs k in omega arith) in
     ap (λ l. l ++ drop n xs) (e ∙ ap (λ i. put i c (take n xs)) z ∙ ap (λ l. c ++ l) none ∙ append-nil c) ∙ ap (λ i. c ++ drop i xs) (sym h)
+
+pub rooted-laid : {t : List (List ℕ)} {d : List ℕ} {N : ℕ} {E ys : List ℕ} (r : ℕ) (xs : List ℕ) → IsSomeTable N t d → IsTree N E → IsTable N E t d → 1 ≤ r → r ≤ N → N ≤ length xs
+    → ys ≡ put (length (take N xs) - N) (coded t d 0 r) (take N xs) → ys ++ drop N xs ≡ laidOver (rooted N E r) xs
+rooted-laid {t} {d} {N} r xs s tree b h k l e =
+    let a = ready-at r s h k in
+    laid N (coded t d 0 r) xs (a .long) l e ∙ ap (λ c. laidOver c xs) (coded-is tree b r (a .few) h k)

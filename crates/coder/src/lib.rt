@@ -1,18 +1,19 @@
 // The rooted code at a vertex, written into a lent buffer by recursion over rooted subtrees.
 use code::Order;
 ghost use mathlib.Core.Path.{_≡_};
-ghost use mathlib.Core.List.{List, [], _++_};
+ghost use mathlib.Core.List.{List, _++_};
 ghost use Prim.Native.Nat.{ℕ, _+_, _-_, _≤_, _<_};
-ghost use lib.ListN.{length, getD, take, drop};
+ghost use lib.ListN.{length, take};
 ghost use Rattle.laws.specs.Part.{part};
 ghost use Rattle.laws.specs.Order.{Falling, insert};
 ghost use Rattle.code.specs.Compare.{lex};
 ghost use Rattle.code.specs.Code.{sum};
 ghost use Rattle.code.specs.Limits.{size, valence};
 ghost use Rattle.laws.specs.Laid.{laidOver};
-ghost use Rattle.tree.specs.Skeleton as skeleton;
-ghost use Rattle.coder.specs.Table.{IsTable, IsSomeTable};
-ghost use Rattle.coder.specs.Coded.{isLess, put, coded, Rows, Stand, Spot};
+ghost use Rattle.tree.specs.Skeleton as tree;
+ghost use Rattle.skeleton.specs.Table.{IsTable};
+ghost use Rattle.coder.specs.Table.{IsSomeTable};
+ghost use Rattle.coder.specs.Coded.{isLess, put, coded, deg, cell, Rows, Stand, Spot};
 
 // Whether the code from `a` up to `e` is smaller than the one from `m` up to `b`: two siblings, each where it stands in the buffer.
 fn smaller(s: &[u8], a: usize, e: usize, m: usize, b: usize) -> bool
@@ -86,7 +87,7 @@ fn wide(x: u8) -> usize
 // The number of neighbours of v.
 fn degree(degs: &[u8; 64], v: usize) -> usize
     requires { ⌜ (1 ≤ v) × (v ≤ size) ⌝ }
-    ensures { λ r. ⌜ r ≡ getD (now (degs .entry)) (v - 1) 0 ⌝ }
+    ensures { λ r. ⌜ r ≡ deg (now (degs .entry)) v ⌝ }
 {
     wide(degs[v - 1])
 }
@@ -94,7 +95,7 @@ fn degree(degs: &[u8; 64], v: usize) -> usize
 // The neighbour of v in column j.
 fn neighbour(rows: &[[u8; 4]; 64], v: usize, j: usize) -> usize
     requires { ⌜ (1 ≤ v) × (v ≤ size) × (j < valence) ⌝ }
-    ensures { λ r. ⌜ r ≡ getD (getD (now (rows .entry)) (v - 1) []) j 0 ⌝ }
+    ensures { λ r. ⌜ r ≡ cell (now (rows .entry)) v j ⌝ }
 {
     wide(rows[v - 1][j])
 }
@@ -148,8 +149,8 @@ fn code(
 pub fn rooted(rows: &[[u8; 4]; 64], degs: &[u8; 64], n: usize, root: usize, out: &mut [u8])
     requires { ⌜ IsSomeTable n (now rows) (now degs) ⌝ }
     requires { ⌜ (1 ≤ root) × (root ≤ n) × (n ≤ length (now out)) ⌝ }
-    ensures { λ _. ⌜ ((E : List ℕ) → skeleton.IsTree n E → IsTable n E (now (rows .entry)) (now (degs .entry))
-        → now (out .exit) ≡ laidOver (skeleton.rooted n E root) (now (out .entry))) ⌝ }
+    ensures { λ _. ⌜ ((E : List ℕ) → tree.IsTree n E → IsTable n E (now (rows .entry)) (now (degs .entry))
+        → now (out .exit) ≡ laidOver (tree.rooted n E root) (now (out .entry))) ⌝ }
 {
     code(rows, degs, 0, root, n, &mut out[..n]);
 }

@@ -1,13 +1,11 @@
 -- `coder::rooted` meets its contract: the code by the table is the rooted code. Assumes nothing.
-use mathlib.Core.Path.{sym, ap, _∙_}
+use mathlib.Core.Path.{sym}
 use native.Mathlib.Omega.{arith}
 use lib.Seq.{length-take-le}
-use Rattle.laws.specs.Laid.{laidOver}
 use borrow.Author.Needs.{needs}
-use Rattle.coder.proofs.Tables.{ready-at, coded-is, laid}
+use Rattle.coder.proofs.Tables.{ready-at, rooted-laid}
 use Rattle.coder.proofs.rooted.Statement.{statement}
 use Rattle.coder.proofs.rooted.Tie as tie
-use Rattle.coder.proofs.code.Reads as code-reads
 
 pub rooted-spec : {M : Type 1} → statement M
 rooted-spec =
@@ -22,6 +20,4 @@ rooted-spec =
     (λ c. search needs)
     (λ c E tree table.
     let s = c .before .before .before .before .before in
-    let r = ready-at (s .args .root) (s .pre .0) (s .pre .1 .0) (s .pre .1 .1) in
-    laid (s .args .n) _ (s .args .out .now) _ (r .long) (s .pre .1 .2) (c .before .before .code .ensures .1)
-    ∙ ap (λ x. laidOver x (s .args .out .now)) (coded-is tree table (s .args .root) (r .few) (s .pre .1 .0) (s .pre .1 .1))))
+    rooted-laid (s .args .root) (s .args .out .now) (s .pre .0) tree table (s .pre .1 .0) (s .pre .1 .1) (s .pre .1 .2) (c .before .before .code .ensures .1)))
