@@ -2,14 +2,14 @@
 --
 -- In order: the contract; what was found, as a caller learns it; the four answers. How the code tests what follows is in `Follow`.
 -- Row 13 is judged of the digits that were read: `answer-digits`. Assumes nothing.
-use mathlib.Core.Path.{_≡_, refl, sym, ap, _∙_}
+use mathlib.Core.Path.{_≡_, refl, ap}
 use mathlib.Core.Bool.{Bool}
-use mathlib.Core.List.{List, [], _∷_, _++_}
-use Prim.Native.Nat.{ℕ, zero, suc, _+_, _-_, _*_, _≤_, _<_}
+use mathlib.Core.List.{List, [], _∷_}
+use Prim.Native.Nat.{ℕ, _+_, _-_, _*_, _≤_}
 use native.Mathlib.Omega.{arith}
 use lib.ListN.{length, take, length-append, length-take}
 use lib.Seq.{length-take-le}
-use Rattle.refusal.specs.Table.{Row, Clear, Lowest, Answers, passes}
+use Rattle.refusal.specs.Table.{Clear, Lowest, Answers, passes}
 use Rattle.refusal.specs.Laws.{clear-one, clear-both, first-place, lowest-front, lowest-back, goes-on}
 use Rattle.refusal.specs.declared.Answer.{Answer}
 use Rattle.refusal.specs.declared.Answer.the-variants.{Done, Refused}
@@ -19,7 +19,7 @@ use Rattle.code.specs.Code as code
 use Rattle.code.specs.Counting.{one-end}
 use Rattle.bits.specs.declared.Found.{Found}
 use Rattle.bits.specs.declared.Found.the-variants.{Over, Short, Ended}
-use Rattle.bits.specs.Bits.{bits, whole, after, row10, row11, endRows, bitRows, Carries}
+use Rattle.bits.specs.Bits.{whole, after, row10, row11, endRows, bitRows, Carries}
 use Rattle.bits.specs.Ends.{end-sum, first-end}
 use Rattle.bits.specs.Laws.{length-bits, after-end}
 use Rattle.bits.specs.Found.{Finds, over, short, ended, Scanned}

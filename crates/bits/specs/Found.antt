@@ -1,10 +1,10 @@
 -- What a reader of digits has found, in the words of rows 10 and 12 and of a code's end, and how it comes to it.
 --
 -- In order: the contract; what a reader knows when it has n digits in its output; what each way on tells. Assumes nothing.
-use mathlib.Core.Path.{_≡_, refl, sym, ap, _∙_}
+use mathlib.Core.Path.{_≡_, refl, sym, ap}
 use mathlib.Core.Bool.{Bool}
 use mathlib.Core.List.{List, [], _∷_, _++_}
-use Prim.Native.Nat.{ℕ, zero, suc, _+_, _*_, _≤_, _<_}
+use Prim.Native.Nat.{ℕ, _+_, _*_, _≤_, _<_}
 use native.Mathlib.Numerals.{add-one}
 use native.Mathlib.Nat.{le-refl}
 use native.Mathlib.Omega.{arith}

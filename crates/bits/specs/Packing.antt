@@ -2,10 +2,10 @@
 --
 -- Assumes nothing.
 use mathlib.Core.Path.{_≡_, refl, sym, ap, _∙_}
-use mathlib.Core.Bool.{Bool, true, false}
+use mathlib.Core.Bool.{false}
 use mathlib.Core.List.{List, [], _∷_, _++_, append-assoc, append-nil}
 use Prim.Native.Nat.{ℕ, zero, suc, _+_, _-_, _*_, _/_, _%_, _^_, _≤_, _<_}
-use native.Mathlib.Nat.{mod-lt, le-refl, lt-of-lt-of-le}
+use native.Mathlib.Nat.{mod-lt, lt-of-lt-of-le}
 use native.Mathlib.Numerals.{add-one}
 use native.Mathlib.Omega.{arith}
 use lib.Dec.{lit<}
@@ -14,9 +14,9 @@ use lib.ListN.{length, take, drop, getD, set, replicate, length-append, length-s
 use lib.Seq.{take-suc-set, drop-set-lt, drop-drop, take-all, take-length, length-take-le}
 use Rattle.laws.specs.Laid.{laidOver}
 use Rattle.refusal.specs.Table.{Writes}
-use Rattle.code.specs.Code.{sum, EndsAt}
+use Rattle.code.specs.Code.{sum}
 use Rattle.code.specs.Counting.{sum-more}
-use Rattle.bits.specs.Bits.{bits, word, bytes, Carries}
+use Rattle.bits.specs.Bits.{bits, word, bytes}
 use Rattle.bits.specs.Ends.{end-sum}
 use Rattle.bits.specs.Laws.{length-bits}
 use Rattle.bits.specs.Words.{length-word, word-shift, bytes-append, length-bytes}

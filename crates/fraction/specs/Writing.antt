@@ -1,15 +1,15 @@
 -- The fraction of a code is its whole number over a power of two, and the division loses nothing. Assumes nothing.
-use mathlib.Core.Path.{_≡_, refl, sym, ap, _∙_}
-use mathlib.Core.Bool.{Bool, true, false}
+use mathlib.Core.Path.{_≡_, _∙_}
+use mathlib.Core.Bool.{false}
 use mathlib.Core.List.{List}
-use Prim.Native.Nat.{ℕ, _+_, _-_, _*_, _%_, _^_, _≤_, _<_}
-use native.Mathlib.Nat.{one-mul, lt-of-lt-of-le, le-of-lt, le-trans}
+use Prim.Native.Nat.{ℕ, _-_, _*_, _%_, _^_, _≤_, _<_}
+use native.Mathlib.Nat.{one-mul, lt-of-lt-of-le, le-of-lt}
 use native.Mathlib.Omega.{arith}
 use lib.IntN.{pos}
 use lib.Dec.{T, le→leb, lit<}
 use lib.Pow.{pow-pos, pow-mono, shl-exact}
 use lib.ListN.{length}
-use lib.Ieee.{Float, binary64, round, div, ofInt, inFloat}
+use lib.Ieee.{binary64, round, div, ofInt, inFloat}
 use lib.Ieee.Back.{round-whole}
 use lib.Ieee.Fits.{div-fits}
 use Rattle.bits.specs.Written.{Coded, Numbers}

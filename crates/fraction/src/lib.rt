@@ -3,7 +3,6 @@ use refusal::Answer;
 use refusal::Check;
 ghost use mathlib.Core.Path.{_≡_};
 ghost use mathlib.Core.List.{[], _∷_};
-ghost use Prim.Native.Nat.{_*_, _^_};
 ghost use lib.ListN.{length};
 ghost use Rattle.code.specs.Limits.{valence};
 ghost use Rattle.refusal.specs.Table.{Answers};

@@ -1,5 +1,5 @@
 -- `bits::word_digits` meets its contract, as `bits::digits` does. Assumes nothing.
-use Prim.Native.Nat.{ℕ, _+_, _-_, _*_, _≤_, _<_}
+use Prim.Native.Nat.{ℕ, _+_, _-_, _≤_, _<_}
 use native.Mathlib.Omega.{arith}
 use lib.Dec.{lit<}
 use Rattle.code.specs.Limits.{valence}
