@@ -1,0 +1,7 @@
+-- Laws that the proofs of several functions cite. Assumes nothing.
+mod Rows
+mod Listed
+mod Waiting
+mod Step
+mod Begin
+mod Rounds
