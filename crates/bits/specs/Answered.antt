@@ -34,13 +34,13 @@ pub record Accepted (R : ℕ) (May : List Bool → Type 0) (bs : List Bool) (out
   pub room : n ≤ length out
 
 -- the answer, with out what the reader has written
-pub data Answered (R : ℕ) (May : List Bool → Type 0) (bs : List Bool) (out : List ℕ) : Answer → Type 0 where
-  accepted : {n : ℕ} → Accepted R May bs out n → Answered R May bs out (Done n)
-  refused : {k p : ℕ} → Lowest (endRows R May bs) k p → Answered R May bs out (Refused k p)
+pub data Judged (R : ℕ) (May : List Bool → Type 0) (bs : List Bool) (out : List ℕ) : Answer → Type 0 where
+  accepted : {n : ℕ} → Accepted R May bs out n → Judged R May bs out (Done n)
+  refused : {k p : ℕ} → Lowest (endRows R May bs) k p → Judged R May bs out (Refused k p)
 
 -- and the output keeps its length
 pub record Reading (R : ℕ) (May : List Bool → Type 0) (bs : List Bool) (out : List ℕ) (r : Answer) : Type 0 where
-  pub answer : Answered R May bs out r
+  pub answer : Judged R May bs out r
   pub size : length out ≡ 64
 
 -- what is then refused of the digits is what is refused of the bits
