@@ -1,0 +1,3 @@
+-- A centred code told by its digits alone. Assumes nothing.
+pub mod Middle
+pub mod Lift
