@@ -1,3 +1,6 @@
 -- A centred code told by its digits alone. Assumes nothing.
 pub mod Middle
 pub mod Lift
+pub mod Turn
+pub mod Root
+pub mod Theorems

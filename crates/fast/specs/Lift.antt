@@ -1,6 +1,6 @@
 -- A forest with its first tallest tree put in front: what its heights, its digits and its arcs are. Assumes nothing.
 use mathlib.Core.Path.{_≡_, refl, ap, ap₂, sym, _∙_}
-use mathlib.Core.Logic.{if-pos, if-neg}
+use mathlib.Core.Logic.{ite, if-pos, if-neg}
 use mathlib.Core.List.{List, [], _∷_, _++_, flatten, append-assoc, append-nil, List·Permᴰ, List·Permᴰ·cons, List·Permᴰ·trans, Permᴰ·refl, Permᴰ·append-left}
 use Prim.Native.Nat.{ℕ, suc, max, _+_, _≤_, _<_}
 use native.Mathlib.Decide.{decLt}
@@ -85,6 +85,15 @@ second-here h l n = if-neg (decLt h (top l)) (λ g. let z : ⊥ = omega arith in
 second-past : (h : ℕ) (l : List ℕ) → h < top l → second (h ∷ l) ≡ max h (second l)
 unfolding second
 second-past h l n = if-pos (decLt h (top l)) n (max h (second l)) (top l)
+
+pub second-below : (l : List ℕ) → second l ≤ top l
+unfolding second top
+second-below [] = omega arith
+second-below (h ∷ l) = step (decLt h (top l)) (second-below l)
+  where
+    step : (t : Dec (h < top l)) → second l ≤ top l → ite t (max h (second l)) (top l) ≤ max h (top l)
+    step (yes g) r = omega arith
+    step (no g) r = omega arith
 
 module _ (v : ℕ) (d f : Forest) where
   lift-here : tall f ≤ suc (tall d) → Lifted (tree v d f) 0

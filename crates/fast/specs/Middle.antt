@@ -7,7 +7,7 @@
 use mathlib.Core.Path.{_≡_}
 use mathlib.Core.Logic.{_⊎_, ite}
 use mathlib.Core.List.{List, [], _∷_, _++_, flatten}
-use Prim.Native.Nat.{ℕ, suc, max, _+_, _-_}
+use Prim.Native.Nat.{ℕ, suc, max, _-_}
 use native.Mathlib.Decide.{decLt}
 use lib.ListN.{length, getD, take, drop}
 use Rattle.laws.specs.Order.{_≽_, insert}
@@ -40,7 +40,7 @@ tops c = heights (drop 1 c)
 
 -- where branch i of the root begins
 unfoldable pub branch : List ℕ → ℕ → ℕ
-branch c i = 1 + length (flatten (take i (codes (drop 1 c))))
+branch c i = suc (length (flatten (take i (codes (drop 1 c)))))
 
 -- the code that is left where the branch from x to e is taken off
 unfoldable pub rest : List ℕ → ℕ → ℕ → List ℕ
