@@ -4,3 +4,5 @@ pub mod Lift
 pub mod Turn
 pub mod Root
 pub mod Theorems
+pub mod Skip
+pub mod Stack
