@@ -6,3 +6,6 @@ pub mod Root
 pub mod Theorems
 pub mod Skip
 pub mod Stack
+pub mod Pieces
+pub mod Race
+pub mod Spot

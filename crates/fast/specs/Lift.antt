@@ -70,19 +70,19 @@ pub record Lifted (f : Forest) (i : ℕ) : Type 0 where
   pub names : List·Permᴰ (vertices f) (vertices (tree root below others))
   pub same : (p : ℕ) → List·Permᴰ (hung p f) (hung p (tree root below others))
 
-peak-here : (h : ℕ) (l : List ℕ) → top l ≤ h → peak (h ∷ l) ≡ 0
+pub peak-here : (h : ℕ) (l : List ℕ) → top l ≤ h → peak (h ∷ l) ≡ 0
 unfolding peak
 peak-here h l n = if-neg (decLt h (top l)) (λ g. let z : ⊥ = omega arith in z) (suc (peak l)) 0
 
-peak-past : (h : ℕ) (l : List ℕ) → h < top l → peak (h ∷ l) ≡ suc (peak l)
+pub peak-past : (h : ℕ) (l : List ℕ) → h < top l → peak (h ∷ l) ≡ suc (peak l)
 unfolding peak
 peak-past h l n = if-pos (decLt h (top l)) n (suc (peak l)) 0
 
-second-here : (h : ℕ) (l : List ℕ) → top l ≤ h → second (h ∷ l) ≡ top l
+pub second-here : (h : ℕ) (l : List ℕ) → top l ≤ h → second (h ∷ l) ≡ top l
 unfolding second
 second-here h l n = if-neg (decLt h (top l)) (λ g. let z : ⊥ = omega arith in z) (max h (second l)) (top l)
 
-second-past : (h : ℕ) (l : List ℕ) → h < top l → second (h ∷ l) ≡ max h (second l)
+pub second-past : (h : ℕ) (l : List ℕ) → h < top l → second (h ∷ l) ≡ max h (second l)
 unfolding second
 second-past h l n = if-pos (decLt h (top l)) n (max h (second l)) (top l)
 

@@ -127,6 +127,12 @@ module _ {c hs : List ℕ} {i at : ℕ} (s : Stacked c hs i at) (whole : Ends 1 
         stands = one ∙ ap₂ (λ (x : ℕ) (y : List ℕ). x ∷ y) (add-one h ∙ ap suc (e ∙ ap top children)) two ∙ sym three;
       }
 
--- all branches of the root
-pub stack-last : {c hs : List ℕ} {i at : ℕ} → Stacked c hs i at → i ≤ 1 → drop at hs ≡ tops c
-stack-last {c} {hs} {i} {at} s h = let n : i ≡ 1 = omega (arith, s .some) in s .stands ∙ ap (λ (x : ℕ). heights (drop x c)) n
+-- the heights of the root's branches stand at the end of hs
+pub record Branches (c hs : List ℕ) (from : ℕ) : Type 0 where
+  pub inside : from ≤ length hs
+  pub stand : drop from hs ≡ tops c
+
+pub stack-last : {c hs : List ℕ} {i at : ℕ} → Stacked c hs i at → i ≤ 1 → Branches c hs at
+stack-last {c} {hs} {i} {at} s h =
+    let n : i ≡ 1 = omega (arith, s .some) in
+    record { inside = omega (arith, s .inside, s .long); stand = s .stands ∙ ap (λ (x : ℕ). heights (drop x c)) n }
