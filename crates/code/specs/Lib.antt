@@ -7,5 +7,8 @@ pub mod Parts
 pub mod Siblings
 pub mod Ordered
 pub mod Search
+pub mod Stack
+pub mod Right
+pub mod Within
 pub mod Compare
 pub mod Examples

@@ -11,7 +11,7 @@ use native.Mathlib.Omega.{arith}
 use lib.Dec.{ltb}
 use lib.ListN.{length}
 use borrow.Author.Tests.{ltb-true}
-use Rattle.laws.specs.Laid.{laidOver}
+use Rattle.laws.specs.Laid.{laidOver, Laid}
 use Rattle.refusal.specs.declared.Check.{Check}
 use Rattle.refusal.specs.declared.Check.the-variants.{Passed, Refuse}
 use Rattle.refusal.specs.Table.{Row, Applies, Clear, Lowest, Answers, passes, fails, Outcome, gives, refuses, Promise, kept, left, Writes, row3, row15}
@@ -181,3 +181,7 @@ room h = clear-one (λ p a. let n : ⊥ = omega (arith, a .1) in n)
 -- and at the length needed where it has none
 pub no-room : {need lent : ℕ} → lent < need → Lowest (row15 need lent ∷ []) 15 need
 no-room h = first-place (refl, h) (λ q l a. let n : ⊥ = omega (arith, a .0) in n)
+
+-- a result that lies at the start of the output is what was to be written
+pub laid-writes : {c old new : List ℕ} {n : ℕ} → Laid c old new n → Writes (λ d. d ≡ c) old n new
+laid-writes {c} l = record { result = c; right = refl; count = l .count; lies = l .lies }
