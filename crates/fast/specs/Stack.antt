@@ -63,6 +63,9 @@ module _ {hs : List ℕ} {from to j best : ℕ} (t : Topped hs from to j best) (
   pub top-same : getD hs (j - 1) 0 ≤ best → Topped hs from to (j - 1) best
   top-same g = record { after = omega arith; within = omega (arith, t .within); best-is = omega (arith, greatest) }
 
+pub top-last : {hs : List ℕ} {from to j best : ℕ} → Topped hs from to j best → j ≤ from → best ≡ top (part from to hs)
+top-last {hs} {from} {to} {j} t h = let n : j ≡ from = omega (arith, t .after) in t .best-is ∙ ap (λ (a : ℕ). top (part a to hs)) n
+
 -- from digit i on, the heights stand at the end of hs
 pub record Stacked (c hs : List ℕ) (i at : ℕ) : Type 0 where
   pub some : 1 ≤ i
