@@ -9,3 +9,5 @@ pub mod Stack
 pub mod Pieces
 pub mod Race
 pub mod Spot
+pub mod Over
+pub mod Answer

@@ -3,12 +3,14 @@ use mathlib.Core.Path.{_≡_, refl, sym, ap, _∙_, subst}
 use mathlib.Core.Logic.{_⊎_, inl, inr, ⊎-elim}
 use mathlib.Core.Bool.{Bool, true, false}
 use mathlib.Core.List.{List, [], _∷_, _++_}
-use Prim.Native.Nat.{ℕ, zero, suc, _≤_, _<_}
+use Prim.Native.Nat.{ℕ, _-_, _≤_, _<_}
 use native.Mathlib.Omega.{arith}
-use lib.ListN.{length, take, drop}
+use lib.ListN.{length, take, drop, length-drop}
+use lib.Seq.{take-all}
 use lib.Dec.{ltb}
 use Rattle.laws.specs.Order.{_≽_}
 use Rattle.laws.specs.Sorting.{refl≽, below≽}
+use Rattle.laws.specs.Part.{part}
 use Rattle.code.specs.declared.Order.{Order}
 use Rattle.code.specs.declared.Order.the-variants.{Less, Equal, Greater}
 use Rattle.code.specs.Compare.{pick, lex, Compares, less, equal, greater, lex-says, Falls, falling, rising}
@@ -39,6 +41,22 @@ unfolding lex
 lex-short u [] w h = let z : ⊥ = omega arith in absurd z
 lex-short [] (y ∷ a) w h = refl
 lex-short (x ∷ u) (y ∷ a) w h = ap (λ o. pick (ltb x y) Less (pick (ltb y x) Greater o)) (lex-short u a w (omega arith))
+
+-- a part up to the end
+pub part-rest : (n : ℕ) (l : List ℕ) → part n (length l) l ≡ drop n l
+part-rest n l = take-all (length l - n) (drop n l) (omega (arith, length-drop n l))
+
+-- u against a and w behind it, by the answer about a
+module _ (u a w : List ℕ) (h : length a ≤ length u) where
+  pub two-less : lex (take (length a) u) a ≡ Less → Less ≡ lex u (a ++ w)
+  two-less e = sym (lex-behind u a w h ∙ ap (λ o. andThen o (lex (drop (length a) u) w)) e)
+
+  pub two-greater : lex (take (length a) u) a ≡ Greater → Greater ≡ lex u (a ++ w)
+  two-greater e = sym (lex-behind u a w h ∙ ap (λ o. andThen o (lex (drop (length a) u) w)) e)
+
+  pub two-equal : {o : Order} → lex (take (length a) u) a ≡ Equal → o ≡ lex (part (length a) (length u) u) w → o ≡ lex u (a ++ w)
+  two-equal e f =
+      f ∙ ap (λ (l : List ℕ). lex l w) (part-rest (length a) u) ∙ sym (lex-behind u a w h ∙ ap (λ o. andThen o (lex (drop (length a) u) w)) e)
 
 -- the answer of `lex` about two, asked the other way round
 rises-by : {a b : List ℕ} → Compares a b Greater → Falls b a false

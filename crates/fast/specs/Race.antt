@@ -10,10 +10,11 @@ use native.Mathlib.Omega.{arith}
 use lib.ListN.{length, getD, drop, length-drop}
 use lib.Seq.{drop-cons, drop-length}
 use Rattle.laws.specs.Order.{_≽_}
+use Rattle.code.specs.Code.{codes}
 use Rattle.code.specs.Compare.{Falls, falling, rising}
 use Rattle.fast.specs.Middle.{top, peak, second, tops, branch, turned, other, Middle}
-use Rattle.fast.specs.Stack.{Branches}
-use Rattle.fast.specs.Lift.{peak-here, peak-past, second-here, second-past}
+use Rattle.fast.specs.Stack.{heights-length, Branches}
+use Rattle.fast.specs.Lift.{second-below, peak-here, peak-past, second-here, second-past}
 
 -- r says whether P holds
 pub data Tells (P : Type 0) : Bool → Type 0 where
@@ -81,6 +82,10 @@ module _ {hs : List ℕ} {from j first next at : ℕ} (r : Race hs from j first 
         at-is = omega (arith, ap peak rest ∙ peak-here h (drop j hs) o);
       }
 
+-- the tallest is not lower than the others
+pub race-high : {hs : List ℕ} {from j first next at : ℕ} → Race hs from j first next at → next ≤ first
+race-high {hs} {j = j} r = omega (arith, r .top-is, r .next-is, second-below (drop j hs))
+
 peak-inside : (l : List ℕ) → 0 < length l → peak l < length l
 unfolding peak top
 peak-inside [] h = let z : ⊥ = omega arith in absurd z
@@ -122,10 +127,10 @@ module _ {c hs : List ℕ} {from j first next at : ℕ} (r : Race hs from j firs
     pub race-place : at - from ≡ peak (tops c)
     race-place = omega (arith, r .at-is, r .after, ap peak here)
 
-    pub race-inside : at - from < length (tops c)
+    pub race-inside : at - from < length (codes (drop 1 c))
     race-inside =
         let s : 0 < length (tops c) = some-left (tops c) (λ e. n (omega (arith, first-is, second-is))) in
-        omega (arith, race-place, peak-inside (tops c) s)
+        omega (arith, race-place, peak-inside (tops c) s, heights-length (drop 1 c))
 
     -- one taller: the codes decide
     pub race-close : {b : Bool} → first ≡ next + 1 → Falls c (turned c (branch c (at - from)) (branch c (suc (at - from)))) b → Tells (Middle c) b

@@ -1,24 +1,20 @@
 -- Where, among the children of the branch at x, what is left of the code is put; and the code at x as the pieces that it then is.
 -- Assumes nothing.
 use mathlib.Core.Path.{_≡_, refl, sym, ap, ap₂, _∙_, subst}
-use mathlib.Core.Bool.{Bool, true, false}
 use mathlib.Core.List.{List, [], _∷_, _++_, append-assoc, append-nil, flatten}
 use Prim.Native.Nat.{ℕ, zero, suc, _+_, _-_, _≤_, _<_}
 use native.Mathlib.Numerals.{add-one}
 use native.Mathlib.Nat.{sub-zero}
 use native.Mathlib.Omega.{arith}
 use lib.ListN.{length, getD, take, drop, length-drop}
-use lib.Seq.{drop-cons}
 use Rattle.laws.specs.Order.{_≽_, insert}
 use Rattle.laws.specs.Sorting.{insert-at, insert-past}
 use Rattle.laws.specs.Part.{part, part-none, part-cons, part-length, part-join}
 use Rattle.code.specs.Code.{codes}
 use Rattle.code.specs.Ends.{Ends}
 use Rattle.code.specs.Parts.{enough}
-use Rattle.code.specs.Compare.{Falls}
 use Rattle.fast.specs.Middle.{rest, turned, branch}
-use Rattle.fast.specs.Skip.{Skips, skips-after, skips-length, skips-passed, skips-on, skips-left, one-after, one-part, one-children}
-use Rattle.fast.specs.Pieces.{head-rises, head-falls, heads-same}
+use Rattle.fast.specs.Skip.{codes-few, Skips, skips-after, skips-length, skips-passed, skips-on, skips-left, one-after, one-part, one-children}
 
 -- what is left of the code stands before the child that begins at y, or behind the last
 pub record Spot (c : List ℕ) (x e y : ℕ) : Type 0 where
@@ -53,6 +49,9 @@ module _ {c : List ℕ} {x e y m : ℕ} (s : Seeking c x e y m) (whole : Ends 1 
   -- a child is left
   pub seek-some : m < getD c x 0 → 1 ≤ length (codes (drop y c))
   seek-some l = omega (arith, ap length (s .passed .rest) ∙ length-drop m (codes (drop (suc x) c)), enough c whole x h)
+
+  pub seek-inside : m < getD c x 0 → y < length c
+  seek-inside l = omega (arith, seek-some l, codes-few (drop y c), length-drop y c)
 
   module _ (l : m < getD c x 0) {z : ℕ} (q : Skips c y 1 z) (g : y < length c) where
     next : take (k - m) (codes (drop y c)) ≡ part y z c ∷ take (k - suc m) (codes (drop z c))
@@ -96,23 +95,3 @@ module _ {c : List ℕ} {x e y m : ℕ} (s : Seeking c x e y m) (whole : Ends 1 
         let n : k - m ≡ 0 = omega arith in
         let z : take (k - m) (codes (drop y c)) ≡ [] = ap (λ (a : ℕ). take a (codes (drop y c))) n in
         found (rw z refl)
-
--- whether what is left stands at or after a child, by the first digit
-module _ (c : List ℕ) (x e y z : ℕ) (g : y < z) (h : y < length c) where
-  abbrev child : List ℕ
-  child = part y z c
-
-  cons : part y z c ≡ getD c y 0 ∷ part (y + 1) z c
-  cons = rw add-one (part-cons y z c 0 g h)
-
-  pub covers-not : getD c 0 0 - 1 < getD c y 0 → Falls (rest c x e) (part y z c) false
-  unfolding rest
-  covers-not l = rw cons (head-rises (getD c 0 0 - 1) (getD c y 0) (part 1 x c ++ drop e c) (part (y + 1) z c) l)
-
-  pub covers-so : getD c y 0 < getD c 0 0 - 1 → Falls (rest c x e) (part y z c) true
-  unfolding rest
-  covers-so l = rw cons (head-falls (getD c 0 0 - 1) (getD c y 0) (part 1 x c ++ drop e c) (part (y + 1) z c) l)
-
-  pub covers-by : {r : Bool} → getD c 0 0 - 1 ≡ getD c y 0 → Falls (part 1 x c ++ drop e c) (part (y + 1) z c) r → Falls (rest c x e) (part y z c) r
-  unfolding rest
-  covers-by q f = rw cons (heads-same (getD c 0 0 - 1) (getD c y 0) (part 1 x c ++ drop e c) (part (y + 1) z c) q f)
