@@ -13,7 +13,7 @@ ghost use Rattle.code.specs.Limits.{size, valence};
 ghost use Rattle.code.specs.Code.{codes, codeRows};
 ghost use Rattle.code.specs.Ends.{Ends};
 ghost use Rattle.code.specs.Compare.{lex, Falls};
-ghost use Rattle.form.specs.Form.{centred, row14};
+ghost use Rattle.form.specs.Form.{centred, row14, formRows};
 ghost use Rattle.fast.specs.Middle.{top, rest, turned, branch, Middle};
 ghost use Rattle.fast.specs.Skip.{Skips};
 ghost use Rattle.fast.specs.Stack.{Branches};
@@ -254,4 +254,14 @@ pub fn centred(code: &[u8]) -> Check
         return Check::Passed;
     }
     Check::Refuse(14, 0)
+}
+
+// Digits lent by themselves that are to be a centred code: 3, 10 to 13, and 14.
+pub fn check(code: &[u8]) -> Check
+    ensures { λ r. ⌜ Answers (formRows centred size valence (now (code .entry))) r ⌝ }
+{
+    if let Check::Refuse(k, p) = code::check(code) {
+        return Check::Refuse(k, p);
+    }
+    centred(code)
 }
