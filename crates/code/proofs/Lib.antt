@@ -2,3 +2,4 @@
 pub mod Comparing
 pub mod Scanning
 pub mod Lowest
+pub mod Writing

@@ -3,9 +3,12 @@ pub mod Limits
 pub mod Code
 pub mod Ends
 pub mod Counting
-pub mod Ordered
 pub mod Parts
 pub mod Siblings
+pub mod Ordered
 pub mod Search
+pub mod Stack
+pub mod Right
+pub mod Within
 pub mod Compare
 pub mod Examples

@@ -13,7 +13,7 @@ use Rattle.code.specs.Code.{codes, childCodes, LargerOf, Larger}
 use Rattle.code.specs.Ends.{Ends}
 use Rattle.code.specs.Parts.{Ending, Passing, child-is, pass-one, enough, flatten-append}
 
-child-codes : (c : List ℕ) (i : ℕ) → childCodes c (suc i) ≡ take (getD c i 0) (codes (drop (suc i) c))
+pub child-codes : (c : List ℕ) (i : ℕ) → childCodes c (suc i) ≡ take (getD c i 0) (codes (drop (suc i) c))
 unfolding childCodes
 child-codes c i = ap (λ (n : ℕ). take (getD c n 0) (codes (drop (suc i) c))) (omega arith)
 

@@ -2,13 +2,15 @@
 use refusal::Check;
 ghost use mathlib.Core.Path.{_≡_};
 ghost use mathlib.Core.List.{[], _∷_};
-ghost use Prim.Native.Nat.{ℕ, suc, _≤_, _<_};
+ghost use Prim.Native.Nat.{suc, _+_, _≤_, _<_};
 ghost use lib.ListN.{length};
-ghost use Rattle.refusal.specs.Table.{Answers, row3};
+ghost use Rattle.refusal.specs.Table.{Answers, Clear, row3};
+ghost use Rattle.laws.specs.Laid.{Laid};
 ghost use Rattle.code.specs.Limits.{size, valence};
-ghost use Rattle.code.specs.Code.{cap, row10, row11, row12, row13, codeRows};
+ghost use Rattle.code.specs.Code.{cap, row10, row11, row12, row13, codeRows, decode};
 ghost use Rattle.code.specs.Ends.{Ends};
 ghost use Rattle.code.specs.Parts.{Ending};
+ghost use Rattle.code.specs.Stack.{Pushed};
 ghost use Rattle.code.specs.Compare.{lex, Falls};
 ghost use Rattle.code.specs.Search.{Known, FirstOf, Lower};
 
@@ -69,7 +71,7 @@ fn sized(code: &[u8]) -> Check
 }
 
 // The most that digit number p may be.
-fn top(p: usize) -> u8
+pub fn top(p: usize) -> u8
     ensures { λ r. ⌜ r ≡ cap valence p ⌝ }
 {
     if p <= 1 { 4 } else { 3 }
@@ -209,4 +211,42 @@ pub fn check(code: &[u8]) -> Check
         return Check::Refuse(k, p);
     }
     ordered(code)
+}
+
+// v put k times on top of the open places, of which there are t; how many there are then.
+fn push(places: &mut [u8], t: usize, v: u8, k: u8) -> usize
+    requires { ⌜ t + k ≤ length (now places) ⌝ }
+    ensures { λ r. ⌜ Pushed (now (places .entry)) (now (places .exit)) t v k r ⌝ }
+{
+    let mut i = 0;
+    let mut r = t;
+    while i < k {
+        places[r] = v;
+        r += 1;
+        i += 1;
+    }
+    r
+}
+
+// The edges (parent, child) of a right code, for child 2 to N, from the start of the output; how many bytes they are.
+pub fn write_edges(code: &[u8], out: &mut [u8]) -> usize
+    requires { ⌜ Clear (codeRows size valence (now code)) ⌝ }
+    requires { ⌜ length (decode (now code)) ≤ length (now out) ⌝ }
+    ensures { λ r. ⌜ Laid (decode (now (code .entry))) (now (out .entry)) (now (out .exit)) r ⌝ }
+{
+    let mut places = [0u8; 256];
+    let mut t = push(&mut places, 0, 1, code[0]);
+    let mut at = 0;
+    let mut i = 1;
+    while i < code.len() {
+        t -= 1;
+        let p = places[t];
+        let v = (i + 1) as u8;
+        out[at] = p;
+        out[at + 1] = v;
+        t = push(&mut places, t, v, code[i]);
+        at += 2;
+        i += 1;
+    }
+    at
 }

@@ -1,12 +1,12 @@
 -- Laws of the dictionary's order and of sorting by it, largest first: the order is linear, a rearranged list sorts to the same, and
 -- the sorted list is the rearrangement that goes down. The definitions are in `Order`. Assumes nothing.
 use mathlib.Core.Path.{_≡_, refl, ap, ap₂, sym, _∙_}
-use mathlib.Core.Logic.{_⊎_, inl, inr, ⊎-elim, ite, if-pos, if-neg}
+use mathlib.Core.Logic.{_↔_, _⊎_, inl, inr, ⊎-elim, ite, if-pos, if-neg}
 use mathlib.Core.List.{List, [], _∷_, List·Permᴰ, List·Permᴰ·nil, List·Permᴰ·cons, List·Permᴰ·swap, List·Permᴰ·trans, Permᴰ·refl}
-use Prim.Native.Nat.{ℕ, _<_}
+use Prim.Native.Nat.{ℕ, zero, suc, _<_}
 use native.Mathlib.Decide.{decLt}
 use native.Mathlib.Omega.{arith}
-use lib.ListN.{length}
+use lib.ListN.{length, getD}
 use Rattle.laws.specs.Order.{_≽_, dec≽, insert, sort, Falling}
 use Rattle.laws.specs.Perms.{perm-length}
 
@@ -137,3 +137,16 @@ unfolding sort
 sort-stays [] f = refl
 sort-stays (c ∷ []) f = insert-nil c
 sort-stays (c ∷ d ∷ l) f = ap (insert c) (sort-stays (d ∷ l) (f .1)) ∙ insert-at c d l (f .0)
+
+-- a list goes down exactly when each stands at or after the next
+pub falling-iff : (l : List (List ℕ)) → Falling l ↔ ((j : ℕ) → suc j < length l → getD l j [] ≽ getD l (suc j) [])
+falling-iff [] = (λ f j h. tt, λ g. tt)
+falling-iff (c ∷ []) = (λ f j h. let z : ⊥ = omega arith in absurd z, λ g. tt)
+falling-iff (c ∷ d ∷ l) = (
+  λ f j h. at f (falling-iff (d ∷ l) .0 (f .1)) j h,
+  λ g. (g 0 (omega arith), falling-iff (d ∷ l) .1 (λ j h. g (suc j) (omega arith))),
+)
+  where
+    at : Falling (c ∷ d ∷ l) → ((j : ℕ) → suc j < suc (length l) → getD (d ∷ l) j [] ≽ getD (d ∷ l) (suc j) []) → (j : ℕ) → suc j < suc (suc (length l)) → getD (c ∷ d ∷ l) j [] ≽ getD (d ∷ l) j []
+    at f r zero h = f .0
+    at f r (suc j) h = r j (omega arith)

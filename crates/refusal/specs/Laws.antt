@@ -2,7 +2,7 @@
 --
 -- In order: one answer, and one result with one state of what was lent; a table of one row; tables one behind the other; how an
 -- answer of one check becomes an answer of the whole. Assumes nothing.
-use mathlib.Core.Path.{_≡_, refl, sym, ap, ap₂, _∙_}
+use mathlib.Core.Path.{_≡_, refl, sym, ap, ap₂, _∙_, subst}
 use mathlib.Core.Logic.{_⊎_, inl, inr, ⊎-elim}
 use mathlib.Core.Bool.{Bool, true, false}
 use mathlib.Core.List.{List, [], _∷_, _++_}
@@ -11,10 +11,11 @@ use native.Mathlib.Omega.{arith}
 use lib.Dec.{ltb}
 use lib.ListN.{length}
 use borrow.Author.Tests.{ltb-true}
-use Rattle.laws.specs.Laid.{laidOver}
+use Rattle.laws.specs.Laid.{laidOver, Laid}
 use Rattle.refusal.specs.declared.Check.{Check}
 use Rattle.refusal.specs.declared.Check.the-variants.{Passed, Refuse}
-use Rattle.refusal.specs.Table.{Row, Applies, Clear, Lowest, Answers, passes, fails, Outcome, gives, refuses, Promise, kept, left, Writes, row3, row15}
+use Rattle.refusal.specs.Outcome.{checked}
+use Rattle.refusal.specs.Table.{Row, Applies, Clear, Lowest, Answers, passes, fails, Outcome, gives, refuses, Promise, Answered, kept, left, Writes, row3, row15}
 
 -- ---- one answer
 
@@ -181,3 +182,12 @@ room h = clear-one (λ p a. let n : ⊥ = omega (arith, a .1) in n)
 -- and at the length needed where it has none
 pub no-room : {need lent : ℕ} → lent < need → Lowest (row15 need lent ∷ []) 15 need
 no-room h = first-place (refl, h) (λ q l a. let n : ⊥ = omega (arith, a .0) in n)
+
+-- a result that lies at the start of the output is what was to be written
+pub laid-writes : {c old new : List ℕ} {n : ℕ} → Laid c old new n → Writes (λ d. d ≡ c) old n new
+laid-writes {c} l = record { result = c; right = refl; count = l .count; lies = l .lies }
+
+-- a check of the whole table keeps the promise of a call that only checks
+pub check-answered : {rs : List Row} {a : Check} {o : Outcome ℕ} → Answers rs a → o ≡ checked a → Answered rs (λ n. n ≡ 0) o
+check-answered {rs} (passes c) e = subst (Answered rs (λ n. n ≡ 0)) (sym e) (kept c refl)
+check-answered {rs} (fails l) e = subst (Answered rs (λ n. n ≡ 0)) (sym e) (left l refl)

@@ -46,6 +46,10 @@ pub data Promise {A S : Type 0} (rs : List Row) (right : A → S → Type 0) (ol
   kept : {a : A} → Clear rs → right a new → Promise rs right old new (gives a)
   left : {k p : ℕ} → Lowest rs k p → new ≡ old → Promise rs right old new (refuses k p)
 
+-- the same where nothing is lent
+abbrev pub Answered : {A : Type 0} → List Row → (A → Type 0) → Outcome A → Type 0
+Answered rs right o = Promise {S = Unit {0}} rs (λ a s. right a) tt tt o
+
 -- the result c is right, n is its length, and it is written from the start of what was lent
 pub record Writes (Right : List ℕ → Type 0) (old : List ℕ) (n : ℕ) (new : List ℕ) : Type 0 where
   pub result : List ℕ

@@ -1,4 +1,5 @@
 -- Laws that the proofs of several functions cite. Assumes nothing.
+mod Tests
 mod Relabel
 mod Tally
 mod Neighbours

@@ -10,14 +10,14 @@ use Rattle.tree.specs.Skeleton.{arcs, Walk}
 use Rattle.skeleton.specs.Edges.{Edge, one, other, before}
 use Rattle.skeleton.specs.Prefix.{arcs-none, arcs-more}
 use Rattle.skeleton.specs.Joined.{Moved, Labels, alike, labels-none, labels-more}
-use Rattle.skeleton.specs.Parts.{Filled, label, Below, Merged}
+use Rattle.skeleton.specs.Parts.{label, Below, Parted, Merged}
 
--- one vertex more
-pub filled-more : {long : ℕ} {g : ℕ → ℕ} {v : ℕ} {l : List ℕ} → Filled long g v l → v < long → Filled long g (v + 1) (set l v (g v))
-filled-more {g = g} {v} {l} h b =
+-- one vertex more is its own label
+pub parted-more : {v : ℕ} {l : List ℕ} → Parted v l → v < 256 → Parted (v + 1) (set l v v)
+parted-more {v} {l} h b =
     record {
-      all = length-set l v (g v) ∙ h .all;
-      is = below-more _ v (λ w k. getD-set-other l v w (g v) 0 (λ e. let n : ⊥ = omega arith in n) ∙ h .is w k) (getD-set-same l v (g v) 0 (rw (h .all) b));
+      all = length-set l v v ∙ h .all;
+      own = below-more _ v (λ w k. getD-set-other l v w v 0 (λ e. let n : ⊥ = omega arith in n) ∙ h .own w k) (getD-set-same l v v 0 (rw (h .all) b));
     }
 
 -- l, with a made b in what is below v
@@ -60,9 +60,9 @@ pub record Known (E : List ℕ) (top p : ℕ) (l : List ℕ) : Type 0 where
   pub all : length l ≡ 256
   pub right : Labels (Below top) (arcs (before E p)) (label l)
 
-pub known-none : (E : List ℕ) {top : ℕ} {l : List ℕ} → Filled 256 (λ v. v) top l → Known E top 1 l
+pub known-none : (E : List ℕ) {top : ℕ} {l : List ℕ} → Parted top l → Known E top 1 l
 known-none E h =
-    record { all = h .all; right = rw (arcs-none E) (labels-none _ _ (λ u v a b e. sym (h .is u a) ∙ e ∙ h .is v b)) }
+    record { all = h .all; right = rw (arcs-none E) (labels-none _ _ (λ u v a b e. sym (h .own u a) ∙ e ∙ h .own v b)) }
 
 pub known-more :
     {E : List ℕ} {top p : ℕ} {l m : List ℕ} {a b : ℕ} → Known E top p l → Edge E p → a ≡ one E p → b ≡ other E p → a < top → b < top

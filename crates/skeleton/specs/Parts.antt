@@ -1,8 +1,9 @@
 -- What the parts of the code promise each other. No call that a partner makes cites this file.
 --
--- In order: the front of an array; the labels of vertices, in an array with one for each byte; the table of neighbours, one arc at a
+-- In order: a test; the labels of vertices, in an array with one for each byte; the table of neighbours, one arc at a
 -- time. Assumes nothing.
 use mathlib.Core.Path.{_≡_}
+use mathlib.Core.Bool.{Bool, true, false}
 use mathlib.Core.List.{List, []}
 use Prim.Native.Nat.{ℕ, _+_, _-_, _≤_, _<_}
 use lib.ListN.{length, getD, set}
@@ -10,10 +11,10 @@ use Rattle.code.specs.Limits.{size, valence}
 use Rattle.skeleton.specs.Edges.{Edge, one, other}
 use Rattle.skeleton.specs.Joined.{Moved}
 
--- l has `long` numbers, and each of the first n is what g says
-pub record Filled (long : ℕ) (g : ℕ → ℕ) (n : ℕ) (l : List ℕ) : Type 0 where
-  pub all : length l ≡ long
-  pub is : (i : ℕ) → i < n → getD l i 0 ≡ g i
+-- r says whether P holds
+pub record Tells (P : Type 0) (r : Bool) : Type 0 where
+  pub right : r ≡ true → P
+  pub wrong : r ≡ false → P → ⊥
 
 -- ---- labels
 
@@ -24,6 +25,11 @@ label l v = getD l v 0
 -- only vertices below top are looked at
 abbrev pub Below : ℕ → ℕ → Type 0
 Below top v = v < top
+
+-- each vertex is its own label
+pub record Parted (top : ℕ) (l : List ℕ) : Type 0 where
+  pub all : length l ≡ 256
+  pub own : (v : ℕ) → v < top → label l v ≡ v
 
 -- the label a of l is b in m
 pub record Merged (top a b : ℕ) (l m : List ℕ) : Type 0 where

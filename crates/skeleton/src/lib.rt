@@ -7,16 +7,16 @@ use refusal::Check;
 const VALENCE: u8 = 4;
 
 ghost use mathlib.Core.Path.{_≡_};
-ghost use mathlib.Core.Bool.{true, false};
-ghost use mathlib.Core.List.{List, [], _∷_};
+ghost use mathlib.Core.Logic.{_⊎_};
+ghost use mathlib.Core.List.{[], _∷_};
 ghost use Prim.Native.Nat.{ℕ, _+_, _≤_, _<_};
-ghost use lib.ListN.{length, getD};
+ghost use lib.ListN.{length};
 ghost use Rattle.refusal.specs.Table.{Answers, Outside};
 ghost use Rattle.code.specs.Limits.{size, valence};
 ghost use Rattle.tree.specs.Skeleton.{IsSkeleton};
 ghost use Rattle.skeleton.specs.Edges.{Edge, one, other, row3, row5, row6, row7, row8, row9, edgeRows};
 ghost use Rattle.skeleton.specs.Table.{Shaped, IsTable};
-ghost use Rattle.skeleton.specs.Parts.{Filled, Merged, Within, Room, Added};
+ghost use Rattle.skeleton.specs.Parts.{Tells, Parted, Merged, Within, Room, Added};
 
 fn wide(x: u8) -> usize
     ensures { λ r. ⌜ (r ≡ x) × (r < 256) ⌝ }
@@ -60,9 +60,17 @@ fn sizes(most: usize, n: usize, edges: &[u8]) -> Check
 
 // Whether v is 0 or above n.
 fn outside(n: usize, v: usize) -> bool
-    ensures { λ r. ⌜ (r ≡ true → Outside n v) × (r ≡ false → Outside n v → ⊥) ⌝ }
+    ensures { λ r. ⌜ Tells (Outside n v) r ⌝ }
 {
     v == 0 || n < v
+}
+
+// Whether an end of edge p is.
+fn stray(n: usize, edges: &[u8], p: usize) -> bool
+    requires { ⌜ Edge (now edges) p ⌝ }
+    ensures { λ r. ⌜ Tells (Outside n (one (now (edges .entry)) p) ⊎ Outside n (other (now (edges .entry)) p)) r ⌝ }
+{
+    outside(n, one(edges, p)) || outside(n, other(edges, p))
 }
 
 // 6: the root, then every end of every edge.
@@ -75,10 +83,7 @@ fn vertices(n: usize, edges: &[u8], root: usize) -> Check
     let m = edges.len() / 2;
     let mut p: usize = 1;
     while p <= m {
-        if outside(n, one(edges, p)) {
-            return Check::Refuse(6, p);
-        }
-        if outside(n, other(edges, p)) {
+        if stray(n, edges, p) {
             return Check::Refuse(6, p);
         }
         p += 1;
@@ -111,7 +116,7 @@ fn moved(x: u8, a: u8, b: u8) -> u8
 // Each vertex below top gets a label of its own.
 fn part(labels: &mut [u8; 256], top: usize)
     requires { ⌜ (length (now labels) ≡ 256) × (top ≤ 256) ⌝ }
-    ensures { λ _. ⌜ Filled 256 (λ v. v) top (now (labels .exit)) ⌝ }
+    ensures { λ _. ⌜ Parted top (now (labels .exit)) ⌝ }
 {
     let mut v: usize = 0;
     while v < top {
@@ -161,6 +166,13 @@ fn cycles(n: usize, edges: &[u8]) -> Check
     Check::Passed
 }
 
+// Whether one of two counts is as high as it may be.
+fn full(x: u8, y: u8) -> bool
+    ensures { λ r. ⌜ Tells ((valence ≤ x) ⊎ (valence ≤ y)) r ⌝ }
+{
+    VALENCE <= x || VALENCE <= y
+}
+
 // 9: an end that has as many edges as a vertex may have.
 fn degrees(edges: &[u8]) -> Check
     ensures { λ r. ⌜ Answers (row9 valence (now (edges .entry)) ∷ []) r ⌝ }
@@ -171,10 +183,7 @@ fn degrees(edges: &[u8]) -> Check
     while p <= m {
         let a = one(edges, p);
         let b = other(edges, p);
-        if VALENCE <= count[a] {
-            return Check::Refuse(9, p);
-        }
-        if VALENCE <= count[b] {
+        if full(count[a], count[b]) {
             return Check::Refuse(9, p);
         }
         count[a] += 1;
@@ -203,18 +212,6 @@ pub fn check(most: usize, n: usize, edges: &[u8], root: usize) -> Check
     degrees(edges)
 }
 
-// No vertex has a neighbour yet.
-fn blank(degs: &mut [u8; 64], n: usize)
-    requires { ⌜ (length (now degs) ≡ 64) × (n ≤ 64) ⌝ }
-    ensures { λ _. ⌜ Filled 64 (λ v. 0) n (now (degs .exit)) ⌝ }
-{
-    let mut i: usize = 0;
-    while i < n {
-        degs[i] = 0;
-        i += 1;
-    }
-}
-
 // b goes behind the neighbours that a has.
 fn add(rows: &mut [[u8; 4]; 64], degs: &mut [u8; 64], a: usize, b: usize)
     requires { ⌜ Shaped (now rows) (now degs) ⌝ }
@@ -227,13 +224,13 @@ fn add(rows: &mut [[u8; 4]; 64], degs: &mut [u8; 64], a: usize, b: usize)
     degs[i] += 1;
 }
 
-// The table of neighbours of an accepted list.
+// The table of neighbours of an accepted list. Whatever the two arrays held is gone.
 pub fn fill(n: usize, edges: &[u8], rows: &mut [[u8; 4]; 64], degs: &mut [u8; 64])
     requires { ⌜ IsSkeleton size valence n (now edges) ⌝ }
-    requires { ⌜ Shaped (now rows) (now degs) ⌝ }
     ensures { λ _. ⌜ IsTable n (now (edges .entry)) (now (rows .exit)) (now (degs .exit)) ⌝ }
 {
-    blank(degs, n);
+    *rows = [[0u8; 4]; 64];
+    *degs = [0u8; 64];
     let m = edges.len() / 2;
     let mut p: usize = 1;
     while p <= m {

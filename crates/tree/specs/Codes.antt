@@ -1,13 +1,11 @@
 -- The rooted code of a tree is read off its forest: the codes of a forest's trees, and `rooted-join`, after which no proof about rooted
 -- codes speaks of arcs, parents or depth again. In order: whose neighbours are whose in a forest's arcs, then the codes. Assumes nothing.
 use mathlib.Core.Path.{_≡_, refl, ap, ap₂, sym, _∙_, subst}
-use mathlib.Core.Logic.{_⊎_, inl, inr, ⊎-elim, ite, if-pos, if-neg, Dec·not}
-use mathlib.Core.List.{List, [], _∷_, _++_, map, filter, flatten, append-nil, append-assoc, map-append, filter-append, List·Memᴰ, List·Memᴰ·head, List·Memᴰ·tail, Memᴰ·cast, Memᴰ·append-left, Memᴰ·append-right, List·Permᴰ, List·Permᴰ·cons, List·Permᴰ·trans, Permᴰ·refl, Permᴰ·map, Permᴰ·filter}
-use Prim.Native.Nat.{ℕ, zero, suc, _+_, _≤_, _<_}
+use mathlib.Core.Logic.{if-pos, if-neg, Dec·not}
+use mathlib.Core.List.{List, [], _∷_, _++_, map, filter, flatten, append-nil, append-assoc, map-append, filter-append, List·Memᴰ, List·Memᴰ·head, List·Memᴰ·tail, Memᴰ·cast, Memᴰ·append-left, Memᴰ·append-right, List·Permᴰ, List·Permᴰ·trans, Permᴰ·map, Permᴰ·filter}
+use Prim.Native.Nat.{ℕ, zero, suc, _≤_, _<_}
 use native.Mathlib.Decide.{ℕ-discrete}
 use native.Mathlib.Omega.{arith}
-use lib.ListN.{length}
-use Rattle.laws.specs.Order.{sort}
 use Rattle.laws.specs.Sorting.{sort-perm}
 use Rattle.laws.specs.Perms.{perm-length, front}
 use Rattle.tree.specs.Skeleton.{Arc, arcs, neighbours, children}

@@ -1,14 +1,14 @@
 -- Decoding, on forests: the digits of a forest as it stands decode to its edges, with the numbers that the digits' positions give
 -- (`decode-forest`). Sorting is in `Sorted`, and what the renumbering is in `Renumber`. Assumes nothing.
-use mathlib.Core.Path.{_≡_, refl, ap, ap₂, sym, _∙_, subst}
+use mathlib.Core.Path.{_≡_, refl, ap, ap₂, sym, _∙_}
 use mathlib.Core.List.{List, [], _∷_, _++_, map, append-nil, append-assoc, map-append}
-use Prim.Native.Nat.{ℕ, zero, suc, _+_, _*_, _≤_}
+use Prim.Native.Nat.{ℕ, suc, _+_}
 use native.Mathlib.Nat.{zero-add, suc-add}
 use native.Mathlib.Omega.{arith}
-use lib.ListN.{length, replicate, length-append, replicate-append-replicate}
+use lib.ListN.{length, replicate, length-append}
 use Rattle.code.specs.Code.{edgesFrom, decode}
 use Rattle.code.specs.Ends.{Ends}
-use Rattle.tree.specs.Skeleton.{Arc, arcs}
+use Rattle.tree.specs.Skeleton.{arcs}
 use Rattle.tree.specs.Forest.{Forest, none, tree, vertices, count, hung}
 use Rattle.tree.specs.Label.{Marks, digits}
 

@@ -1,8 +1,8 @@
--- Laws of forests that know nothing of codes: a forest's lists as one, no vertex twice as a law of the list of vertices, and other numbers
+-- Laws of forests that know nothing of codes: no vertex twice as a law of the list of vertices, the lists of a forest as one, and other numbers
 -- for the vertices. Assumes nothing.
 use mathlib.Core.Path.{_≡_, refl, ap, ap₂, sym, _∙_}
 use mathlib.Core.Logic.{_↔_, ⊎-elim}
-use mathlib.Core.List.{List, [], _∷_, _++_, map, map-append, List·Memᴰ, List·Memᴰ·append-cases, Memᴰ·append-left, Memᴰ·append-right}
+use mathlib.Core.List.{List, [], _∷_, _++_, map, map-append, List·Memᴰ, List·Memᴰ·head, List·Memᴰ·tail, List·Memᴰ·append-cases, List·Memᴰ·cases-cons, List·Memᴰ·not-nil, Memᴰ·append-left, Memᴰ·append-right}
 use Prim.Native.Nat.{ℕ, suc, _+_}
 use native.Mathlib.Omega.{arith}
 use lib.ListN.{length, length-append}
@@ -32,6 +32,21 @@ distinct-once (tree v d f) = (
     distinct-once f .1 (once-right (vertices d) (vertices f) (o .1)),
   ),
 )
+
+-- the ends of a forest's arcs are the root and its vertices
+pub hung-in : (p : ℕ) (f : Forest) (e : Arc) → List·Memᴰ e (hung p f) → List·Memᴰ (e .0) (p ∷ vertices f) × List·Memᴰ (e .1) (p ∷ vertices f)
+unfolding hung vertices
+hung-in p none e m = absurd (List·Memᴰ·not-nil m)
+hung-in p (tree v d f) e (List·Memᴰ·head q) = (List·Memᴰ·head (ap (λ a. a .0) q), List·Memᴰ·tail (List·Memᴰ·head (ap (λ a. a .1) q)))
+hung-in p (tree v d f) e (List·Memᴰ·tail (List·Memᴰ·head q)) = (List·Memᴰ·tail (List·Memᴰ·head (ap (λ a. a .0) q)), List·Memᴰ·head (ap (λ a. a .1) q))
+hung-in p (tree v d f) e (List·Memᴰ·tail (List·Memᴰ·tail m)) =
+    ⊎-elim (λ k. let (a, b) = hung-in v d e k in (below a, below b)) (λ k. let (a, b) = hung-in p f e k in (beside a, beside b)) (List·Memᴰ·append-cases (hung v d) m)
+  where
+    below : {x : ℕ} → List·Memᴰ x (v ∷ vertices d) → List·Memᴰ x (p ∷ v ∷ (vertices d ++ vertices f))
+    below h = List·Memᴰ·tail (Memᴰ·append-left (vertices f) h)
+
+    beside : {x : ℕ} → List·Memᴰ x (p ∷ vertices f) → List·Memᴰ x (p ∷ v ∷ (vertices d ++ vertices f))
+    beside h = ⊎-elim (λ e. List·Memᴰ·head e) (λ k. List·Memᴰ·tail (List·Memᴰ·tail (Memᴰ·append-right (vertices d) k))) (List·Memᴰ·cases-cons h)
 
 -- what x gives for each vertex under its parent, the first of which is p
 unfoldable pub gather : {A : Type 0} → (ℕ → ℕ → List A) → ℕ → Forest → List A

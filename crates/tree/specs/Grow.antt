@@ -13,7 +13,7 @@ use Rattle.laws.specs.Perms.{perm-in, perm-length, front, decIn}
 use Rattle.laws.specs.Once.{Once, once-perm, fits, upTo, upTo-length, upTo-once, upTo-in}
 use Rattle.tree.specs.Skeleton.{Arc, arcs, Walk, here, along, IsTree}
 use Rattle.tree.specs.Forest.{Forest, none, tree, vertices, hung, Rooted}
-use Rattle.tree.specs.Forests.{count-vertices, distinct-once}
+use Rattle.tree.specs.Forests.{count-vertices, distinct-once, hung-in}
 use Rattle.tree.specs.Walks.{arc-end, walks}
 
 -- an edge list without one of its edges, which joins u and v
@@ -89,20 +89,6 @@ hang r u v (tree x d g) h = step (List·Memᴰ·cases-cons h) (hang x u v d) (ha
     step (inl e) i j = under-root r u v (tree x d g) e
     step (inr m) i j = ⊎-elim (λ a. within (i a)) (λ b. beside (j (List·Memᴰ·tail b))) (List·Memᴰ·append-cases (x ∷ vertices d) m)
 
--- the ends of a forest's arcs are the root and its vertices
-ends : (p : ℕ) (f : Forest) {u v : ℕ} → List·Memᴰ (u, v) (hung p f) → List·Memᴰ v (p ∷ vertices f)
-unfolding hung vertices
-ends p none h = absurd (List·Memᴰ·not-nil h)
-ends p (tree x d f) (List·Memᴰ·head e) = List·Memᴰ·tail (List·Memᴰ·head (ap (λ (a : Arc). a .1) e))
-ends p (tree x d f) (List·Memᴰ·tail (List·Memᴰ·head e)) = List·Memᴰ·head (ap (λ (a : Arc). a .1) e)
-ends p (tree x d f) {u} {v} (List·Memᴰ·tail (List·Memᴰ·tail h)) =
-    step (List·Memᴰ·append-cases (hung x d) h) (λ (k : List·Memᴰ (u, v) (hung x d)). ends x d k) (λ (k : List·Memᴰ (u, v) (hung p f)). ends p f k)
-  where
-    step : List·Memᴰ (u, v) (hung x d) ⊎ List·Memᴰ (u, v) (hung p f) → (List·Memᴰ (u, v) (hung x d) → List·Memᴰ v (x ∷ vertices d))
-        → (List·Memᴰ (u, v) (hung p f) → List·Memᴰ v (p ∷ vertices f)) → List·Memᴰ v (p ∷ x ∷ (vertices d ++ vertices f))
-    step (inl k) i j = List·Memᴰ·tail (Memᴰ·append-left (vertices f) (i k))
-    step (inr k) i j = ⊎-elim List·Memᴰ·head (λ m. List·Memᴰ·tail (Memᴰ·append-right (x ∷ vertices d) m)) (List·Memᴰ·cases-cons (j k))
-
 -- each vertex of a forest has its parent's arc
 parent : (p : ℕ) (f : Forest) (v : ℕ) → List·Memᴰ v (vertices f) → (u : ℕ) × List·Memᴰ (u, v) (hung p f)
 unfolding hung vertices
@@ -169,7 +155,7 @@ module _ (E : List ℕ) (r : ℕ) where
     where
       step : Dec (In g v) → More g v
       step (yes m) = stay g v m
-      step (no n) = ⊎-elim (λ a. absurd (n (ends r (g .forest) a))) (add g u v i n) (List·Memᴰ·append-cases (hung r (g .forest)) (perm-in (g .same) h))
+      step (no n) = ⊎-elim (λ a. absurd (n (hung-in r (g .forest) (u, v) a .1))) (add g u v i n) (List·Memᴰ·append-cases (hung r (g .forest)) (perm-in (g .same) h))
 
   follow : {u w : ℕ} → Walk (arcs E) u w → (g : Grown E r) → In g u → More g w
   follow {u} here g i = stay g u i

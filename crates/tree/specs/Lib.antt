@@ -1,10 +1,10 @@
 -- Skeletons and their rooted codes. Assumes nothing.
 pub mod Skeleton
 pub mod Forest
+pub mod Forests
 pub mod Walks
 pub mod Grow
 pub mod Label
-pub mod Forests
 pub mod Codes
 pub mod Decoding
 pub mod Sorted
@@ -16,4 +16,5 @@ pub mod General
 pub mod Base
 pub mod Theorems
 pub mod Ordered
+pub mod Accepted
 pub mod Examples

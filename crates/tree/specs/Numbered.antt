@@ -1,8 +1,8 @@
 -- Numbering by code: what a rooted code decodes to is the tree that was coded, numbered in the order of the digits (`to-decoded`). So
 -- trees with equal rooted codes are the same (`same-tree`). Assumes nothing.
 use mathlib.Core.Path.{_≡_, refl, ap, ap₂, sym, _∙_, subst}
-use mathlib.Core.List.{List, [], _∷_, _++_, map, append-nil, List·Memᴰ, List·Memᴰ·head, List·Memᴰ·tail, Memᴰ·cast, List·Permᴰ, Permᴰ·map}
-use Prim.Native.Nat.{ℕ, zero, suc, _+_, _-_, _≤_, _<_}
+use mathlib.Core.List.{List, [], _∷_, _++_, map, List·Memᴰ, List·Memᴰ·head, List·Memᴰ·tail, Memᴰ·cast, List·Permᴰ, Permᴰ·map}
+use Prim.Native.Nat.{ℕ, zero, suc, _+_, _-_, _<_}
 use native.Mathlib.Nat.{add-zero}
 use native.Mathlib.Omega.{arith}
 use lib.ListN.{length, getD, List·getD-map}
@@ -13,7 +13,7 @@ use Rattle.tree.specs.Skeleton.{arcs, Renumbering}
 use Rattle.tree.specs.Forest.{Forest, none, tree, vertices, count, hung, Rooted}
 use Rattle.tree.specs.Forests.{count-vertices, distinct-once, mapF, map-hung}
 use Rattle.tree.specs.Label.{Marks, rootedₗ, digits, labels, Keeps}
-use Rattle.tree.specs.Decoding.{width, shape, number, edgesOf, edges-hung, decode-forest, marks, marks-labels}
+use Rattle.tree.specs.Decoding.{width, shape, number, edgesOf, edges-hung, decode-forest, marks-labels}
 use Rattle.tree.specs.Sorted.{sorted, rooted-marks, rooted-digits}
 use Rattle.tree.specs.Renumber.{carry, Within, rooted-within, back, after}
 

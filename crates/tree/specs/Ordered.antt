@@ -1,22 +1,22 @@
 -- A rooted code told by its digits alone: they end, and at no digit is a child's code larger than that of the sibling before it
 -- (`code-ordered`). So a code is tested with neither decoding nor sorting. Assumes nothing.
 use mathlib.Core.Path.{_≡_, refl, ap, ap₂, sym, _∙_, subst}
-use mathlib.Core.Logic.{_↔_, Iff·trans}
-use mathlib.Core.List.{List, [], _∷_, _++_, flatten, append-nil, append-assoc, List·Memᴰ, List·Memᴰ·tail, Permᴰ·refl, List·Permᴰ}
-use Prim.Native.Nat.{ℕ, suc, _+_, _≤_}
+use mathlib.Core.Logic.{_↔_}
+use mathlib.Core.List.{List, [], _∷_, _++_, flatten, append-nil, append-assoc}
+use Prim.Native.Nat.{ℕ, suc, _+_}
 use native.Mathlib.Omega.{arith}
 use lib.ListN.{length, take, drop}
 use lib.Seq.{take-at, drop-at}
 use Rattle.laws.specs.Order.{sort, Falling}
 use Rattle.laws.specs.Sorting.{sort-stays}
-use Rattle.code.specs.Code.{codes, decode}
+use Rattle.code.specs.Code.{codes}
 use Rattle.code.specs.Ends.{Ends}
 use Rattle.code.specs.Ordered.{Ordered}
 use Rattle.tree.specs.Skeleton.{rooted, IsRooted}
-use Rattle.tree.specs.Forest.{Forest, none, tree, vertices, count, hung, Rooted}
-use Rattle.tree.specs.Label.{joinₗ, rootedₗ}
+use Rattle.tree.specs.Forest.{Forest, none, tree, count, Rooted}
+use Rattle.tree.specs.Label.{joinₗ}
 use Rattle.tree.specs.Codes.{branches, rooted-join}
-use Rattle.tree.specs.Decoding.{width, shape, shape-length, number, edgesOf, decode-forest}
+use Rattle.tree.specs.Decoding.{width, shape, number, edgesOf}
 use Rattle.tree.specs.Sorted.{Sorted, sorted, sorted-below, sorted-falling, rooted-digits}
 use Rattle.tree.specs.Right.{read-code, numbered-rooted, numbered-tree}
 use Rattle.tree.specs.Grow.{rooted-tree}

@@ -1,16 +1,15 @@
 -- Renumberings: they go back and compose, a tree stays a tree under them, and rooted codes stay what they are (`same-code`). That equal
 -- rooted codes come from a renumbering is in `Numbered`. Assumes nothing.
 use mathlib.Core.Path.{_≡_, refl, ap, ap₂, sym, _∙_, subst}
-use mathlib.Core.Logic.{⊎-elim}
-use mathlib.Core.List.{List, [], _∷_, _++_, map, map-map, List·Memᴰ, List·Memᴰ·head, List·Memᴰ·tail, List·Memᴰ·append-cases, List·Memᴰ·cases-cons, List·Memᴰ·not-nil, Memᴰ·cast, Memᴰ·map, Memᴰ·of-map, Memᴰ·append-left, Memᴰ·append-right, List·Permᴰ, List·Permᴰ·trans, Permᴰ·symm, Permᴰ·map}
+use mathlib.Core.List.{List, [], _∷_, map, map-id, map-map, List·Memᴰ, List·Memᴰ·head, List·Memᴰ·tail, Memᴰ·cast, Memᴰ·map, Memᴰ·of-map, Memᴰ·append-left, Memᴰ·append-right, List·Permᴰ, List·Permᴰ·trans, Permᴰ·refl, Permᴰ·symm, Permᴰ·map}
 use Prim.Native.Nat.{ℕ, _≤_}
 use native.Mathlib.Omega.{arith}
 use Rattle.laws.specs.Perms.{perm-in}
 use Rattle.laws.specs.Once.{Once}
 use Rattle.laws.specs.Places.{once-map}
 use Rattle.tree.specs.Skeleton.{Arc, arcs, Renumbering}
-use Rattle.tree.specs.Forest.{Forest, none, tree, vertices, hung, Rooted}
-use Rattle.tree.specs.Forests.{distinct-once, mapF, map-vertices, map-count, map-hung}
+use Rattle.tree.specs.Forest.{Forest, none, tree, vertices, Rooted}
+use Rattle.tree.specs.Forests.{distinct-once, mapF, map-vertices, map-count, map-hung, hung-in}
 use Rattle.tree.specs.Label.{Marks, joinₗ, rootedₗ, Keeps}
 use Rattle.tree.specs.Codes.{branches, rooted-join}
 
@@ -22,20 +21,6 @@ carry g e = (g (e .0), g (e .1))
 abbrev pub Within : ℕ → List Arc → Type 0
 Within N A = (e : Arc) → List·Memᴰ e A → ((1 ≤ e .0) × (e .0 ≤ N)) × ((1 ≤ e .1) × (e .1 ≤ N))
 
-hung-in : (p : ℕ) (f : Forest) (e : Arc) → List·Memᴰ e (hung p f) → List·Memᴰ (e .0) (p ∷ vertices f) × List·Memᴰ (e .1) (p ∷ vertices f)
-unfolding hung vertices
-hung-in p none e m = absurd (List·Memᴰ·not-nil m)
-hung-in p (tree v d f) e (List·Memᴰ·head q) = (List·Memᴰ·head (ap (λ a. a .0) q), List·Memᴰ·tail (List·Memᴰ·head (ap (λ a. a .1) q)))
-hung-in p (tree v d f) e (List·Memᴰ·tail (List·Memᴰ·head q)) = (List·Memᴰ·tail (List·Memᴰ·head (ap (λ a. a .0) q)), List·Memᴰ·head (ap (λ a. a .1) q))
-hung-in p (tree v d f) e (List·Memᴰ·tail (List·Memᴰ·tail m)) =
-    ⊎-elim (λ k. let (a, b) = hung-in v d e k in (below a, below b)) (λ k. let (a, b) = hung-in p f e k in (beside a, beside b)) (List·Memᴰ·append-cases (hung v d) m)
-  where
-    below : {x : ℕ} → List·Memᴰ x (v ∷ vertices d) → List·Memᴰ x (p ∷ v ∷ (vertices d ++ vertices f))
-    below h = List·Memᴰ·tail (Memᴰ·append-left (vertices f) h)
-
-    beside : {x : ℕ} → List·Memᴰ x (p ∷ vertices f) → List·Memᴰ x (p ∷ v ∷ (vertices d ++ vertices f))
-    beside h = ⊎-elim (λ e. List·Memᴰ·head e) (λ k. List·Memᴰ·tail (List·Memᴰ·tail (Memᴰ·append-right (vertices d) k))) (List·Memᴰ·cases-cons h)
-
 pub map-on : {A : Type 0} (g : A → A) (l : List A) → ((x : A) → List·Memᴰ x l → g x ≡ x) → map g l ≡ l
 map-on g [] h = refl
 map-on g (x ∷ l) h = ap₂ (λ a b. a ∷ b) (h x (List·Memᴰ·head refl)) (map-on g l (λ y m. h y (List·Memᴰ·tail m)))
@@ -44,7 +29,20 @@ module _ (N : ℕ) (E : List ℕ) where
   pub rooted-within : (r : ℕ) → Rooted N E r → Within N (arcs E)
   rooted-within r t e m = let (a, b) = hung-in r (t .forest) e (perm-in (t .same) m) in (t .inside (e .0) a, t .inside (e .1) b)
 
+  -- every number its own
+  unfoldable pub itself : Renumbering N E E
+  itself = record {
+    to = λ v. v;
+    from = λ v. v;
+    to-in = λ v h k. (h, k);
+    from-in = λ v h k. (h, k);
+    from-to = λ v h k. refl;
+    to-from = λ v h k. refl;
+    carries = subst (λ l. List·Permᴰ l (arcs E)) (sym (map-id (arcs E))) (Permᴰ·refl (arcs E));
+  }
+
   module _ (F : List ℕ) where
+    -- the other way round
     unfoldable pub back : Within N (arcs E) → Renumbering N E F → Renumbering N F E
     back w ρ = record {
       to = ρ .from;
@@ -59,6 +57,7 @@ module _ (N : ℕ) (E : List ℕ) where
           (Permᴰ·symm (Permᴰ·map (carry (ρ .from)) (ρ .carries)));
     }
 
+    -- one behind the other
     unfoldable pub after : (G : List ℕ) → Renumbering N E F → Renumbering N F G → Renumbering N E G
     after G ρ σ = record {
       to = λ v. σ .to (ρ .to v);

@@ -1,16 +1,16 @@
 -- Right rooted codes. Digits that end are a forest's (`read`), so what they decode to is a tree (`decoded-tree`); and a rooted code ends,
 -- has a digit for each vertex, and is what its decoded tree is coded to (`decode-code`). Assumes nothing.
-use mathlib.Core.Path.{_≡_, refl, ap, ap₂, sym, _∙_, subst}
+use mathlib.Core.Path.{_≡_, refl, ap, ap₂, sym, _∙_}
 use mathlib.Core.Logic.{_⊎_, inl, inr, ⊎-elim}
-use mathlib.Core.List.{List, [], _∷_, _++_, map, append-nil, append-assoc, List·Memᴰ, List·Memᴰ·head, List·Memᴰ·tail, List·Memᴰ·append-cases, List·Memᴰ·cases-cons, List·Memᴰ·not-nil, Memᴰ·cast, Memᴰ·append-left, Memᴰ·append-right, List·Permᴰ, Permᴰ·refl}
+use mathlib.Core.List.{List, [], _∷_, _++_, append-nil, append-assoc, List·Memᴰ, List·Memᴰ·head, List·Memᴰ·tail, List·Memᴰ·append-cases, List·Memᴰ·cases-cons, List·Memᴰ·not-nil, Memᴰ·append-left, Memᴰ·append-right, Permᴰ·refl}
 use Prim.Native.Nat.{ℕ, zero, suc, _+_, _*_, _≤_, _<_}
-use native.Mathlib.Nat.{zero-add, suc-add, add-zero}
+use native.Mathlib.Nat.{add-zero}
 use native.Mathlib.Decide.{ℕ-discrete, decLt}
 use native.Mathlib.Omega.{arith}
 use lib.ListN.{length, length-append, length-map}
 use Rattle.code.specs.Code.{sum, decode}
 use Rattle.code.specs.Ends.{Ends, ends-sum}
-use Rattle.tree.specs.Skeleton.{Arc, arcs, Walk, here, along, IsTree, Renumbering}
+use Rattle.tree.specs.Skeleton.{Arc, Walk, here, along, IsTree}
 use Rattle.tree.specs.Forest.{Forest, none, tree, vertices, count, hung, Distinct, Rooted}
 use Rattle.tree.specs.Label.{Marks, rootedₗ, digits, labels}
 use Rattle.tree.specs.Decoding.{width, shape, shape-length, number, number-count, edgesOf, edges-hung, decode-forest, ends-forest}

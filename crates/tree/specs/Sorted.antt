@@ -1,16 +1,16 @@
 -- A forest with the trees beside one another sorted by their codes, largest first, at every vertex: it is the same tree, and its marks as
 -- they stand are its rooted code (`rooted-marks`). Assumes nothing.
-use mathlib.Core.Path.{_≡_, refl, ap, ap₂, sym, _∙_, subst}
+use mathlib.Core.Path.{_≡_, refl, ap, ap₂, sym, _∙_}
 use mathlib.Core.Logic.{ite}
-use mathlib.Core.List.{List, [], _∷_, _++_, flatten, append-assoc, List·Memᴰ, List·Memᴰ·head, List·Memᴰ·tail, List·Permᴰ, List·Permᴰ·cons, List·Permᴰ·trans, Permᴰ·refl, Permᴰ·symm, Permᴰ·append-left, Permᴰ·append-right}
-use Prim.Native.Nat.{ℕ, suc, _+_, _≤_}
+use mathlib.Core.List.{List, [], _∷_, _++_, flatten, append-assoc, List·Permᴰ, List·Permᴰ·cons, List·Permᴰ·trans, Permᴰ·refl, Permᴰ·symm, Permᴰ·append-left, Permᴰ·append-right}
+use Prim.Native.Nat.{ℕ, suc}
 use native.Mathlib.Omega.{arith}
 use lib.ListN.{length}
 use Rattle.laws.specs.Order.{_≽_, dec≽, insert, sort, Falling}
-use Rattle.laws.specs.Sorting.{sort-self, sort-length, sort-falling, sort-stays}
+use Rattle.laws.specs.Sorting.{sort-self, sort-falling, sort-stays}
 use Rattle.laws.specs.Perms.{perm-in, perm-length, front}
 use Rattle.laws.specs.Once.{once-perm}
-use Rattle.tree.specs.Forest.{Forest, none, tree, vertices, count, hung, Distinct, Rooted}
+use Rattle.tree.specs.Forest.{Forest, none, tree, vertices, hung, Rooted}
 use Rattle.tree.specs.Forests.{gather, gather-vertices, gather-hung, count-vertices, distinct-once}
 use Rattle.tree.specs.Label.{Marks, joinₗ, rootedₗ, digits}
 use Rattle.tree.specs.Codes.{join-perm, branches, rooted-join}

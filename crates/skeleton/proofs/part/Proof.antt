@@ -2,19 +2,19 @@
 use mathlib.Core.Path.{_≡_}
 use Prim.Native.Nat.{_-_, _≤_}
 use native.Mathlib.Omega.{arith}
-use Rattle.skeleton.specs.Parts.{Filled}
-use Rattle.skeleton.proofs.Relabel.{filled-more}
+use Rattle.skeleton.specs.Parts.{Parted}
+use Rattle.skeleton.proofs.Relabel.{parted-more}
 use Rattle.skeleton.proofs.part.Statement.{statement}
 use Rattle.skeleton.proofs.part.Tie as tie
 
 abbrev Inv-loop : tie.InvT-loop
-Inv-loop labels₀ top v₀ labels v = (v ≤ top) × Filled 256 (λ v. v) v labels
+Inv-loop labels₀ top v₀ labels v = (v ≤ top) × Parted v labels
 
 abbrev μ-loop : tie.MeasureT-loop
 μ-loop labels₀ top v₀ labels v = top - v
 
 loop-holds : tie.Need-loop-holds Inv-loop μ-loop
-loop-holds c = (omega arith, record { all = c .pre .0; is = λ v k. absurd (let n : ⊥ = omega arith in n) })
+loop-holds c = (omega arith, record { all = c .pre .0; own = λ v k. absurd (let n : ⊥ = omega arith in n) })
 
 cast-labels : tie.Need-cast-labels Inv-loop μ-loop
 cast-labels c = omega arith
@@ -29,7 +29,7 @@ loop-less : tie.Need-loop-less Inv-loop μ-loop
 loop-less c = omega arith
 
 loop-again : tie.Need-loop-again Inv-loop μ-loop
-loop-again c = (omega arith, filled-more (c .before .loop .inv .1) (omega arith))
+loop-again c = (omega arith, parted-more (c .before .loop .inv .1) (omega arith))
 
 returns : tie.Need-returns Inv-loop μ-loop
 returns c = let e : c .before .loop .v ≡ c .before .before .args .top = omega arith in rw (← e) (c .before .loop .inv .1)

@@ -1,0 +1,3 @@
+-- What the coder's contracts cite. Assumes nothing.
+pub mod Table
+pub mod Coded

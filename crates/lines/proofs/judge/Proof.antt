@@ -1,0 +1,28 @@
+-- `lines::judge` meets its contract: what is judged is the values. Assumes nothing.
+use mathlib.Core.Path.{_≡_, sym, ap, subst, _∙_}
+use mathlib.Core.List.{List}
+use Prim.Native.Nat.{ℕ}
+use borrow.Author.Needs.{needs}
+use lib.ListN.{length, take}
+use Rattle.laws.specs.Laying.{laid-front}
+use Rattle.refusal.specs.Table.{Answers}
+use Rattle.code.specs.Code.{codeRows}
+use Rattle.code.specs.Limits.{size, valence}
+use Rattle.lines.specs.Form.{values}
+use Rattle.lines.specs.Taking.{length-values}
+use Rattle.lines.proofs.judge.Statement.{statement}
+use Rattle.lines.proofs.judge.Tie as tie
+
+are-values : (c : tie.After-v3) → take (length (c .before .before .before .before .before .args .t .now)) (c .before .before .read-digits .last .1 .0) ≡ values (c .before .before .before .before .before .args .t .now)
+are-values c = laid-front _ _ _ _ (c .before .before .read-digits .ensures) (length-values _)
+
+slice-aggregate-check : tie.Need-slice-aggregate-check
+slice-aggregate-check c = sym (ap length (are-values c) ∙ length-values _)
+
+returns : tie.Need-returns
+returns c = subst (λ (d : List ℕ). Answers (codeRows size valence d) (c .check .result)) (are-values (c .before)) (c .check .ensures)
+
+pub judge-spec : {M : Type 1} → statement M
+judge-spec =
+    tie.close
+    (tie.spec (λ c. search needs) (λ c κs. search needs) (λ c. search needs) slice-aggregate-check (λ c κs. search needs) returns)

@@ -1,0 +1,2 @@
+-- Laws that more than one proof of a public call cites. Assumes nothing.
+pub mod Decoded

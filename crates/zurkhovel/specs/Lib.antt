@@ -1,0 +1,3 @@
+-- The promises of the public calls. Assumes nothing.
+pub mod Calls
+pub mod One

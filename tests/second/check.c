@@ -1,0 +1,225 @@
+#include "check.h"
+
+#include <inttypes.h>
+#include <signal.h>
+#include <stdio.h>
+#include <stdlib.h>
+#include <string.h>
+
+enum { guard = 32, most_lent = 300 };
+
+static uint64_t state, seed_of_run, cases;
+static const char *piece;
+
+/* The case under way, with its bytes kept: for a report when a call crashes or a claim fails. */
+enum { most_input = 4096 };
+static const char *name_now = "";
+static struct input input_now;
+static uint8_t kept[most_input], kept2[most_input];
+
+uint64_t random64(void)
+{
+    uint64_t z = state += 0x9e3779b97f4a7c15u;
+    z = (z ^ (z >> 30)) * 0xbf58476d1ce4e5b9u;
+    z = (z ^ (z >> 27)) * 0x94d049bb133111ebu;
+    return z ^ (z >> 31);
+}
+
+uint64_t below(uint64_t bound)
+{
+    return random64() % bound;
+}
+
+int one_in(unsigned chances)
+{
+    return below(chances) == 0;
+}
+
+static void crashed(int signal)
+{
+    struct answer none = {0, 0};
+    char more[60];
+    snprintf(more, sizeof more, "the call crashed with signal %d; no answers", signal);
+    mismatch(name_now, &input_now, more, none, none);
+}
+
+void begin_case(const char *name, const struct input *in)
+{
+    cases++;
+    name_now = name;
+    input_now = *in;
+    input_now.len = in->len < most_input ? in->len : most_input;
+    input_now.bytes = memcpy(kept, in->bytes, input_now.len);
+    if (in->bytes2 != NULL)
+        input_now.bytes2 = memcpy(kept2, in->bytes2, in->len2);
+}
+
+void begin_piece(const char *name, uint64_t seed)
+{
+    signal(SIGSEGV, crashed);
+    signal(SIGILL, crashed);
+    signal(SIGFPE, crashed);
+    signal(SIGBUS, crashed);
+    piece = name;
+    seed_of_run = state = seed;
+    for (; *name != '\0'; name++)
+        state = random64() + (uint8_t)*name;
+    cases = 0;
+}
+
+uint64_t cases_of_piece(void)
+{
+    return cases;
+}
+
+static void print_bytes(const char *what, const uint8_t *bytes, size_t len)
+{
+    printf("  %s, %zu bytes:", what, len);
+    for (size_t i = 0; i < len; i++)
+        printf(" %u", bytes[i]);
+    printf("\n");
+}
+
+static void print_input(const struct input *in)
+{
+    printf("  n %" PRIu64 ", root %" PRIu64 ", value %" PRIu64 ", x %a\n", in->n, in->root, in->value, in->x);
+    print_bytes("input", in->bytes, in->len);
+    if (in->bytes2 != NULL) {
+        printf("  n of the second list %" PRIu64 "\n", in->n2);
+        print_bytes("second list", in->bytes2, in->len2);
+    }
+}
+
+static void print_head(const char *what, const char *name)
+{
+    printf("%s in zk_%s: piece %s, case %" PRIu64 ", seed %" PRIu64 "\n", what, name, piece, cases, seed_of_run);
+}
+
+_Noreturn void mismatch(const char *name, const struct input *in, const char *more,
+                        struct answer ours, struct answer theirs)
+{
+    print_head("MISMATCH", name);
+    print_input(in);
+    printf("  %s\n", more);
+    printf("  ours   %u at %" PRIu64 "\n", ours.number, ours.place);
+    printf("  theirs %u at %" PRIu64 "\n", theirs.number, theirs.place);
+    exit(1);
+}
+
+void claim(int holds, const char *what)
+{
+    if (!holds) {
+        print_head("A CLAIM FAILS, though both agree,", name_now);
+        printf("  it is: %s\n", what);
+        print_input(&input_now);
+        exit(1);
+    }
+}
+
+void claim_met(const struct call *call, const unsigned *wanted, size_t count)
+{
+    char listed[300] = "";
+    size_t used = 0, next = 0;
+    for (unsigned number = 0; number < numbers; number++) {
+        int is_wanted = next < count && wanted[next] == number;
+        next += is_wanted;
+        if (call->met[number] > 0)
+            used += (size_t)snprintf(listed + used, sizeof listed - used, " %u:%" PRIu64, number, call->met[number]);
+        if (is_wanted != (call->met[number] > 0)) {
+            printf("  %-14s%s\n", call->name, listed);
+            claim(0, "the cases meet every refusal of the call, and no other");
+        }
+    }
+    printf("  %-14s%s\n", call->name, listed);
+}
+
+void fill_pattern(void *memory, size_t bytes, uint64_t salt)
+{
+    uint8_t *byte = memory;
+    for (size_t i = 0; i < bytes; i++)
+        byte[i] = (uint8_t)(0x5a + salt + 37 * i);
+}
+
+static int equal(struct answer a, struct answer b)
+{
+    return a.number == b.number && a.place == b.place;
+}
+
+struct lent {
+    uint8_t byte[guard + most_lent + guard];
+};
+
+static void compare(const struct call *call, const struct input *in, size_t room,
+                    struct answer ours, const struct lent *wanted, struct answer theirs, const struct lent *got)
+{
+    char more[100];
+    snprintf(more, sizeof more, "output lent: %zu bytes", room);
+    if (!equal(ours, theirs))
+        mismatch(call->name, in, more, ours, theirs);
+    call->met[ours.number]++;
+    for (size_t i = 0; i < sizeof wanted->byte; i++)
+        if (wanted->byte[i] != got->byte[i]) {
+            snprintf(more, sizeof more, "output lent: %zu bytes; byte %d is %u in ours, %u in theirs", room,
+                     (int)i - guard, wanted->byte[i], got->byte[i]);
+            mismatch(call->name, in, more, ours, theirs);
+        }
+}
+
+/* One number, or nothing: both begin with the same bytes in memory. */
+static struct answer check_value(const struct call *call, const struct input *in, size_t room)
+{
+    static uint64_t salt;
+    struct lent wanted, got;
+    fill_pattern(&wanted, sizeof wanted, ++salt);
+    got = wanted;
+    struct answer ours = call->ours(in, wanted.byte + guard, room);
+    struct answer theirs = call->theirs(in, got.byte + guard, room);
+    compare(call, in, room, ours, &wanted, theirs, &got);
+    return ours;
+}
+
+/* What must be in the lent output follows from the result and the room: all of the pattern, or the
+ * result and behind it the pattern. */
+static void check_room(const struct call *call, const struct input *in, size_t room,
+                       struct answer ample, const uint8_t *result)
+{
+    static uint64_t salt;
+    struct lent wanted, got;
+    fill_pattern(&wanted, sizeof wanted, ++salt);
+    got = wanted;
+    struct answer ours = ample;
+    if (ample.number == 0 && room < ample.place)
+        ours = (struct answer){15, ample.place};
+    else if (ample.number == 0)
+        memcpy(wanted.byte + guard, result, ample.place);
+    struct answer theirs = call->theirs(in, got.byte + guard, room);
+    compare(call, in, room, ours, &wanted, theirs, &got);
+}
+
+struct answer check(const struct call *call, struct input in)
+{
+    static const uint8_t nothing[1];
+    if (in.bytes == NULL)
+        in.bytes = nothing;
+    begin_case(call->name, &in);
+    if (call->output == no_output)
+        return check_value(call, &in, 0);
+    if (call->output == one_value)
+        return check_value(call, &in, sizeof(uint64_t));
+
+    uint8_t result[most_lent];
+    struct answer ample = call->ours(&in, result, sizeof result);
+    if (ample.number != 0) {
+        check_room(call, &in, 0, ample, result);
+        check_room(call, &in, below(most_lent + 1), ample, result);
+        return ample;
+    }
+    size_t needed = ample.place;
+    if (needed > 0) {
+        check_room(call, &in, needed - 1, ample, result);
+        check_room(call, &in, one_in(4) ? 0 : below(needed), ample, result);
+    }
+    check_room(call, &in, needed, ample, result);
+    check_room(call, &in, needed + 1 + below(most_lent - needed), ample, result);
+    return ample;
+}

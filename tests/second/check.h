@@ -1,0 +1,78 @@
+/* Comparing the library with the oracle: one case, its lent outputs, the counting, the random numbers. */
+#ifndef CHECK_H
+#define CHECK_H
+
+#include <stddef.h>
+#include <stdint.h>
+
+#include "oracle.h"
+#include "zurkhovel.h"
+
+/* ---- Random numbers: splitmix64, from a seed that is printed ---- */
+
+uint64_t random64(void);
+uint64_t below(uint64_t bound); /* 0 to bound-1; bound is not 0 */
+int one_in(unsigned chances);
+
+/* ---- Pieces: each begins with its own random numbers, so that it can be run alone ---- */
+
+void begin_piece(const char *name, uint64_t seed);
+uint64_t cases_of_piece(void);
+
+/* ---- One case ---- */
+
+/* What a call is given; each uses its own part. */
+struct input {
+    uint64_t n;
+    const uint8_t *bytes;
+    size_t len;
+    uint64_t root;
+    uint64_t value;
+    double x;
+    uint64_t n2;
+    const uint8_t *bytes2;
+    size_t len2;
+};
+
+enum output {
+    lent_bytes, /* a lent output of any length */
+    one_value,  /* eight bytes for one number */
+    no_output
+};
+
+typedef struct answer calling(const struct input *in, uint8_t *out, size_t room);
+
+enum { numbers = 16 };
+
+struct call {
+    const char *name;
+    enum output output;
+    calling *ours, *theirs;
+    uint64_t *met; /* how often each number was answered */
+};
+
+/* Makes both answer, with the output lent too short, exactly and too long; ends the program when an
+ * answer or any byte of the lent output or around it differs. Returns our answer to an ample output. */
+struct answer check(const struct call *call, struct input in);
+
+/* That the cases met all these numbers, 0 among them, and no other: a piece ends with this for each of its
+ * calls, so that no refusal goes untried. */
+void claim_met(const struct call *call, const unsigned *wanted, size_t count);
+#define CLAIM_MET(NAME, ...) \
+    claim_met(&call_##NAME, (const unsigned[]){__VA_ARGS__}, \
+              sizeof((const unsigned[]){__VA_ARGS__}) / sizeof(unsigned))
+
+/* For calls that fit no `struct call`: counts a case and keeps its input in mind; prints both answers and
+ * ends the program. */
+void begin_case(const char *name, const struct input *in);
+_Noreturn void mismatch(const char *name, const struct input *in, const char *more,
+                        struct answer ours, struct answer theirs);
+
+/* Fills memory with bytes that differ from one call to the next. */
+void fill_pattern(void *memory, size_t bytes, uint64_t salt);
+
+/* A claim of document 01 beyond single answers, or of ours about the inputs, made behind a case in which
+ * both agreed; ends the program when it fails. */
+void claim(int holds, const char *what);
+
+#endif

@@ -1,0 +1,184 @@
+/* Rooted, N-tuple and centred codes, and the verdict "same skeleton". */
+#include <string.h>
+
+#include "oracle_parts.h"
+
+static bool larger(const struct code *a, const struct code *b)
+{
+    return oracle_compare(a->digit, a->length, b->digit, b->length) == 2;
+}
+
+static void append(struct code *code, const struct code *part)
+{
+    memcpy(code->digit + code->length, part->digit, part->length);
+    code->length += part->length;
+}
+
+/* The code of a vertex seen from its parent: the count of its children, then their codes, always the
+ * largest of those not yet written. */
+static struct code part_code(const struct tree *tree, unsigned vertex, unsigned parent)
+{
+    struct code child[most_neighbours];
+    unsigned children = 0;
+    for (unsigned i = 0; i < tree->degree[vertex]; i++)
+        if (tree->neighbour[vertex][i] != parent)
+            child[children++] = part_code(tree, tree->neighbour[vertex][i], vertex);
+
+    struct code code;
+    code.length = 1;
+    code.digit[0] = (uint8_t)children;
+    while (children > 0) {
+        unsigned largest = 0;
+        for (unsigned i = 1; i < children; i++)
+            if (larger(&child[i], &child[largest]))
+                largest = i;
+        append(&code, &child[largest]);
+        child[largest] = child[--children];
+    }
+    return code;
+}
+
+struct code rooted_code(const struct tree *tree, unsigned root)
+{
+    return part_code(tree, root, 0);
+}
+
+struct code n_tuple_code(const struct tree *tree)
+{
+    unsigned most = 0;
+    for (unsigned v = 1; v <= tree->n; v++)
+        if (tree->degree[v] > most)
+            most = tree->degree[v];
+
+    struct code best = {.length = 0};
+    for (unsigned v = 1; v <= tree->n; v++) {
+        if (tree->degree[v] != most)
+            continue;
+        struct code code = rooted_code(tree, v);
+        if (best.length == 0 || larger(&code, &best))
+            best = code;
+    }
+    return best;
+}
+
+static void measure(const struct tree *tree, unsigned vertex, unsigned parent, unsigned far, unsigned *distance)
+{
+    distance[vertex] = far;
+    for (unsigned i = 0; i < tree->degree[vertex]; i++)
+        if (tree->neighbour[vertex][i] != parent)
+            measure(tree, tree->neighbour[vertex][i], vertex, far + 1, distance);
+}
+
+unsigned centre(const struct tree *tree, unsigned middle[2])
+{
+    unsigned distance[most_vertices + 1][most_vertices + 1];
+    unsigned from = 1, to = 1;
+    for (unsigned u = 1; u <= tree->n; u++) {
+        measure(tree, u, 0, 0, distance[u]);
+        for (unsigned v = 1; v <= tree->n; v++)
+            if (distance[u][v] > distance[from][to])
+                from = u, to = v;
+    }
+
+    unsigned path[most_vertices];
+    unsigned steps = distance[from][to];
+    path[0] = to;
+    for (unsigned step = 1; step <= steps; step++)
+        for (unsigned i = 0; i < tree->degree[path[step - 1]]; i++) {
+            unsigned next = tree->neighbour[path[step - 1]][i];
+            if (distance[from][next] == steps - step)
+                path[step] = next;
+        }
+
+    middle[0] = path[steps / 2];
+    middle[1] = path[(steps + 1) / 2];
+    return middle[0] == middle[1] ? 1 : 2;
+}
+
+struct code centred_code(const struct tree *tree)
+{
+    unsigned middle[2];
+    centre(tree, middle);
+    struct code one = rooted_code(tree, middle[0]);
+    struct code other = rooted_code(tree, middle[1]);
+    return larger(&other, &one) ? other : one;
+}
+
+bool same_digits(const uint8_t *digits, size_t count, const struct code *code)
+{
+    return oracle_compare(digits, count, code->digit, code->length) == 1;
+}
+
+struct answer oracle_rooted_code(uint64_t n, const uint8_t *edges, size_t len, uint64_t root,
+                                 uint8_t *out, size_t room)
+{
+    struct answer refusal = oracle_check_edges(n, edges, len, root);
+    if (refusal.number != 0)
+        return refusal;
+    struct tree tree = tree_of(n, edges);
+    struct code code = rooted_code(&tree, (unsigned)root);
+    return deliver(refusal, code.digit, code.length, out, room);
+}
+
+typedef struct code form(const struct tree *);
+
+static struct answer code_as(form *of, uint64_t n, const uint8_t *edges, size_t len, uint8_t *out, size_t room)
+{
+    struct answer refusal = oracle_check_edges(n, edges, len, no_root);
+    if (refusal.number != 0)
+        return refusal;
+    struct tree tree = tree_of(n, edges);
+    struct code code = of(&tree);
+    return deliver(refusal, code.digit, code.length, out, room);
+}
+
+struct answer oracle_n_tuple_code(uint64_t n, const uint8_t *edges, size_t len, uint8_t *out, size_t room)
+{
+    return code_as(n_tuple_code, n, edges, len, out, room);
+}
+
+struct answer oracle_centred_code(uint64_t n, const uint8_t *edges, size_t len, uint8_t *out, size_t room)
+{
+    return code_as(centred_code, n, edges, len, out, room);
+}
+
+/* Row 14 is about right rooted codes only, so it is looked at behind rows 3 and 10 to 13. */
+static struct answer decode_as(form *of, const uint8_t *code, size_t len, uint8_t *out, size_t room)
+{
+    struct answer refusal = oracle_check_code(code, len);
+    if (refusal.number != 0)
+        return refusal;
+    struct tree tree = tree_of_code(code, len);
+    struct code asked = of(&tree);
+    refusal = LOWEST(row_if(14, !same_digits(code, len, &asked)));
+    return deliver_edges(refusal, code, len, out, room);
+}
+
+struct answer oracle_decode_n_tuple(const uint8_t *code, size_t len, uint8_t *out, size_t room)
+{
+    return decode_as(n_tuple_code, code, len, out, room);
+}
+
+struct answer oracle_decode_centred(const uint8_t *code, size_t len, uint8_t *out, size_t room)
+{
+    return decode_as(centred_code, code, len, out, room);
+}
+
+struct answer oracle_same(uint64_t n1, const uint8_t *e1, size_t l1,
+                          uint64_t n2, const uint8_t *e2, size_t l2, uint64_t *list)
+{
+    struct answer first = oracle_check_edges(n1, e1, l1, no_root);
+    struct answer second = oracle_check_edges(n2, e2, l2, no_root);
+    if (first.number != 0) {
+        *list = 1;
+        return first;
+    }
+    if (second.number != 0) {
+        *list = 2;
+        return second;
+    }
+    struct tree one = tree_of(n1, e1), other = tree_of(n2, e2);
+    struct code a = centred_code(&one), b = centred_code(&other);
+    *list = 0;
+    return (struct answer){0, same_digits(a.digit, a.length, &b) ? 1 : 0};
+}

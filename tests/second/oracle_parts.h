@@ -1,0 +1,83 @@
+/* What the oracle's files share: rows of the refusal table, codes, trees. */
+#ifndef ORACLE_PARTS_H
+#define ORACLE_PARTS_H
+
+#include <stdbool.h>
+
+#include "oracle.h"
+
+enum { most_vertices = 64, most_neighbours = 4, most_children = 3 };
+
+/* One row of the refusal table: its number, whether it applies to an input, and the first place. */
+struct row {
+    unsigned number;
+    bool applies;
+    uint64_t place;
+};
+
+struct row row_at(unsigned number, uint64_t place);
+struct row row_if(unsigned number, bool applies);
+struct row row_none(unsigned number);
+
+/* Of the rows that apply the lowest number, and of these the first place; number 0 when none applies. */
+struct answer lowest(const struct row *rows, size_t count);
+#define LOWEST(...) \
+    lowest((const struct row[]){__VA_ARGS__}, sizeof((const struct row[]){__VA_ARGS__}) / sizeof(struct row))
+
+/* The last step of a call with a lent output: the refusal, or 15, or the result written at the front. */
+struct answer deliver(struct answer refusal, const uint8_t *result, size_t length, uint8_t *out, size_t room);
+
+/* A digit code that is known to fit. */
+struct code {
+    size_t length;
+    uint8_t digit[most_vertices];
+};
+
+/* The position where the code at the front of the bytes ends: the first one where the sum of the digits
+ * so far is less than the position. 0 when there is none. */
+size_t code_end(const uint8_t *digits, size_t count);
+
+/* How many children the vertex of this digit may have; digits count from 1, and the root is digit 1. */
+unsigned cap(size_t digit);
+
+/* Rows 10 to 13 over digits. All digits are judged for 10, those behind the code's end too. */
+struct row row_10_digits(const uint8_t *digits, size_t count);
+struct row row_11_digits(const uint8_t *digits, size_t count);
+struct row row_12_digits(const uint8_t *digits, size_t count);
+struct row row_13(const uint8_t *digits, size_t count);
+
+/* The edges (parent, child), child 2 to N, of a code that has its right end; returns their length. */
+size_t edges_of_code(const uint8_t *digits, size_t n, uint8_t *edges);
+
+/* A right code made into edges: what every reading call does with its digits. */
+struct answer deliver_edges(struct answer refusal, const uint8_t *digits, size_t n, uint8_t *out, size_t room);
+
+/* Rows of an edge list: 3 with the form's own limit, then 5 to 9. A call without a named root gives
+ * vertex 1 for 6. The rows 8 and 9 take any list of ends. */
+struct row row_3(uint64_t n, uint64_t limit);
+struct row row_8(const uint8_t *edges, size_t len);
+struct row row_9(const uint8_t *edges, size_t len);
+struct answer refuse_edges(uint64_t n, uint64_t limit, const uint8_t *edges, size_t len, uint64_t root);
+enum { no_root = 1 };
+
+/* A tree from a list that has no refusal. Vertices count from 1. */
+struct tree {
+    unsigned n;
+    unsigned degree[most_vertices + 1];
+    unsigned neighbour[most_vertices + 1][most_neighbours];
+};
+
+struct tree tree_of(uint64_t n, const uint8_t *edges);
+struct tree tree_of_code(const uint8_t *digits, size_t n);
+bool are_joined(const struct tree *tree, unsigned u, unsigned v);
+
+struct code rooted_code(const struct tree *tree, unsigned root);
+struct code n_tuple_code(const struct tree *tree);
+struct code centred_code(const struct tree *tree);
+
+/* The middle vertex, or the two, of one longest path; returns how many. */
+unsigned centre(const struct tree *tree, unsigned middle[2]);
+
+bool same_digits(const uint8_t *digits, size_t count, const struct code *code);
+
+#endif

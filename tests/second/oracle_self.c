@@ -1,0 +1,287 @@
+/* The oracle held against every figure that document 01 prints. Needs no proved code. */
+#include <inttypes.h>
+#include <math.h>
+#include <stdio.h>
+#include <stdlib.h>
+#include <string.h>
+
+#include "oracle_parts.h"
+
+static unsigned held;
+
+static void expect(int line, const char *what, uint64_t got, uint64_t wanted)
+{
+    held++;
+    if (got != wanted) {
+        printf("oracle_self.c:%d: %s is %" PRIu64 ", and document 01 says %" PRIu64 "\n", line, what, got, wanted);
+        exit(1);
+    }
+}
+#define IS(got, wanted) expect(__LINE__, #got, (got), (wanted))
+#define REFUSED(call, wanted_number, wanted_place) \
+    do { \
+        struct answer got_ = (call); \
+        expect(__LINE__, "number of " #call, got_.number, (wanted_number)); \
+        expect(__LINE__, "place of " #call, got_.place, (wanted_place)); \
+    } while (0)
+
+static uint8_t out[256];
+
+/* A printed code as bytes of value 0 to 9. */
+static struct code code_of(const char *printed)
+{
+    struct code code = {.length = strlen(printed)};
+    for (size_t i = 0; i < code.length; i++)
+        code.digit[i] = (uint8_t)(printed[i] - '0');
+    return code;
+}
+
+static bool is_printed(const uint8_t *digits, size_t count, const char *printed)
+{
+    struct code code = code_of(printed);
+    return same_digits(digits, count, &code);
+}
+
+static uint64_t whole_at_1(const char *printed)
+{
+    struct code code = code_of(printed);
+    uint8_t edges[128];
+    struct answer decoded = oracle_decode_code(code.digit, code.length, edges, sizeof edges);
+    uint64_t value = UINT64_MAX;
+    IS(oracle_whole(code.length, edges, decoded.place, 1, &value).number, 0);
+    return value;
+}
+
+/* A row of "Skeletons to hold it against": edges from the centred code, and everything from the edges. */
+static void p_row(const char *centred, const char *n_tuple, uint64_t whole)
+{
+    struct code code = code_of(centred);
+    uint8_t edges[128];
+    struct answer decoded = oracle_decode_centred(code.digit, code.length, edges, sizeof edges);
+    IS(decoded.number, 0);
+    IS(decoded.place, 2 * (code.length - 1));
+    struct answer answer = oracle_centred_code(code.length, edges, decoded.place, out, sizeof out);
+    IS(is_printed(out, answer.place, centred), true);
+    answer = oracle_n_tuple_code(code.length, edges, decoded.place, out, sizeof out);
+    IS(is_printed(out, answer.place, n_tuple), true);
+    IS(whole_at_1(centred), whole);
+    answer = oracle_unwhole(code.length, whole, out, sizeof out);
+    IS(answer.number, 0);
+    IS(memcmp(out, edges, decoded.place), 0);
+}
+
+static void p_rows(void)
+{
+    p_row("0", "0", 0);
+    p_row("10", "10", 4);
+    p_row("200", "200", 24);
+    p_row("2100", "2100", 104);
+    p_row("3000", "3000", 112);
+    p_row("40000", "40000", 480);
+    p_row("220010", "311000", 1732);
+    p_row("3110100", "3110100", 7496);
+    p_row("32100100", "32100100", 30344);
+}
+
+static void adjacency(void)
+{
+    const uint8_t cam[] = {1, 2, 2, 3, 1, 6}, by_code[] = {1, 2, 3, 1, 5, 1};
+    uint8_t edges[12];
+    uint64_t value;
+    IS(oracle_uncam(7, cam, 6, edges, sizeof edges).number, 0);
+    struct answer answer = oracle_centred_code(7, edges, 12, out, sizeof out);
+    IS(is_printed(out, answer.place, "3110100"), true);
+    IS(oracle_0a(7, edges, 12, &value).number, 0);
+    IS(value, 545);
+    IS(oracle_a0(7, edges, 12, &value).number, 0);
+    IS(value, 1646688);
+    IS(oracle_0a_by_code(7, edges, 12, &value).number, 0);
+    IS(value, 624);
+    REFUSED(oracle_cam_by_code(7, edges, 12, out, sizeof out), 0, 6);
+    IS(memcmp(out, by_code, 6), 0);
+    REFUSED(oracle_cam(7, edges, 12, out, sizeof out), 0, 6);
+    IS(memcmp(out, cam, 6), 0);
+    REFUSED(oracle_un0a(7, 545, out, sizeof out), 0, 12);
+    IS(memcmp(out, edges, 12), 0);
+    REFUSED(oracle_una0(7, 1646688, out, sizeof out), 0, 12);
+    IS(memcmp(out, edges, 12), 0);
+}
+
+static void fractions(void)
+{
+    struct code code = code_of("32100100");
+    uint8_t edges[14];
+    double value = 0;
+    IS(oracle_decode_code(code.digit, 8, edges, sizeof edges).number, 0);
+    IS(oracle_fraction(8, edges, 14, 1, &value).number, 0);
+    IS(value == 0.926025390625 && value == 30344.0 / 32768.0, true);
+    REFUSED(oracle_unfraction(value, out, sizeof out), 0, 14);
+    IS(memcmp(out, edges, 14), 0);
+    REFUSED(oracle_unfraction(0.5, out, sizeof out), 0, 2);
+    IS(out[0] == 1 && out[1] == 2, true);
+    REFUSED(oracle_unfraction(0.0, out, sizeof out), 0, 0);
+    REFUSED(oracle_unfraction(0.25, out, sizeof out), 11, 2);
+    REFUSED(oracle_unfraction(ldexp(1, -60), out, sizeof out), 11, 2);
+    REFUSED(oracle_unfraction(1.0, out, sizeof out), 4, 0);
+    REFUSED(oracle_unfraction(-0.0, out, sizeof out), 4, 0);
+    REFUSED(oracle_unfraction(NAN, out, sizeof out), 4, 0);
+    REFUSED(oracle_unwhole(3, 16, out, sizeof out), 11, 3);
+}
+
+static struct answer rooted(const char *printed)
+{
+    struct code code = code_of(printed);
+    return oracle_check_code(code.digit, code.length);
+}
+
+static void codes(void)
+{
+    REFUSED(rooted("2010"), 13, 3);
+    REFUSED(rooted("00"), 11, 2);
+    REFUSED(rooted("20"), 12, 2);
+    REFUSED(rooted("50"), 10, 1);
+    REFUSED(rooted("140000"), 10, 2);
+    REFUSED(rooted("1200"), 0, 0);
+    REFUSED(rooted("020"), 11, 2);
+    REFUSED(rooted("007"), 10, 3);
+    struct code code = code_of("1200");
+    REFUSED(oracle_decode_centred(code.digit, 4, out, sizeof out), 14, 0);
+    code = code_of("2210010");
+    REFUSED(oracle_check_code(code.digit, 7), 0, 0);
+    REFUSED(oracle_decode_centred(code.digit, 7, out, sizeof out), 14, 0);
+}
+
+/* A path numbered from one end, which is physical. */
+static size_t path(unsigned n, uint8_t *edges)
+{
+    for (unsigned i = 1; i < n; i++) {
+        edges[2 * i - 2] = (uint8_t)i;
+        edges[2 * i - 1] = (uint8_t)(i + 1);
+    }
+    return 2 * (n - 1);
+}
+
+static void limits(void)
+{
+    uint8_t edges[128], path_code[65];
+    uint64_t value;
+    double x;
+    memset(path_code, 1, 65);
+    path_code[63] = 0;
+    REFUSED(oracle_check_code(path_code, 64), 0, 0);
+    path_code[63] = 1, path_code[64] = 0;
+    REFUSED(oracle_check_code(path_code, 65), 3, 0);
+    REFUSED(oracle_check_code(path_code, 0), 3, 0);
+    REFUSED(oracle_centred_code(64, edges, path(64, edges), out, sizeof out), 0, 64);
+    REFUSED(oracle_centred_code(65, edges, path(65, edges), out, sizeof out), 3, 0);
+    IS(oracle_0a(21, edges, path(21, edges), &value).number, 0);
+    IS(value, 2432902008176639999u); /* 20! - 1, the largest */
+    REFUSED(oracle_un0a(21, value, out, sizeof out), 0, 40);
+    REFUSED(oracle_un0a(21, value + 1, out, sizeof out), 4, 0);
+    REFUSED(oracle_un0a(22, 0, out, sizeof out), 3, 0);
+    IS(oracle_0a(22, edges, path(22, edges), &value).number, 3);
+    IS(oracle_a0(11, edges, path(11, edges), &value).number, 0);
+    REFUSED(oracle_una0(11, value, out, sizeof out), 0, 20);
+    IS(oracle_a0(12, edges, path(12, edges), &value).number, 3);
+    REFUSED(oracle_una0(12, value, out, sizeof out), 3, 0);
+    IS(oracle_fraction(27, edges, path(27, edges), 1, &x).number, 0);
+    REFUSED(oracle_unfraction(x, out, sizeof out), 0, 52);
+    IS(oracle_fraction(28, edges, path(28, edges), 1, &x).number, 3);
+    IS(oracle_whole(32, edges, path(32, edges), 1, &value).number, 0);
+    REFUSED(oracle_unwhole(32, value, out, sizeof out), 0, 62);
+    IS(oracle_whole(33, edges, path(33, edges), 1, &value).number, 3);
+    IS(oracle_0a(1, edges, 0, &value).number, 0);
+    IS(value, 0);
+    IS(oracle_0a(2, edges, path(2, edges), &value).number, 0);
+    IS(value, 0);
+    REFUSED(oracle_pack(1, edges, 0, 1, out, sizeof out), 0, 1);
+    IS(out[0], 0);
+}
+
+static struct answer line(const char *text)
+{
+    return oracle_read_line((const uint8_t *)text, strlen(text), out, sizeof out);
+}
+
+static void lines(void)
+{
+    REFUSED(line("0 0\n"), 3, 0);
+    REFUSED(line("08 32100100\n"), 2, 0);
+    REFUSED(line("00 0\n"), 2, 0);
+    REFUSED(line("100 0\n"), 2, 0);
+    REFUSED(line("1 0"), 1, 0);
+    REFUSED(line("1 0\n"), 0, 1);
+    REFUSED(line("1 0\nwhatever"), 0, 1);
+    REFUSED(line(""), 1, 0);
+    REFUSED(line("\n"), 2, 0);
+}
+
+/* The sample of "The listing", by the reader over a text. */
+static void listing(void)
+{
+    const char *text = "8 32100100\n6 220010\n6 311000\n6 2200,10\n3 20\n1 0";
+    const char *wanted = "1 0 0\n2 0 0\n3 14 0\n4 2 0\n5 5 0\n6 1 0\nread 2 refused 4\n";
+    uint8_t records[64 * 8], numbers[8];
+    uint64_t places[8], answered, at;
+    oracle_read_text((const uint8_t *)text, strlen(text), records, sizeof records, numbers, 8, places, 8,
+                     &answered, &at);
+    char listed[200];
+    size_t used = 0;
+    unsigned read = 0, refused = 0;
+    for (uint64_t i = 0; i < answered; i++) {
+        uint64_t place = numbers[i] == 0 ? 0 : places[i];
+        used += (size_t)snprintf(listed + used, sizeof listed - used, "%" PRIu64 " %u %" PRIu64 "\n", i + 1,
+                                 numbers[i], place);
+        *(numbers[i] == 0 ? &read : &refused) += 1;
+    }
+    snprintf(listed + used, sizeof listed - used, "read %u refused %u\n", read, refused);
+    IS(strcmp(listed, wanted), 0);
+    IS(at, strlen(text));
+    IS(places[0], 8);
+    IS(is_printed(records, 8, "32100100"), true);
+    oracle_read_text((const uint8_t *)text, 0, records, sizeof records, numbers, 8, places, 8, &answered, &at);
+    IS(answered, 0);
+}
+
+/* What a lent output holds after 15, and behind a result. */
+static void lent_outputs(void)
+{
+    struct code code = code_of("200");
+    memset(out, 77, sizeof out);
+    REFUSED(oracle_decode_code(code.digit, 3, out, 3), 15, 4);
+    IS(out[0], 77);
+    REFUSED(oracle_decode_code(code.digit, 3, out, 4), 0, 4);
+    IS(memcmp(out, "\1\2\1\3\115", 5), 0);
+}
+
+static void classes_of(const char *printed, const char *wanted)
+{
+    struct code code = code_of(printed);
+    uint8_t edges[128];
+    struct answer decoded = oracle_decode_code(code.digit, code.length, edges, sizeof edges);
+    REFUSED(oracle_classes(code.length, edges, decoded.place, out, sizeof out), 0, code.length);
+    IS(memcmp(out, wanted, code.length), 0);
+}
+
+/* In 3110100 two subtrees 10 lie at different depths; in 220010 all three leaves lie at depth 2. */
+static void classes(void)
+{
+    classes_of("3110100", "\1\2\3\4\5\6\7");
+    classes_of("220010", "\1\2\3\3\4\3");
+    classes_of("40000", "\1\2\2\2\2");
+}
+
+int main(void)
+{
+    p_rows();
+    adjacency();
+    fractions();
+    codes();
+    limits();
+    lines();
+    listing();
+    lent_outputs();
+    classes();
+    printf("oracle: %u figures of document 01 held\n", held);
+    return 0;
+}

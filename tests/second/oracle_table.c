@@ -1,0 +1,44 @@
+/* The refusal table: the lowest number wins, then its first place; 15 comes last of all. */
+#include <string.h>
+
+#include "oracle_parts.h"
+
+struct row row_at(unsigned number, uint64_t place)
+{
+    return (struct row){.number = number, .applies = true, .place = place};
+}
+
+struct row row_if(unsigned number, bool applies)
+{
+    return (struct row){.number = number, .applies = applies, .place = 0};
+}
+
+struct row row_none(unsigned number)
+{
+    return row_if(number, false);
+}
+
+struct answer lowest(const struct row *rows, size_t count)
+{
+    struct answer best = {0, 0};
+    for (size_t i = 0; i < count; i++) {
+        if (!rows[i].applies)
+            continue;
+        bool lower = best.number == 0 || rows[i].number < best.number;
+        bool earlier = rows[i].number == best.number && rows[i].place < best.place;
+        if (lower || earlier)
+            best = (struct answer){rows[i].number, rows[i].place};
+    }
+    return best;
+}
+
+struct answer deliver(struct answer refusal, const uint8_t *result, size_t length, uint8_t *out, size_t room)
+{
+    if (refusal.number != 0)
+        return refusal;
+    if (room < length)
+        return (struct answer){15, length};
+    if (length > 0)
+        memcpy(out, result, length);
+    return (struct answer){0, length};
+}

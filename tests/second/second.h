@@ -1,0 +1,13 @@
+/* The pieces: each compares its calls on its own inputs and returns only when all agreed. */
+#ifndef SECOND_H
+#define SECOND_H
+
+void piece_code(void);
+void piece_edges(void);
+void piece_form(void);
+void piece_bits(void);
+void piece_adjacency(void);
+void piece_lines(void);
+void piece_vertices(void);
+
+#endif

@@ -1,0 +1,131 @@
+/* Piece code: the comparer, checking and decoding of rooted codes. */
+#include "calls.h"
+#include "gen.h"
+#include "second.h"
+
+CALL(compare, no_output, ((struct answer){oracle_compare(in->bytes, in->len, in->bytes2, in->len2), 0}),
+     (place = 0, zk_compare(in->bytes, in->len, in->bytes2, in->len2)));
+CALL(check_code, no_output, oracle_check_code(in->bytes, in->len), zk_check_code(in->bytes, in->len, &place));
+CALL_BYTES(decode_code);
+
+static struct answer check_both(const struct bytes *code)
+{
+    struct input in = {.bytes = code->byte, .len = code->len};
+    check(&call_check_code, in);
+    return check(&call_decode_code, in);
+}
+
+/* Every string of up to 7 digits 0 to 5. */
+static void short_strings(void)
+{
+    for (unsigned length = 0, count = 1; length <= 7; length++, count *= 6)
+        for (unsigned index = 0; index < count; index++) {
+            struct bytes code = {.len = length};
+            unsigned left = index;
+            for (unsigned i = 0; i < length; i++, left /= 6)
+                code.byte[i] = (uint8_t)(left % 6);
+            check_both(&code);
+        }
+}
+
+static void right_and_damaged(void)
+{
+    for (unsigned n = 1; n <= 64; n++)
+        for (unsigned round = 0; round < 100; round++) {
+            struct bytes code = random_code(n);
+            claim(check_both(&code).number == 0, "a rooted code is right");
+            struct bytes once = code;
+            damage_bytes(&once, 5);
+            check_both(&once);
+            struct bytes twice = once;
+            damage_bytes(&twice, 5);
+            check_both(&twice);
+            for (unsigned i = 0; i < 5; i++) {
+                struct bytes one_digit = code;
+                one_digit.byte[below(n)] = (uint8_t)below(4);
+                check_both(&one_digit);
+            }
+        }
+}
+
+/* A digit moved from one place to another keeps the sum: ends are met early or siblings out of order. */
+static void moved_digits(void)
+{
+    for (unsigned round = 0; round < 30000; round++) {
+        struct bytes code = random_code(2 + (unsigned)below(20));
+        size_t from = below(code.len), to = below(code.len);
+        uint8_t kept = code.byte[from];
+        memmove(code.byte + from, code.byte + from + 1, code.len - from - 1);
+        memmove(code.byte + to + 1, code.byte + to, code.len - to - 1);
+        code.byte[to] = kept;
+        check_both(&code);
+    }
+}
+
+/* Siblings out of order, anywhere in codes of every size. */
+static void unsorted(void)
+{
+    for (unsigned n = 1; n <= 64; n++)
+        for (unsigned round = 0; round < 150; round++) {
+            struct bytes code = unsorted_code(n);
+            check_both(&code);
+        }
+}
+
+/* Codes of a length at a limit: a right one lengthened or cut, and bytes of any value. */
+static void lengths(void)
+{
+    const size_t lent[] = {0, 1, 2, 63, 64, 65, 66, 128, 255, 256, 257, 300};
+    for (size_t l = 0; l < sizeof lent / sizeof *lent; l++)
+        for (unsigned round = 0; round < 400; round++) {
+            struct bytes code = random_code(1 + (unsigned)below(64));
+            for (size_t i = code.len; i < lent[l]; i++)
+                code.byte[i] = (uint8_t)(one_in(3) ? below(256) : 0);
+            code.len = lent[l];
+            check_both(&code);
+            struct bytes path = {.len = lent[l]};
+            for (size_t i = 0; i < lent[l]; i++)
+                path.byte[i] = (uint8_t)(i + 1 < lent[l]);
+            if (one_in(2))
+                damage_bytes(&path, 4);
+            check_both(&path);
+        }
+    for (unsigned value = 0; value < 256; value++)
+        for (size_t at = 0; at < 8; at++) {
+            struct bytes code = {.len = 8, .byte = {3, 2, 1, 0, 0, 1, 0, 0}};
+            code.byte[at] = (uint8_t)value;
+            check_both(&code);
+        }
+}
+
+/* Two strings: random ones, prefixes of each other, equal ones, and ones that differ late. */
+static void comparer(void)
+{
+    for (unsigned round = 0; round < 60000; round++) {
+        struct bytes a = {.len = below(one_in(10) ? 300 : 12)};
+        unsigned values = one_in(3) ? 256 : 3;
+        for (size_t i = 0; i < a.len; i++)
+            a.byte[i] = (uint8_t)below(values);
+        struct bytes b = a;
+        if (one_in(3))
+            b.len = below(a.len + 1);
+        else if (!one_in(3) && a.len > 0)
+            b.byte[below(a.len)] = (uint8_t)below(values);
+        struct input in = {.bytes = a.byte, .len = a.len, .bytes2 = b.byte, .len2 = b.len};
+        check(&call_compare, in);
+        check(&call_compare, (struct input){.bytes = b.byte, .len = b.len, .bytes2 = a.byte, .len2 = a.len});
+    }
+}
+
+void piece_code(void)
+{
+    short_strings();
+    right_and_damaged();
+    moved_digits();
+    unsorted();
+    lengths();
+    comparer();
+    CLAIM_MET(compare, 0, 1, 2);
+    CLAIM_MET(check_code, 0, 3, 10, 11, 12, 13);
+    CLAIM_MET(decode_code, 0, 3, 10, 11, 12, 13, 15);
+}

@@ -1,0 +1,131 @@
+/* Piece edges: refusals of edge lists, and rooted coding at a named vertex. */
+#include "calls.h"
+#include "gen.h"
+#include "second.h"
+
+CALL(check_edges, no_output, oracle_check_edges(in->n, in->bytes, in->len, in->root),
+     zk_check_edges(in->n, in->bytes, in->len, in->root, &place));
+CALL_ROOTED(rooted_code);
+
+static struct answer check_both(const struct list *list, uint64_t root)
+{
+    struct input in = {.n = list->n, .bytes = list->ends, .len = list->len, .root = root};
+    check(&call_check_edges, in);
+    return check(&call_rooted_code, in);
+}
+
+/* Every labelled tree of up to 6 vertices at every root, and at 0 and N+1. Six have a star, refused 9. */
+static void labelled(void)
+{
+    for (unsigned n = 1; n <= 6; n++)
+        for (uint64_t index = 0; index < labelled_trees(n); index++) {
+            struct list list = labelled_tree(n, index);
+            shuffle(&list);
+            for (unsigned root = 0; root <= n + 1; root++)
+                check_both(&list, root);
+        }
+}
+
+static void right(void)
+{
+    for (unsigned n = 1; n <= 64; n++)
+        for (unsigned round = 0; round < 150; round++) {
+            struct list list = random_tree(n);
+            claim(check_both(&list, 1 + below(n)).number == 0, "a random tree is right");
+            check_both(&list, some_root(&list, 4));
+            struct bytes code = rooted_code_of(&list, 1 + below(n));
+            struct list back = list_of_code(&code);
+            check_both(&back, 1);
+            struct bytes again = rooted_code_of(&back, 1);
+            claim(same_bytes(&code, &again), "decoding and coding at vertex 1 gives the code again");
+        }
+}
+
+/* One to four kinds of damage at once. */
+static void damaged(void)
+{
+    for (unsigned round = 0; round < 60000; round++) {
+        struct list list = random_tree(1 + (unsigned)below(one_in(4) ? 64 : 12));
+        for (uint64_t times = 1 + below(4) * below(2); times > 0; times--)
+            damage_list(&list);
+        check_both(&list, some_root(&list, 10));
+    }
+}
+
+/* A fifth neighbour and nothing else, in trees of every size. */
+static void overfilled(void)
+{
+    for (unsigned n = 6; n <= 64; n++)
+        for (unsigned round = 0; round < 60; round++) {
+            struct list list = random_tree(n);
+            overfill(&list);
+            shuffle(&list);
+            claim(check_both(&list, 1 + below(n)).number == 9, "five neighbours are refused 9");
+        }
+}
+
+/* Any bytes at all, of the right length for N or nearly. */
+static void any_bytes(void)
+{
+    for (unsigned round = 0; round < 30000; round++) {
+        unsigned n = 1 + (unsigned)below(9);
+        struct list list = {.n = n, .len = 2 * (n - 1)};
+        unsigned values = one_in(4) ? n + 2 : n;
+        for (size_t i = 0; i < list.len; i++)
+            list.ends[i] = (uint8_t)(below(values) + (values == n));
+        if (one_in(20))
+            list.len += below(3);
+        check_both(&list, some_root(&list, 20));
+    }
+}
+
+/* Every single end of a right list set to 0, N+1 and 255, and to its partner; every edge doubled. */
+static void every_end(void)
+{
+    const unsigned sizes[] = {2, 5, 17, 63, 64};
+    for (size_t s = 0; s < sizeof sizes / sizeof *sizes; s++) {
+        struct list list = random_tree(sizes[s]);
+        for (size_t i = 0; i < list.len; i++) {
+            const uint8_t ends[] = {0, (uint8_t)(list.n + 1), 255, list.ends[i ^ 1]};
+            for (size_t k = 0; k < sizeof ends; k++) {
+                struct list one = list;
+                one.ends[i] = ends[k];
+                check_both(&one, 1);
+            }
+            struct list two = list;
+            size_t e = i & ~(size_t)1;
+            memcpy(two.ends + 2 * below(two.len / 2), list.ends + e, 2);
+            check_both(&two, 1);
+        }
+    }
+}
+
+/* Sizes and lengths at and over the limits, without regard to each other. */
+static void limits(void)
+{
+    const uint64_t sizes[] = {0, 1, 2, 63, 64, 65, 66, 128, 129, 255, 256, (uint64_t)1 << 32, UINT64_MAX};
+    const size_t lengths[] = {0, 1, 2, 3, 124, 125, 126, 127, 128, 129, 130, 254, 256, 300};
+    for (size_t s = 0; s < sizeof sizes / sizeof *sizes; s++)
+        for (size_t l = 0; l < sizeof lengths / sizeof *lengths; l++)
+            for (unsigned round = 0; round < 6; round++) {
+                struct list list = path_of(128);
+                if (round >= 3)
+                    list = random_tree(64);
+                list.n = sizes[s];
+                list.len = lengths[l];
+                check_both(&list, some_root(&list, 3));
+            }
+}
+
+void piece_edges(void)
+{
+    labelled();
+    right();
+    damaged();
+    overfilled();
+    any_bytes();
+    every_end();
+    limits();
+    CLAIM_MET(check_edges, 0, 3, 5, 6, 7, 8, 9);
+    CLAIM_MET(rooted_code, 0, 3, 5, 6, 7, 8, 9, 15);
+}

@@ -1,0 +1,177 @@
+/* Piece form: N-tuple and centred codes both ways, and the verdict. */
+#include "calls.h"
+#include "gen.h"
+#include "second.h"
+
+CALL_LIST(n_tuple_code);
+CALL_LIST(centred_code);
+CALL_BYTES(decode_n_tuple);
+CALL_BYTES(decode_centred);
+CALL_VALUE(same, uint64_t, in->n, in->bytes, in->len, in->n2, in->bytes2, in->len2);
+
+static void check_list(const struct list *list)
+{
+    struct input in = {.n = list->n, .bytes = list->ends, .len = list->len};
+    check(&call_n_tuple_code, in);
+    check(&call_centred_code, in);
+}
+
+/* A code that is read is given again by the edges that it is read into. */
+static void check_back(const struct call *reads, const struct call *codes, const struct bytes *code)
+{
+    struct input in = {.bytes = code->byte, .len = code->len};
+    if (check(reads, in).number != 0)
+        return;
+    struct list list = list_of_code(code);
+    struct input back = {.n = list.n, .bytes = list.ends, .len = list.len};
+    check(codes, back);
+    struct bytes again;
+    again.len = codes->ours(&back, again.byte, sizeof again.byte).place;
+    claim(same_bytes(code, &again), "decoding and coding gives the code again");
+}
+
+static void check_code(const struct bytes *code)
+{
+    check_back(&call_decode_n_tuple, &call_n_tuple_code, code);
+    check_back(&call_decode_centred, &call_centred_code, code);
+}
+
+static struct answer check_same(const struct list *a, const struct list *b)
+{
+    return check(&call_same, (struct input){.n = a->n, .bytes = a->ends, .len = a->len,
+                                       .n2 = b->n, .bytes2 = b->ends, .len2 = b->len});
+}
+
+static void check_roots(const struct list *list)
+{
+    for (uint64_t root = 1; root <= list->n; root++) {
+        struct bytes code = rooted_code_of(list, root);
+        check_code(&code);
+    }
+}
+
+/* All skeletons of up to 9 vertices, each pair of a size for the verdict. */
+static void small_skeletons(void)
+{
+    static const size_t wanted[] = {0, 1, 1, 1, 2, 3, 5, 9, 18, 35};
+    static struct bytes codes[most_skeletons];
+    for (unsigned n = 1; n <= 9; n++) {
+        size_t count = all_skeletons(n, codes);
+        claim(count == wanted[n], "the skeletons by size are 1, 1, 1, 2, 3, 5, 9, 18, 35");
+        for (size_t i = 0; i < count; i++) {
+            struct list list = list_of_code(&codes[i]);
+            check_roots(&list);
+            for (unsigned round = 0; round < 20; round++) {
+                renumber(&list);
+                shuffle(&list);
+                check_list(&list);
+            }
+            for (size_t j = 0; j < count; j++) {
+                struct list other = list_of_code(&codes[j]);
+                renumber(&other);
+                claim(check_same(&list, &other).place == (i == j), "two skeletons of a size are not the same");
+            }
+        }
+    }
+}
+
+static void random_trees(void)
+{
+    for (unsigned n = 1; n <= 64; n++)
+        for (unsigned round = 0; round < 25; round++) {
+            struct list list = random_tree(n);
+            check_list(&list);
+            struct bytes code = random_code(n);
+            check_code(&code);
+            code = centred_code_of(&list);
+            check_code(&code);
+            damage_bytes(&code, 4);
+            check_code(&code);
+        }
+}
+
+static void long_and_wide(void)
+{
+    for (unsigned n = 1; n <= 64; n++) {
+        struct list shapes[] = {path_of(n), star_of_stars(n)};
+        for (unsigned s = 0; s < 2; s++) {
+            check_list(&shapes[s]);
+            if (n < 20 || n > 62)
+                check_roots(&shapes[s]);
+            renumber(&shapes[s]);
+            shuffle(&shapes[s]);
+            check_list(&shapes[s]);
+        }
+    }
+}
+
+/* Two copies of a small tree, their first vertices joined; one copy then gets a leaf more at a random
+ * vertex, or has one of its leaves moved, so that the halves differ in few digits, often late. */
+static struct list two_halves(unsigned half)
+{
+    struct list one = random_physical(half), list = {.n = 2 * half, .len = 0};
+    for (size_t i = 0; i < one.len; i += 2) {
+        add_edge(&list, one.ends[i], one.ends[i + 1]);
+        add_edge(&list, one.ends[i] + half, one.ends[i + 1] + half);
+    }
+    add_edge(&list, 1, half + 1);
+    if (one_in(2))
+        add_edge(&list, 1 + (unsigned)below(half), (unsigned)++list.n);
+    if (one_in(2) && list.n < 64)
+        add_edge(&list, half + 1 + (unsigned)below(half), (unsigned)++list.n);
+    return list;
+}
+
+static void two_centred(void)
+{
+    for (unsigned round = 0; round < 3000; round++) {
+        struct list list = two_halves(1 + (unsigned)below(31));
+        renumber(&list);
+        shuffle(&list);
+        check_list(&list);
+        if (oracle_check_edges(list.n, list.ends, list.len, 1).number != 0)
+            continue;
+        struct bytes code = centred_code_of(&list);
+        check_code(&code);
+        struct bytes elsewhere = rooted_code_of(&list, 1 + below(list.n));
+        check_code(&elsewhere);
+    }
+}
+
+/* Renumbered copies, near copies (one end moved), other sizes, and refusals in either list. */
+static void verdicts(void)
+{
+    for (unsigned round = 0; round < 8000; round++) {
+        unsigned n = 1 + (unsigned)below(one_in(4) ? 64 : 14);
+        struct list a = random_tree(n), b = a;
+        renumber(&b);
+        shuffle(&b);
+        claim(check_same(&a, &b).place == 1, "a renumbered copy is the same");
+        struct list near = b;
+        if (near.len > 0)
+            near.ends[below(near.len)] = (uint8_t)(1 + below(n));
+        check_same(&a, &near);
+        struct list other = random_tree(1 + (unsigned)below(14));
+        check_same(&a, &other);
+        if (one_in(2))
+            damage_list(&a);
+        if (one_in(2))
+            damage_list(&b);
+        check_same(&a, &b);
+        check_list(&a);
+    }
+}
+
+void piece_form(void)
+{
+    small_skeletons();
+    random_trees();
+    long_and_wide();
+    two_centred();
+    verdicts();
+    CLAIM_MET(n_tuple_code, 0, 3, 5, 6, 7, 8, 9, 15);
+    CLAIM_MET(centred_code, 0, 3, 5, 6, 7, 8, 9, 15);
+    CLAIM_MET(decode_n_tuple, 0, 3, 10, 11, 12, 13, 14, 15);
+    CLAIM_MET(decode_centred, 0, 3, 10, 11, 12, 13, 14, 15);
+    CLAIM_MET(same, 0, 3, 5, 6, 7, 8, 9);
+}

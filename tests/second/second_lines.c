@@ -1,0 +1,249 @@
+/* Piece lines: one line both ways, the reader over a text, and what it promises about damaged texts. */
+#include <stdio.h>
+#include <stdlib.h>
+
+#include "calls.h"
+#include "gen.h"
+#include "second.h"
+#include "texts.h"
+
+CALL_BYTES(read_line);
+CALL_LIST(write_line);
+
+/* A line that is read is written again by the edges of its digits. */
+static void check_written_again(const struct text *text)
+{
+    struct bytes code, again;
+    code.len = oracle_read_line(text->byte, text->len, code.byte, sizeof code.byte).place;
+    struct list list = list_of_code(&code);
+    struct input in = {.n = list.n, .bytes = list.ends, .len = list.len};
+    check(&call_write_line, in);
+    again.len = oracle_write_line(list.n, list.ends, list.len, again.byte, sizeof again.byte).place;
+    claim(again.len <= text->len && memcmp(again.byte, text->byte, again.len) == 0, "a line is written again");
+}
+
+static struct answer check_line(const struct text *text)
+{
+    struct answer answer = check(&call_read_line, (struct input){.bytes = text->byte, .len = text->len});
+    if (answer.number == 0)
+        check_written_again(text);
+    return answer;
+}
+
+static struct text text_of(const char *written)
+{
+    struct text text = {.len = strlen(written)};
+    memcpy(text.byte, written, text.len);
+    return text;
+}
+
+/* ---- Single lines ---- */
+
+static void examples(void)
+{
+    static const char *const texts[] = {
+        "8 32100100\n6 220010\n6 311000\n6 2200,10\n3 20\n1 0", "", "\n", "1 0\n", "1 0", "0 0\n", "00 0\n",
+        "08 32100100\n", "100 0\n", "1 0\n1 0\n", "1  0\n", " 1 0\n", "1 0 \n", "1 0\r\n", "1\n", "1 \n", " \n",
+        "+1 0\n", "2 10\n", "2 1\n", "2 100\n", "3 200\n", "4 1200\n", "4 2010\n", "3 007\n", "2 00\n", "2 20\n",
+        "2 50\n", "6 140000\n", "7 3110100\n", "7 2210010\n", "64 0\n", "65 0\n", "99 0\n", "65 \n", "1 9\n", "0 9\n"};
+    static struct reading theirs;
+    for (size_t i = 0; i < sizeof texts / sizeof *texts; i++) {
+        struct text text = text_of(texts[i]);
+        check_line(&text);
+        check_text(&text, &theirs);
+        check_short_room(&text);
+    }
+}
+
+/* Every text of up to 5 bytes over a small alphabet. */
+static void short_texts(void)
+{
+    static const char alphabet[] = "012 \n,9";
+    static struct reading theirs;
+    for (unsigned length = 0, count = 1; length <= 5; length++, count *= 7)
+        for (unsigned index = 0; index < count; index++) {
+            struct text text;
+            text.len = length;
+            unsigned left = index;
+            for (unsigned i = 0; i < length; i++, left /= 7)
+                text.byte[i] = (uint8_t)alphabet[left % 7];
+            check_line(&text);
+            check_text(&text, &theirs);
+        }
+}
+
+static void append_line(struct text *text, const struct list *list)
+{
+    text->len += oracle_write_line(list->n, list->ends, list->len, text->byte + text->len, most_text - text->len).place;
+}
+
+/* Right lists written, damaged lists refused, and lines with other digits and counts read. */
+static void written(void)
+{
+    for (unsigned n = 1; n <= 64; n++)
+        for (unsigned round = 0; round < 40; round++) {
+            struct list list = random_tree(n);
+            struct input in = {.n = list.n, .bytes = list.ends, .len = list.len};
+            claim(check(&call_write_line, in).number == 0, "a random tree is right");
+            struct text text = {.len = 0};
+            append_line(&text, &list);
+            claim(check_line(&text).number == 0, "a written line is read");
+            damage_list(&list);
+            check(&call_write_line, (struct input){.n = list.n, .bytes = list.ends, .len = list.len});
+            struct bytes code = one_in(2) ? random_code(n) : unsorted_code(n);
+            if (one_in(2))
+                damage_bytes(&code, 5);
+            text.len = (size_t)snprintf((char *)text.byte, 8, "%u ", one_in(4) ? (unsigned)below(120) : (unsigned)code.len);
+            for (size_t i = 0; i < code.len; i++)
+                text.byte[text.len++] = (uint8_t)('0' + code.byte[i]);
+            text.byte[text.len++] = '\n';
+            check_line(&text);
+        }
+}
+
+/* ---- Texts ---- */
+
+static struct text random_text(unsigned lines, unsigned largest)
+{
+    struct text text = {.len = 0};
+    for (unsigned i = 0; i < lines; i++) {
+        struct list list = random_tree(1 + (unsigned)below(largest));
+        append_line(&text, &list);
+    }
+    return text;
+}
+
+/* One byte changed: at least one refusal, only records that were written, in order, and at most two lost. */
+static void claim_single(const struct reading *clean, const struct reading *damaged)
+{
+    uint64_t refused = 0, accepted = 0, next = 0;
+    for (uint64_t i = 0; i < damaged->lines; i++) {
+        if (damaged->numbers[i] != 0) {
+            refused++;
+            continue;
+        }
+        accepted++;
+        while (next < clean->lines && !same_line(clean, next, damaged, i))
+            next++;
+        claim(next < clean->lines, "a damaged text gives only records that were written, in order");
+        next++;
+    }
+    claim(refused >= 1, "a text with one byte changed has a refused line");
+    claim(accepted + 2 >= clean->lines, "one byte changed loses at most two records");
+}
+
+static void replace(struct text *text, size_t from, size_t count, const uint8_t *by, size_t by_count)
+{
+    memmove(text->byte + from + by_count, text->byte + from + count, text->len - from - count);
+    memcpy(text->byte + from, by, by_count);
+    text->len = text->len - count + by_count;
+}
+
+static void check_change(const struct text *text, const struct reading *clean, size_t at, size_t lost,
+                         const uint8_t *by, size_t by_count)
+{
+    static struct reading damaged;
+    static struct text changed;
+    changed.len = text->len;
+    memcpy(changed.byte, text->byte, text->len);
+    replace(&changed, at, lost, by, by_count);
+    check_text(&changed, &damaged);
+    claim_single(clean, &damaged);
+}
+
+/* Every place of a clean text: its byte lost, replaced, and preceded by a spread of bytes. */
+static void every_change(const struct text *text)
+{
+    static struct reading clean;
+    check_text(text, &clean);
+    for (uint64_t i = 0; i < clean.lines; i++)
+        claim(clean.numbers[i] == 0, "a clean text is all records");
+    for (size_t at = 0; at <= text->len; at++) {
+        const uint8_t spread[] = {'0', '1', '2', '3', '4', '8', '9', ' ', '\n', '\r', ',', '/', ':', 0, 255,
+                                  (uint8_t)below(256)};
+        if (at < text->len)
+            check_change(text, &clean, at, 1, spread, 0);
+        for (size_t k = 0; k < sizeof spread; k++) {
+            check_change(text, &clean, at, 0, &spread[k], 1);
+            if (at < text->len && text->byte[at] != spread[k])
+                check_change(text, &clean, at, 1, &spread[k], 1);
+        }
+    }
+}
+
+static void single_changes(void)
+{
+    for (unsigned round = 0; round < 260; round++) {
+        struct text text = random_text((unsigned)below(6), 1 + (unsigned)below(9));
+        every_change(&text);
+    }
+    for (unsigned round = 0; round < 40; round++) {
+        struct text text = random_text(1 + (unsigned)below(3), 25);
+        every_change(&text);
+    }
+    struct list list = random_tree(64);
+    struct text text = random_text(1, 64);
+    append_line(&text, &list);
+    every_change(&text);
+}
+
+/* A stretch replaced by anything: lines that end before it, and lines behind the first line feed after it,
+ * are answered as in the clean text. */
+static void larger_damage(void)
+{
+    static const char likely[] = "0012345 \n\n";
+    static struct reading clean, damaged;
+    for (unsigned round = 0; round < 12000; round++) {
+        struct text text = random_text((unsigned)below(9), one_in(10) ? 64 : 8), changed = text;
+        size_t from = below(text.len + 1), lost = below(text.len - from + 1);
+        uint8_t by[40];
+        size_t by_count = below(sizeof by);
+        for (size_t i = 0; i < by_count; i++)
+            by[i] = (uint8_t)(one_in(8) ? below(256) : (uint8_t)likely[below(10)]);
+        replace(&changed, from, lost, by, by_count);
+        check_text(&text, &clean);
+        check_text(&changed, &damaged);
+        check_short_room(&changed);
+        check_line(&changed);
+
+        size_t before = 0, after = 0, feeds = 0;
+        for (size_t i = 0; i < from; i++)
+            before += text.byte[i] == '\n';
+        for (size_t i = from + lost; i < text.len; i++)
+            feeds += text.byte[i] == '\n';
+        after = feeds > 0 ? feeds - 1 : 0;
+        claim(damaged.lines >= before + after, "lines around the damage are there");
+        for (size_t i = 0; i < before; i++)
+            claim(same_line(&clean, i, &damaged, i), "lines before the damage are answered as before");
+        for (size_t i = 1; i <= after; i++)
+            claim(same_line(&clean, clean.lines - i, &damaged, damaged.lines - i),
+                  "lines behind the damage are answered as before");
+    }
+}
+
+/* Many lines, to the reader's full length here. */
+static void long_texts(void)
+{
+    static struct reading theirs;
+    for (unsigned round = 0; round < 50; round++) {
+        struct text text = random_text(60, 50);
+        check_text(&text, &theirs);
+        check_short_room(&text);
+        for (unsigned i = 0; i < 5; i++)
+            text.byte[below(text.len)] = (uint8_t)below(256);
+        check_text(&text, &theirs);
+        check_short_room(&text);
+    }
+}
+
+void piece_lines(void)
+{
+    examples();
+    short_texts();
+    written();
+    single_changes();
+    larger_damage();
+    long_texts();
+    CLAIM_MET(read_line, 0, 1, 2, 3, 5, 10, 11, 12, 13, 14, 15);
+    CLAIM_MET(write_line, 0, 3, 5, 6, 7, 8, 9, 15);
+}

@@ -1,0 +1,87 @@
+#include "texts.h"
+
+#include <stdio.h>
+#include <string.h>
+
+static const uint64_t unset = 0xdeadbeefdeadbeefu;
+
+struct room {
+    size_t records, numbers, places; /* records in bytes, the others in lines */
+};
+
+static size_t lines_in(const struct text *text)
+{
+    size_t lines = 0;
+    for (size_t i = 0; i < text->len; i++)
+        lines += text->byte[i] == '\n';
+    return lines + (text->len > 0 && text->byte[text->len - 1] != '\n');
+}
+
+static void fill(struct reading *reading, struct room room, uint64_t salt)
+{
+    reading->lines = reading->at = unset;
+    fill_pattern(reading->numbers, room.numbers + 1, salt);
+    fill_pattern(reading->places, (room.places + 1) * sizeof(uint64_t), salt);
+    fill_pattern(reading->records, room.records + record, salt);
+}
+
+static int same_reading(const struct reading *a, const struct reading *b, struct room room)
+{
+    return a->lines == b->lines && a->at == b->at && memcmp(a->numbers, b->numbers, room.numbers + 1) == 0 &&
+           memcmp(a->places, b->places, (room.places + 1) * sizeof(uint64_t)) == 0 &&
+           memcmp(a->records, b->records, room.records + record) == 0;
+}
+
+/* Both read the text into the same room; `theirs` is left for further claims. */
+static void check_room(const struct text *text, struct room room, struct reading *theirs)
+{
+    static struct reading ours;
+    static uint64_t salt;
+    struct input in = {.bytes = text->byte, .len = text->len};
+    begin_case("read_text", &in);
+    fill(&ours, room, ++salt);
+    fill(theirs, room, salt);
+    oracle_read_text(text->byte, text->len, ours.records, room.records, ours.numbers, room.numbers, ours.places,
+                     room.places, &ours.lines, &ours.at);
+    zk_read_text(text->byte, text->len, theirs->records, room.records, theirs->numbers, room.numbers,
+                 theirs->places, room.places, &theirs->lines, &theirs->at);
+    if (same_reading(&ours, theirs, room))
+        return;
+    char more[160];
+    size_t line = 0;
+    while (line < ours.lines && line < theirs->lines && ours.numbers[line] == theirs->numbers[line] &&
+           ours.places[line] == theirs->places[line])
+        line++;
+    snprintf(more, sizeof more,
+             "lent %zu, %zu, %zu; below are lines and at; numbers or places differ first in line %zu",
+             room.records, room.numbers, room.places, line + 1);
+    mismatch("read_text", &in, more,
+             (struct answer){(unsigned)ours.lines, ours.at}, (struct answer){(unsigned)theirs->lines, theirs->at});
+}
+
+void check_text(const struct text *text, struct reading *theirs)
+{
+    size_t lines = lines_in(text) + below(3);
+    check_room(text, (struct room){record * lines + below(record), lines, lines}, theirs);
+}
+
+void check_short_room(const struct text *text)
+{
+    static struct reading theirs;
+    size_t lines = lines_in(text) + 2;
+    struct room room = {record * lines, lines, lines};
+    if (!one_in(3))
+        room.records = below(room.records);
+    if (one_in(2))
+        room.numbers = below(lines);
+    if (one_in(2))
+        room.places = below(lines);
+    check_room(text, room, &theirs);
+}
+
+int same_line(const struct reading *a, size_t i, const struct reading *b, size_t j)
+{
+    size_t digits = a->numbers[i] == 0 ? a->places[i] : 0;
+    return a->numbers[i] == b->numbers[j] && a->places[i] == b->places[j] &&
+           memcmp(a->records + record * i, b->records + record * j, digits) == 0;
+}

@@ -1,0 +1,31 @@
+/* Texts of several lines, and the reader over them compared. */
+#ifndef TEXTS_H
+#define TEXTS_H
+
+#include "check.h"
+
+enum { most_text = 4000, most_lines = 400, record = 64 };
+
+struct text {
+    size_t len;
+    uint8_t byte[most_text];
+};
+
+/* What the reader over a text was lent and has answered; a row more than is ever lent, as a guard. */
+struct reading {
+    uint64_t lines, at;
+    uint8_t numbers[most_lines + 1];
+    uint64_t places[most_lines + 1];
+    uint8_t records[record * (most_lines + 1)];
+};
+
+/* Both read the text, with room for all its lines; `theirs` is left for further claims. */
+void check_text(const struct text *text, struct reading *theirs);
+
+/* The same with room for some lines only, in any of the three outputs. */
+void check_short_room(const struct text *text);
+
+/* Whether line i of one reading and line j of another are answered alike, digits included. */
+int same_line(const struct reading *a, size_t i, const struct reading *b, size_t j);
+
+#endif
