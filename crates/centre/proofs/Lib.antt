@@ -4,4 +4,5 @@ mod Listed
 mod Waiting
 mod Step
 mod Begin
+mod Inward
 mod Rounds

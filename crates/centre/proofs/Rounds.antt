@@ -1,60 +1,27 @@
 -- The rounds: the copy and the theory of peeling, until the centre is left.
 --
--- In order: what stays, as peeling has it; degrees in the copy count neighbours that stay; the first leaf of the list; the end; the next
--- round. Assumes nothing.
+-- In order: the state between two rounds; degrees in the copy count neighbours that stay; the first leaf of the list, and the end; the
+-- next round; the start. Assumes nothing.
 use mathlib.Core.Path.{_≡_, refl, sym, ap, _∙_}
 use mathlib.Core.Logic.{_⊎_, inl, inr, ⊎-elim}
 use mathlib.Core.List.{List, [], _∷_, List·Memᴰ, List·Memᴰ·head, List·Memᴰ·tail, List·Memᴰ·cases-cons, List·Memᴰ·eq-of-singleton, List·Memᴰ·not-nil, Memᴰ·cast}
-use Prim.Native.Nat.{ℕ, zero, suc, _+_, _-_, _≤_, _<_}
+use Prim.Native.Nat.{ℕ, _+_, _-_, _≤_, _<_}
 use native.Mathlib.Decide.{ℕ-discrete, decLt}
 use native.Mathlib.Omega.{arith}
 use lib.ListN.{length, getD, take}
 use lib.Seq.{length-take-le}
 use Rattle.laws.specs.Once.{Once, fits}
 use Rattle.tree.specs.Skeleton.{arcs, IsTree}
-use Rattle.path.specs.Path.{IsPath, IsCentre}
-use Rattle.path.specs.Ways.{Last, Way, way}
-use Rattle.path.specs.Peel.{Two, Peels, Left, Within, start, round, rounds, midst}
+use Rattle.path.specs.Path.{IsCentre}
+use Rattle.path.specs.Peel.{Two, Peels, Left, start, round}
 use Rattle.path.specs.Centre.{done}
 use Rattle.skeleton.specs.Table.{IsTable}
 use Rattle.centre.specs.Held.{Held}
 use Rattle.centre.specs.Peeling.{deg, row, Stays, Copy, Sifted, Ready, Round, Peelable, Leaves}
 use Rattle.centre.proofs.Waiting.{take-in, drop-in, waits, first-in, single}
 use Rattle.centre.proofs.Rows.{take-some}
+use Rattle.centre.proofs.Inward.{toward, leafless}
 use Rattle.centre.proofs.Begin.{row-arc, arc-row, few, begin}
-
--- ---- what is left, by the theory of peeling
-
-module _ (N : ℕ) (E : List ℕ) (t : IsTree N E) (A : ℕ → Type 0) (k : ℕ) (l : Left N E A k) where
-  -- from v towards x the next is x, or has two neighbours
-  record Toward (v x : ℕ) : Type 0 where
-    next : ℕ
-    stays : A next
-    arc : List·Memᴰ (v, next) (arcs E)
-    inner : (next ≡ x) ⊎ Two E A next
-
-  toward : (v x : ℕ) → A v → A x → (v ≡ x → ⊥) → Toward v x
-  toward v x a b n =
-      let w : Way N E v x = way N E t v x (l .range v a .0) (l .range v a .1) (l .range x b .0) (l .range x b .1) in
-      step (w .rest) (w .path) (w .last) (l .between v x w a b)
-    where
-      step : (p : List ℕ) → IsPath N E (v ∷ p) → Last x (v ∷ p) → Within A (v ∷ p) → Toward v x
-      step [] h e w = absurd (n e)
-      step (y ∷ []) h e w = record { next = y; stays = w y (List·Memᴰ·tail (List·Memᴰ·head refl)); arc = h .joined .0; inner = inl e }
-      step (y ∷ z ∷ p) h e w = record {
-        next = y;
-        stays = w y (List·Memᴰ·tail (List·Memᴰ·head refl));
-        arc = h .joined .0;
-        inner = inr (midst N E t A v y z p (h .joined) (h .once) w);
-      }
-
-  -- not all that is left has two neighbours, for then no round would take anything off
-  forever : ((x : ℕ) → A x → Two E A x) → (j : ℕ) → (i : ℕ) × Left N E A i × (j ≤ i)
-  forever h zero = (k, l, omega arith)
-  forever h (suc j) = let (i, m, o) = forever h j in (i + 1, round N E t A A i m (record { old = λ v a. a; two = h; all = λ v a d. a }), omega arith)
-
-  leafless : (v : ℕ) → A v → ((x : ℕ) → A x → Two E A x) → ⊥
-  leafless v a h = let (i, m, o) = forever h N in let z : ⊥ = omega (arith, rounds N E t A i m v a) in z
 
 -- ---- the state between two rounds
 

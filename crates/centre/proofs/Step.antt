@@ -44,7 +44,7 @@ module _ {N : ℕ} {t₀ : List (List ℕ)} {d₀ q₀ : List ℕ} {e : ℕ} {t 
   v-row : row t d v ≡ w ∷ []
   v-row = single copy v v-stays (m .ready .one v v-in)
 
-  pub w-near : List·Memᴰ w (row t d v)
+  w-near : List·Memᴰ w (row t d v)
   w-near = rw v-row (List·Memᴰ·head refl)
 
   pub w-stays : Stays N q i w

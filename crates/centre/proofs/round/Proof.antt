@@ -1,7 +1,5 @@
 -- `centre::round` meets its contract. The loop's invariant: what `Mid` says of the leaf that is next. Assumes nothing.
-use mathlib.Core.Path.{_≡_, refl, ap}
-use mathlib.Core.List.{[]}
-use lib.ListN.{getD}
+use mathlib.Core.Path.{_≡_, refl}
 use Prim.Native.Nat.{ℕ, _-_, _≤_}
 use native.Mathlib.Numerals.{add-one}
 use native.Mathlib.Omega.{arith}
@@ -66,19 +64,22 @@ sub-push : tie.Need-sub-push Inv-loop μ-loop
 sub-push c =
     let p = c .before .before .before .before .before .before .before .before .before .before .pre in
     let m = c .before .before .before .before .before .before .before .before .before .loop .inv .1 (p .most) (p .copy) in
-    omega (arith, c .before .before .before .before .wide2 .ensures .0, ap (λ x. getD (getD (c .before .before .before .before .before .before .before .before .before .loop .t) (x - 1) []) 0 0) (c .before .before .before .before .before .before .wide .ensures .0), w-stays m (omega arith) .low)
+    let f = rw (c .before .before .before .before .before .before .wide .ensures .0) at (c .before .before .before .before .wide2 .ensures .0) in
+    omega (arith, f, w-stays m (omega arith) .low)
 
 element-copy-out-push : tie.Need-element-copy-out-push Inv-loop μ-loop
 element-copy-out-push c =
     let p = c .before .before .before .before .before .before .before .before .before .before .pre in
     let m = c .before .before .before .before .before .before .before .before .before .loop .inv .1 (p .most) (p .copy) in
-    omega (arith, c .before .before .before .before .wide2 .ensures .0, ap (λ x. getD (getD (c .before .before .before .before .before .before .before .before .before .loop .t) (x - 1) []) 0 0) (c .before .before .before .before .before .before .wide .ensures .0), w-stays m (omega arith) .high, m .round .copy .small)
+    let f = rw (c .before .before .before .before .before .before .wide .ensures .0) at (c .before .before .before .before .wide2 .ensures .0) in
+    omega (arith, f, w-stays m (omega arith) .high, m .round .copy .small)
 
 push-requires : tie.Need-push-requires Inv-loop μ-loop
 push-requires c κs =
     let p = c .before .before .before .before .before .before .before .before .before .before .before .pre in
     let m = c .before .before .before .before .before .before .before .before .before .before .loop .inv .1 (p .most) (p .copy) in
-    (m .round .copy .queue .long, rw (c .before .before .before .before .before .wide2 .ensures .0, c .before .before .before .before .before .before .before .wide .ensures .0) (there-is-room m (omega arith) (rw (c .before .before .before .before .before .wide2 .ensures .0, c .before .before .before .before .before .before .before .wide .ensures .0) at (c .before .before .unlink .ensures))))
+    let f = rw (c .before .before .before .before .before .before .before .wide .ensures .0) at (c .before .before .before .before .before .wide2 .ensures .0) in
+    (m .round .copy .queue .long, rw f (there-is-room m (omega arith) (rw f at (c .before .before .unlink .ensures))))
 
 add-i : tie.Need-add-i Inv-loop μ-loop
 add-i c =
@@ -90,15 +91,11 @@ loop-less : tie.Need-loop-less Inv-loop μ-loop
 loop-less c = omega arith
 
 loop-again : tie.Need-loop-again Inv-loop μ-loop
-loop-again c = (
-  omega arith,
-  λ N k.
-      let m = c .before .before .before .before .before .before .before .before .before .before .before .loop .inv .1 N k in
-      rw add-one
-      (next m (omega arith)
-      (rw (c .before .before .before .before .before .before .wide2 .ensures .0, c .before .before .before .before .before .before .before .before .wide .ensures .0) at (c .before .before .before .unlink .ensures))
-      (rw (c .before .before .before .before .before .before .wide2 .ensures .0, c .before .before .before .before .before .before .before .before .wide .ensures .0) at (c .push .ensures))),
-)
+loop-again c =
+    let f = rw (c .before .before .before .before .before .before .before .before .wide .ensures .0) at (c .before .before .before .before .before .before .wide2 .ensures .0) in (
+      omega arith,
+      λ N k. rw add-one (next (c .before .before .before .before .before .before .before .before .before .before .before .loop .inv .1 N k) (omega arith) (rw f at (c .before .before .before .unlink .ensures)) (rw (c .before .before .before .before .before .before .before .before .wide .ensures .0, f) at (c .push .ensures))),
+    )
 
 returns : tie.Need-returns Inv-loop μ-loop
 returns c = λ N k.
