@@ -1,25 +1,23 @@
 -- What a form gives once all its rows are judged: a right digit code, or the lowest number that applies at its first place.
 --
 -- In order: the contracts; the order of siblings behind rows 10 to 12; the rows that stand before them. Assumes nothing.
-use mathlib.Core.Path.{_≡_, refl, sym, ap, _∙_}
-use mathlib.Core.Logic.{_⊎_, inl, inr, ⊎-elim}
+use mathlib.Core.Path.{_≡_, refl}
+use mathlib.Core.Logic.{⊎-elim}
 use mathlib.Core.Bool.{Bool, true}
 use mathlib.Core.List.{List, [], _∷_, _++_}
-use Prim.Native.Nat.{ℕ, _*_, _≤_, _<_}
+use Prim.Native.Nat.{ℕ, _≤_}
 use native.Mathlib.Omega.{arith}
 use lib.ListN.{length, take}
-use Rattle.refusal.specs.Table.{Row, Clear, Lowest, Answers, passes, fails, row3}
-use Rattle.refusal.specs.Laws.{clear-one, clear-both, first-place, lowest-front, lowest-back, was-clear, was-lowest, under}
+use Rattle.refusal.specs.Table.{Row, Clear, Lowest, passes, fails, row3}
+use Rattle.refusal.specs.Laws.{clear-one, clear-both, lowest-front, lowest-back, was-clear, was-lowest, under}
 use Rattle.refusal.specs.declared.Answer.{Answer}
 use Rattle.refusal.specs.declared.Answer.the-variants.{Done, Refused}
-use Rattle.refusal.specs.declared.Check.{Check}
-use Rattle.refusal.specs.declared.Check.the-variants.{Passed, Refuse}
 use Rattle.code.specs.Limits.{size}
-use Rattle.code.specs.Code.{codeRows, digitRows, row13}
+use Rattle.code.specs.Code.{codeRows, row13}
 use Rattle.code.specs.Ends.{Ends, ends-iff}
-use Rattle.bits.specs.Bits.{bitRows, Carries, Reads}
+use Rattle.bits.specs.Bits.{bitRows, Reads}
 use Rattle.bits.specs.Bits as bits
-use Rattle.bits.specs.Reading.{Alike, alike-clear, alike-back, alike-answers, carried-alike}
+use Rattle.bits.specs.Reading.{alike-clear, alike-back, carried-alike}
 use Rattle.bits.specs.Answered.{Accepted, Judged, accepted, refused, Reading, answer-ordered}
 
 -- the n digits in out are a right code, and the bits carry it

@@ -2,7 +2,6 @@
 use mathlib.Core.Path.{refl}
 use mathlib.Core.List.{[], _∷_}
 use Prim.Native.Nat.{_-_, _*_}
-use native.Mathlib.Omega.{arith}
 use Rattle.refusal.specs.Table.{Clear, row3}
 use Rattle.refusal.specs.Laws.{was-clear, was-lowest, clear-both, lowest-back, at-least, at-most}
 use Rattle.code.specs.Limits.{valence}

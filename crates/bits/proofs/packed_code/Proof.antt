@@ -1,7 +1,6 @@
 -- `bits::packed_code` meets its contract: row 3, then rows 10 to 12, then 13. Assumes nothing.
 use mathlib.Core.Path.{refl}
 use mathlib.Core.List.{[], _∷_}
-use native.Mathlib.Omega.{arith}
 use lib.ListN.{length}
 use Rattle.refusal.specs.Table.{Clear, row3}
 use Rattle.refusal.specs.Laws.{was-clear, was-lowest, at-most}
