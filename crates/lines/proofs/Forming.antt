@@ -1,15 +1,14 @@
 -- The form of a line, byte by byte: digits and their values, and how a line begins. Assumes nothing.
 use mathlib.Core.Path.{_≡_, refl, sym, ap, _∙_}
-use mathlib.Core.Logic.{_⊎_, inl, inr}
 use mathlib.Core.Bool.{Bool, true, false}
-use mathlib.Core.List.{List, [], _∷_, _++_, map}
-use Prim.Native.Nat.{ℕ, suc, _+_, _*_, _-_, _≤_, _<_}
+use mathlib.Core.List.{List, [], _∷_, _++_}
+use Prim.Native.Nat.{ℕ, _+_, _*_, _-_, _≤_, _<_}
 use native.Mathlib.Omega.{arith}
 use lib.ListN.{length, getD, take, drop, length-append, length-drop}
 use lib.Seq.{append-snoc, drop-cons, drop-at, take-all}
 use Rattle.lines.specs.declared.Opening.{Opening}
 use Rattle.lines.specs.declared.Opening.the-variants.{At, Nothing}
-use Rattle.lines.specs.Line.{figures, Digits, Cut, IsCount, one, two, Formed}
+use Rattle.lines.specs.Line.{figures, Digits, IsCount, one, two}
 use Rattle.lines.specs.Form.{Value, Figure, Figures, values, Figured, all, not-all, Begins, Opens, begins, begins-not, Forms, formed, unformed}
 use Rattle.lines.specs.Cuts.{cut-once}
 use Rattle.lines.specs.Bodies.{length-figures, count-free}

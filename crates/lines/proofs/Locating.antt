@@ -1,12 +1,12 @@
 -- The rows that are looked at before a line's digits: which of them is the lowest, from what was found. Assumes nothing.
-use mathlib.Core.Path.{_≡_, refl, sym, ap, subst, _∙_}
-use mathlib.Core.Logic.{_⊎_, inl, inr, ⊎-elim}
+use mathlib.Core.Path.{_≡_, refl, sym, subst, _∙_}
+use mathlib.Core.Logic.{⊎-elim}
 use mathlib.Core.Bool.{true}
-use mathlib.Core.List.{List, [], _∷_, _++_}
-use Prim.Native.Nat.{ℕ, zero, suc, _+_, _-_, _≤_, _<_}
+use mathlib.Core.List.{List, [], _∷_}
+use Prim.Native.Nat.{ℕ, zero, suc, _-_, _≤_}
 use native.Mathlib.Omega.{arith}
-use lib.ListN.{length, getD, take, drop, length-take, length-drop}
-use lib.Seq.{take-nil, take-all, split-at, length-take-le}
+use lib.ListN.{length, take, drop}
+use lib.Seq.{take-nil, length-take-le}
 use Rattle.laws.specs.Part.{part, part-length}
 use Rattle.refusal.specs.Table.{Row, Lowest, Outside}
 use Rattle.refusal.specs.Laws.{under, clear-one, first-place, lowest-front, lowest-back}
@@ -14,7 +14,7 @@ use Rattle.lines.specs.declared.Opening.{Opening}
 use Rattle.lines.specs.declared.Opening.the-variants.{At, Nothing}
 use Rattle.lines.specs.declared.Span.{Span}
 use Rattle.lines.specs.declared.Span.the-variants.{Digits, Refused}
-use Rattle.lines.specs.Line.{Free, Cut, Formed, Shaped, Where, row1, row2, row3, row5, frontRows}
+use Rattle.lines.specs.Line.{Free, Cut, Formed, Shaped, row1, row2, row3, row5, frontRows}
 use Rattle.lines.specs.Form.{UpTo, Figures, values, Forms, formed, unformed, Stands, Located, stands, refused}
 use Rattle.lines.specs.Cuts.{not-free, cut-once}
 use Rattle.lines.specs.Answered.{where-is, shaped-fed}

@@ -1,15 +1,15 @@
 -- What a line is answered. In order: a line has its form in one way; its table against that of its digits; `look`: a line is answered
 -- with a code exactly where it is that code's line; nothing behind the line feed is looked at. Assumes nothing.
 use mathlib.Core.Path.{_≡_, refl, sym, ap, _∙_}
-use mathlib.Core.Logic.{_⊎_, inl, inr, ⊎-elim}
-use mathlib.Core.List.{List, [], _∷_, _++_, map}
+use mathlib.Core.Logic.{inl, inr}
+use mathlib.Core.List.{List, [], _∷_, map}
 use Prim.Native.Nat.{ℕ, _≤_, _<_}
 use native.Mathlib.Decide.{ℕ-discrete}
 use native.Mathlib.Omega.{arith}
 use lib.ListN.{length}
-use Rattle.refusal.specs.Table.{Row, Applies, Clear, Lowest, Outcome, gives, refuses, Promise, kept, left, Outside}
+use Rattle.refusal.specs.Table.{Applies, Clear, gives, refuses, kept, left, Outside}
 use Rattle.refusal.specs.Laws.{one-result, never, others}
-use Rattle.lines.specs.Line.{body, Free, Cut, Formed, Shaped, Where, DigitRow, judging, judged, ofLine, lineRows, LineAnswers}
+use Rattle.lines.specs.Line.{body, Free, Cut, Formed, Shaped, Where, DigitRow, judged, ofLine, lineRows, LineAnswers, Reply}
 use Rattle.lines.specs.Damage.{Code, Accept}
 use Rattle.lines.specs.Cuts.{not-free, cut-once}
 use Rattle.lines.specs.Bodies.{formed-once, formed-body, Fits, body-formed, ends}
@@ -94,7 +94,7 @@ module _ {t u b rest more : List ℕ} (c : Cut 10 t b rest) (d : Cut 10 u b more
   rows-move most rows k p (inr (inr (inr (inr e)))) = inr (inr (inr (inr (digit-rows-move rows k p e))))
 
 pub answer-moves :
-    (most : ℕ) (rows : List DigitRow) {t u b rest more : List ℕ} {o : Outcome (List ℕ)} → Cut 10 t b rest → Cut 10 u b more →
+    (most : ℕ) (rows : List DigitRow) {t u b rest more : List ℕ} {o : Reply} → Cut 10 t b rest → Cut 10 u b more →
     LineAnswers most rows t o → LineAnswers most rows u o
 answer-moves most rows c d (kept h r) =
     kept (record { nowhere = λ k p a. h .nowhere k p (rows-move d c most rows k p a) }) (r .0, shape-moves c d (r .1))
@@ -106,13 +106,13 @@ answer-moves most rows c d (left {k} {p} l e) =
     })
     e
 
-pub answered-once : (most : ℕ) (rows : List DigitRow) {t : List ℕ} {o p : Outcome (List ℕ)} → LineAnswers most rows t o → LineAnswers most rows t p → o ≡ p
+pub answered-once : (most : ℕ) (rows : List DigitRow) {t : List ℕ} {o p : Reply} → LineAnswers most rows t o → LineAnswers most rows t p → o ≡ p
 answered-once most rows h k = one-result (λ ds es s r. (shaped-once (s .1) (r .1) .1, refl)) h k .0
 
 -- ---- what a line is answered
 
 -- a line without its line feed, and its answer: it is the line of the code that is given, or of no accepted code
-pub data Look (most : ℕ) (rows : List DigitRow) (b : List ℕ) : Outcome (List ℕ) → Type 0 where
+pub data Look (most : ℕ) (rows : List DigitRow) (b : List ℕ) : Reply → Type 0 where
   good : {c : List ℕ} → b ≡ body c → Accept most rows c → Look most rows b (gives c)
   bad : {k p : ℕ} → ((c : List ℕ) → b ≡ body c → Accept most rows c → ⊥) → Look most rows b (refuses k p)
 
@@ -127,7 +127,7 @@ module _ (most : ℕ) (rows : List DigitRow) (bound : most ≤ 99) (lawful : (c 
       let s : Shaped t (length c) c = record { text = body c; rest = rest; feed = u; formed = body-formed c (fits a) } in
       kept (line-clear most rows s refl (fits a .code .some) a) (length c, s)
 
-  pub look : {t b rest : List ℕ} {o : Outcome (List ℕ)} → Cut 10 t b rest → LineAnswers most rows t o → Look most rows b o
+  pub look : {t b rest : List ℕ} {o : Reply} → Cut 10 t b rest → LineAnswers most rows t o → Look most rows b o
   look {t} {b} {rest} c (kept h r) =
       let a = clear-line most rows h (r .1) in
       let e = cut-once 10 t (r .1 .text) (r .1 .rest) b rest (r .1 .feed) c in
@@ -140,6 +140,6 @@ module _ (most : ℕ) (rows : List DigitRow) (bound : most ≤ 99) (lawful : (c 
           line-clear most rows (record { text = b; rest = rest; feed = c; formed = f }) refl (fits a .code .some) a
 
   -- the line of an accepted code is answered with it
-  pub sure : {c : List ℕ} {o : Outcome (List ℕ)} → Accept most rows c → Look most rows (body c) o → o ≡ gives c
+  pub sure : {c : List ℕ} {o : Reply} → Accept most rows c → Look most rows (body c) o → o ≡ gives c
   sure {c} a (good {c = d} e h) = ap gives (sym (ends c d (fits a) (fits h) [] e))
   sure {c} a (bad n) = absurd (n c refl a)

@@ -8,8 +8,8 @@ use mathlib.Core.List.{List, [], _∷_, _++_, map}
 use Prim.Native.Nat.{ℕ, suc, _+_, _≤_}
 use lib.ListN.{length}
 use Rattle.code.specs.Code.{sum}
-use Rattle.refusal.specs.Table.{Clear, Outcome, gives, refuses}
-use Rattle.lines.specs.Line.{Digits, DigitRow, judged, written, TextAnswers}
+use Rattle.refusal.specs.Table.{Clear, gives, refuses}
+use Rattle.lines.specs.Line.{Digits, DigitRow, judged, written, TextAnswers, Reply}
 
 -- all that is asked of a code which no row refuses
 pub record Code (c : List ℕ) : Type 0 where
@@ -30,19 +30,19 @@ pub data Among : List (List ℕ) → List (List ℕ) → Type 0 where
   skip : {d : List ℕ} {cs ds : List (List ℕ)} → Among cs ds → Among cs (d ∷ ds)
 
 -- the records among the answers
-unfoldable pub records : List (Outcome (List ℕ)) → List (List ℕ)
+unfoldable pub records : List Reply → List (List ℕ)
 records [] = []
 records (gives c ∷ os) = c ∷ records os
 records (refuses k p ∷ os) = records os
 
 -- how many answers are refusals
-unfoldable pub refusals : List (Outcome (List ℕ)) → ℕ
+unfoldable pub refusals : List Reply → ℕ
 refusals [] = 0
 refusals (gives c ∷ os) = refusals os
 refusals (refuses k p ∷ os) = suc (refusals os)
 
 -- At least one line is refused; the records that are read are among those sent, in their order; at most two are missing.
-pub record Robust (cs : List (List ℕ)) (os : List (Outcome (List ℕ))) : Type 0 where
+pub record Robust (cs : List (List ℕ)) (os : List Reply) : Type 0 where
   pub refuses : 1 ≤ refusals os
   pub ordered : Among (records os) cs
   pub loses : length cs ≤ length (records os) + 2
@@ -60,11 +60,11 @@ module _ (most : ℕ) (rows : List DigitRow) where
 
   -- The clean text of cs has a line feed with y behind it, and so has the damaged one, with z before it. Then y is the lines of some
   -- last codes of cs, and the answers os to the damaged text end with exactly these codes; the answers before are those to z.
-  pub record Recovers (cs : List (List ℕ)) (y z : List ℕ) (os : List (Outcome (List ℕ))) : Type 0 where
+  pub record Recovers (cs : List (List ℕ)) (y z : List ℕ) (os : List Reply) : Type 0 where
     pub earlier : List (List ℕ)
     pub behind : List (List ℕ)
     pub parts : cs ≡ earlier ++ behind
     pub lines-behind : y ≡ written behind
-    pub before : List (Outcome (List ℕ))
+    pub before : List Reply
     pub answered : TextAnswers most rows (z ++ (10 ∷ [])) before
     pub ends : os ≡ before ++ map gives behind

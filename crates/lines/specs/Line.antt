@@ -6,12 +6,12 @@
 -- Which rows judge the digits is a parameter here, and so is the largest N. What damage can do is in `Damage`.
 -- Assumes nothing.
 use mathlib.Core.Path.{_≡_}
-use mathlib.Core.Logic.{_⊎_, ite}
+use mathlib.Core.Logic.{ite}
 use mathlib.Core.List.{List, [], _∷_, _++_, map}
 use Prim.Native.Nat.{ℕ, _+_, _*_, _/_, _%_, _≤_}
 use native.Mathlib.Decide.{decLt}
 use lib.ListN.{length}
-use Rattle.refusal.specs.Table.{Row, Clear, Outcome, Promise, Outside}
+use Rattle.refusal.specs.Table.{Row, Outcome, Promise, Outside}
 
 -- digits as they are written, bytes 48 to 57
 unfoldable pub figures : List ℕ → List ℕ
@@ -126,6 +126,10 @@ judged rows c = map (judging c) rows
 abbrev pub ofLine : List ℕ → DigitRow → Row
 ofLine t r = record { number = r .number; applies = λ p. Where t (λ n ds. r .applies ds p) }
 
+-- the answer to a line: its digits, or a refusal
+abbrev pub Reply : Type 0
+Reply = Outcome (List ℕ)
+
 -- "Reading a line takes a text up to its first line feed, looks at nothing behind it": most is the largest N, rows judge the digits
 module _ (most : ℕ) (rows : List DigitRow) where
   -- what is refused of a line
@@ -133,12 +137,12 @@ module _ (most : ℕ) (rows : List DigitRow) where
   lineRows t = frontRows most t ++ map (ofLine t) rows
 
   -- the answers to the first line of t: its digits, or a refusal
-  abbrev pub LineAnswers : List ℕ → Outcome (List ℕ) → Type 0
+  abbrev pub LineAnswers : List ℕ → Reply → Type 0
   LineAnswers t o = Promise (lineRows t) (λ ds (u : Unit {0}). (n : ℕ) × Shaped t n ds) tt tt o
 
   -- the answers to a text, line after line; "bytes after the last line feed, if any, are one unfinished line"
-  pub data TextAnswers : List ℕ → List (Outcome (List ℕ)) → Type 0 where
+  pub data TextAnswers : List ℕ → List Reply → Type 0 where
     none : TextAnswers [] []
-    unfinished : {t : List ℕ} {o : Outcome (List ℕ)} → 1 ≤ length t → Free 10 t → LineAnswers t o → TextAnswers t (o ∷ [])
-    next : {t b rest : List ℕ} {o : Outcome (List ℕ)} {os : List (Outcome (List ℕ))} → Cut 10 t b rest → LineAnswers t o →
+    unfinished : {t : List ℕ} {o : Reply} → 1 ≤ length t → Free 10 t → LineAnswers t o → TextAnswers t (o ∷ [])
+    next : {t b rest : List ℕ} {o : Reply} {os : List Reply} → Cut 10 t b rest → LineAnswers t o →
         TextAnswers rest os → TextAnswers t (o ∷ os)

@@ -11,24 +11,24 @@ use lib.ListN.{length, take, drop}
 use Rattle.laws.specs.Laid.{laidOver}
 use Rattle.refusal.specs.Table.{Row, Outcome, gives, refuses, Promise, Writes, row15}
 use Rattle.lines.specs.Form.{UpTo}
-use Rattle.lines.specs.Line.{Free, Cut, Shaped, DigitRow, digitRow, ofLine, lineRows, LineAnswers}
+use Rattle.lines.specs.Line.{Free, Cut, Shaped, DigitRow, digitRow, ofLine, lineRows, LineAnswers, Reply}
 
 -- 15: what is lent, of the length `lent`, is too short for the digits
 abbrev pub lineRow15 : List ℕ → ℕ → Row
 lineRow15 t lent = ofLine t (digitRow (λ ds. row15 (length ds) lent))
 
 -- what a line leaves in what was lent for it
-unfoldable pub block : Outcome (List ℕ) → List ℕ → List ℕ
+unfoldable pub block : Reply → List ℕ → List ℕ
 block (gives ds) old = laidOver ds old
 block (refuses k p) old = old
 
 -- what lines leave in what was lent, w bytes for each
-unfoldable pub blocks : ℕ → List (Outcome (List ℕ)) → List ℕ → List ℕ
+unfoldable pub blocks : ℕ → List Reply → List ℕ → List ℕ
 blocks w [] old = old
 blocks w (o ∷ os) old = block o (take w old) ++ blocks w os (drop w old)
 
 -- an answer as a call tells it: for a record, how many digits are written
-unfoldable pub counted : Outcome (List ℕ) → Outcome ℕ
+unfoldable pub counted : Reply → Outcome ℕ
 counted (gives ds) = gives (length ds)
 counted (refuses k p) = refuses k p
 
@@ -61,15 +61,15 @@ module _ (most : ℕ) (rows : List DigitRow) where
       Promise (lineRows most rows t ++ (lineRow15 t (length old) ∷ [])) (Writes (λ ds. (n : ℕ) × Shaped t n ds) old) old new o
 
   -- the first lines of t are answered by os, and rest is what follows them
-  pub data Taken : List ℕ → List (Outcome (List ℕ)) → List ℕ → Type 0 where
+  pub data Taken : List ℕ → List Reply → List ℕ → Type 0 where
     none : {t : List ℕ} → Taken t [] t
-    unfinished : {t : List ℕ} {o : Outcome (List ℕ)} → 1 ≤ length t → Free 10 t → LineAnswers most rows t o → Taken t (o ∷ []) []
-    next : {t b rest more : List ℕ} {o : Outcome (List ℕ)} {os : List (Outcome (List ℕ))} → Cut 10 t b rest → LineAnswers most rows t o →
+    unfinished : {t : List ℕ} {o : Reply} → 1 ≤ length t → Free 10 t → LineAnswers most rows t o → Taken t (o ∷ []) []
+    next : {t b rest more : List ℕ} {o : Reply} {os : List Reply} → Cut 10 t b rest → LineAnswers most rows t o →
         Taken rest os more → Taken t (o ∷ os) more
 
   -- Reading lines of t into what is lent: w bytes, a number and a place for each. k lines are read, and t is read up to `at`.
   pub record ReadSoFar (w : ℕ) (t rec num pla rec′ num′ pla′ : List ℕ) (k at : ℕ) : Type 0 where
-    pub answers : List (Outcome (List ℕ))
+    pub answers : List Reply
     pub taken : Taken t answers (drop at t)
     pub within : at ≤ length t
     pub count : k ≡ length answers

@@ -2,18 +2,18 @@
 -- pieces that stand in the place of one line or two are answered as `look` says; the rest is clean. Assumes nothing.
 use mathlib.Core.Path.{_≡_, refl, sym, ap, _∙_}
 use mathlib.Core.List.{List, [], _∷_, _++_, map, append-assoc}
-use Prim.Native.Nat.{ℕ, _+_, _≤_}
+use Prim.Native.Nat.{ℕ, _≤_}
 use native.Mathlib.Omega.{arith}
 use lib.ListN.{length, length-append}
-use Rattle.refusal.specs.Table.{Clear, Outcome, gives, refuses}
-use Rattle.lines.specs.Line.{body, written, Other, Free, Cut, DigitRow, judged, TextAnswers}
+use Rattle.refusal.specs.Table.{Clear, gives, refuses}
+use Rattle.lines.specs.Line.{body, written, Other, Free, Cut, DigitRow, judged, TextAnswers, Reply}
 use Rattle.lines.specs.Damage.{Code, Among, end, keep, skip, records, refusals, Robust, Accept, Accepted}
 use Rattle.lines.specs.Cuts.{not-free, Seek, nowhere, found, seek}
 use Rattle.lines.specs.Each.{each-join, each-right}
 use Rattle.lines.specs.Edits.{Edit, more, edit-back, Around, before, on, behind, around}
 use Rattle.lines.specs.Bodies.{Fits, body-free, body-some, apart, starts, ends, doubled}
 use Rattle.lines.specs.Answered.{fits, Look, good, bad, look}
-use Rattle.lines.specs.Texts.{cut-line, First, first, no-line, Last, last, given, reads-back}
+use Rattle.lines.specs.Texts.{cut-line, first, last, given, reads-back}
 
 -- ---- answers before a clean rest
 
@@ -23,21 +23,21 @@ among-before (c ∷ cs) end = keep (among-before cs end)
 among-before cs (keep a) = keep (among-before cs a)
 among-before cs (skip a) = skip (among-before cs a)
 
-records-before : (os : List (Outcome (List ℕ))) (cs : List (List ℕ)) → records (os ++ map gives cs) ≡ records os ++ cs
+records-before : (os : List Reply) (cs : List (List ℕ)) → records (os ++ map gives cs) ≡ records os ++ cs
 unfolding records
 records-before [] [] = refl
 records-before [] (c ∷ cs) = ap (λ ds. c ∷ ds) (records-before [] cs)
 records-before (gives c ∷ os) cs = ap (λ ds. c ∷ ds) (records-before os cs)
 records-before (refuses k p ∷ os) cs = records-before os cs
 
-refusals-before : (os ps : List (Outcome (List ℕ))) → refusals os ≤ refusals (os ++ ps)
+refusals-before : (os ps : List Reply) → refusals os ≤ refusals (os ++ ps)
 unfolding refusals
 refusals-before [] ps = omega arith
 refusals-before (gives c ∷ os) ps = refusals-before os ps
 refusals-before (refuses k p ∷ os) ps = omega (arith, refusals-before os ps)
 
 -- what is robust stays so before a clean rest
-robust-before : (cs : List (List ℕ)) {ds : List (List ℕ)} {os : List (Outcome (List ℕ))} → Robust ds os → Robust (ds ++ cs) (os ++ map gives cs)
+robust-before : (cs : List (List ℕ)) {ds : List (List ℕ)} {os : List Reply} → Robust ds os → Robust (ds ++ cs) (os ++ map gives cs)
 robust-before cs {ds} {os} r = record {
   refuses = omega (arith, r .refuses, refusals-before os (map gives cs));
   ordered = rw (records-before os cs) (among-before cs (r .ordered));
@@ -45,7 +45,7 @@ robust-before cs {ds} {os} r = record {
 }
 
 -- and behind a line that is read
-robust-behind : (c : List ℕ) {ds : List (List ℕ)} {os : List (Outcome (List ℕ))} → Robust ds os → Robust (c ∷ ds) (gives c ∷ os)
+robust-behind : (c : List ℕ) {ds : List (List ℕ)} {os : List Reply} → Robust ds os → Robust (c ∷ ds) (gives c ∷ os)
 unfolding records refusals
 robust-behind c r = record { refuses = r .refuses; ordered = keep (r .ordered); loses = omega (arith, r .loses) }
 
@@ -56,25 +56,25 @@ module _ (most : ℕ) (rows : List DigitRow) (bound : most ≤ 99) (lawful : (c 
   fit = fits most rows bound lawful
 
   -- one byte alone is no line
-  no-line-here : (b : List ℕ) {o : Outcome (List ℕ)} → length b ≡ 0 → Look most rows b o → Robust [] (o ∷ [])
+  no-line-here : (b : List ℕ) {o : Reply} → length b ≡ 0 → Look most rows b o → Robust [] (o ∷ [])
   unfolding records refusals
   no-line-here b l (good {c} e a) = let h = ap length e in absurd (omega (arith, body-some c))
   no-line-here b l (bad n) = record { refuses = omega arith; ordered = end; loses = omega arith }
 
   -- one piece in the place of one line
-  one-piece : (c b : List ℕ) {o : Outcome (List ℕ)} → Accept most rows c → Edit (body c) b → Look most rows b o → Robust (c ∷ []) (o ∷ [])
+  one-piece : (c b : List ℕ) {o : Reply} → Accept most rows c → Edit (body c) b → Look most rows b o → Robust (c ∷ []) (o ∷ [])
   unfolding records refusals
   one-piece c b a e (good {c = d} q h) = absurd (apart c d (fit a) (fit h) (rw q at e))
   one-piece c b a e (bad n) = record { refuses = omega arith; ordered = skip end; loses = omega arith }
 
   -- one piece in the place of two lines
-  merged : (c d m : List ℕ) {o : Outcome (List ℕ)} → Look most rows (body c ++ (m ++ body d)) o → Robust (c ∷ d ∷ []) (o ∷ [])
+  merged : (c d m : List ℕ) {o : Reply} → Look most rows (body c ++ (m ++ body d)) o → Robust (c ∷ d ∷ []) (o ∷ [])
   unfolding records refusals
   merged c d m (good {c = e} q h) = absurd (doubled c d e m (fit h) q)
   merged c d m (bad n) = record { refuses = omega arith; ordered = skip (skip end); loses = omega arith }
 
   -- two pieces in the place of one line, which lack at most what stood between
-  two-pieces : (c b m s : List ℕ) {o p : Outcome (List ℕ)} → Accept most rows c → body c ≡ b ++ (m ++ s) → Look most rows b o → Look most rows s p → Robust (c ∷ []) (o ∷ p ∷ [])
+  two-pieces : (c b m s : List ℕ) {o p : Reply} → Accept most rows c → body c ≡ b ++ (m ++ s) → Look most rows b o → Look most rows s p → Robust (c ∷ []) (o ∷ p ∷ [])
   unfolding records refusals
   two-pieces c b m s a e (good {c = d} q h) (good {c = d′} q′ h′) =
       let r = starts d c (fit h) (fit a) (m ++ s) (ap (λ (x : List ℕ). x ++ (m ++ s)) (sym q) ∙ sym e) .1 in
@@ -93,12 +93,12 @@ module _ (most : ℕ) (rows : List DigitRow) (bound : most ≤ 99) (lawful : (c 
 
   -- whatever u is answered is robust
   abbrev Told : List (List ℕ) → List ℕ → Type 0
-  Told cs u = (os : List (Outcome (List ℕ))) → TextAnswers most rows u os → Robust cs os
+  Told cs u = (os : List Reply) → TextAnswers most rows u os → Robust cs os
 
   -- a piece, then clean lines
   then-clean :
       (ds cs : List (List ℕ)) {u b : List ℕ} → Accepted most rows cs → Cut 10 u b (written cs)
-      → ((o : Outcome (List ℕ)) → Look most rows b o → Robust ds (o ∷ [])) → Told (ds ++ cs) u
+      → ((o : Reply) → Look most rows b o → Robust ds (o ∷ [])) → Told (ds ++ cs) u
   then-clean ds cs a u piece os h =
       let f = first most rows u h in
       let e = f .parts ∙ ap (λ ps. f .answer ∷ ps) (reads-back most rows bound lawful cs a refl (f .text)) in

@@ -1,21 +1,21 @@
 -- Laws of reading lines. In order: where a line ends; a line that is read has one result; what a reader of one line cites; what is read with room enough
 -- is what `LineAnswers` allows. The lines of a text, one behind the other, are in `FirstLines`. Assumes nothing.
-use mathlib.Core.Path.{_≡_, refl, sym, ap, ap₂, _∙_}
-use mathlib.Core.Logic.{_⊎_, inl, inr, ⊎-elim}
+use mathlib.Core.Path.{_≡_, refl, sym, ap, _∙_}
+use mathlib.Core.Logic.{inl, inr, ⊎-elim}
 use mathlib.Core.Bool.{true}
 use mathlib.Core.List.{List, [], _∷_, _++_, map}
-use Prim.Native.Nat.{ℕ, suc, _+_, _-_, _≤_, _<_}
+use Prim.Native.Nat.{ℕ, suc, _-_, _≤_, _<_}
 use native.Mathlib.Decide.{ℕ-discrete}
 use native.Mathlib.Omega.{arith}
 use lib.ListN.{length, take, drop, length-map}
 use lib.Seq.{take-all, split-at}
 use Rattle.laws.specs.Laid.{laidOver}
 use Rattle.laws.specs.Part.{part, part-length}
-use Rattle.refusal.specs.Table.{Row, Applies, Clear, Lowest, Outcome, gives, refuses, Promise, kept, left, Writes, Outside, row3}
-use Rattle.refusal.specs.Laws.{under, one-result, one-written, clear-one, first-place, applies-left, applies-either, clear-left, clear-right, clear-both, lowest-front, lowest-back}
-use Rattle.lines.specs.Line.{Free, Cut, Shaped, Where, DigitRow, judged, ofLine, frontRows, lineRows, LineAnswers, TextAnswers}
+use Rattle.refusal.specs.Table.{Row, Applies, Clear, Lowest, Outcome, gives, refuses, kept, left, row3}
+use Rattle.refusal.specs.Laws.{under, one-result, one-written, clear-one, first-place, applies-left, applies-either, clear-left, clear-both, lowest-front, lowest-back}
+use Rattle.lines.specs.Line.{Free, Cut, DigitRow, judged, ofLine, frontRows, lineRows, LineAnswers, Reply}
 use Rattle.lines.specs.Form.{UpTo, values, Stands}
-use Rattle.lines.specs.Reading.{lineRow15, block, blocks, counted, ReadLine, Taken, none, unfinished, next}
+use Rattle.lines.specs.Reading.{lineRow15, block, counted, ReadLine}
 use Rattle.lines.specs.Answered.{shaped-once, where-is, to-digits, of-digits, line-clear}
 
 -- the first line feed, or none
@@ -112,7 +112,7 @@ module _ (most : ℕ) (rows : List DigitRow) where
 
   -- what is read of t, as an answer to the line
   pub record LineRead (t old new : List ℕ) (o : Outcome ℕ) : Type 0 where
-    pub answer : Outcome (List ℕ)
+    pub answer : Reply
     pub line : LineAnswers most rows t answer
     pub told : o ≡ counted answer
     pub lies : new ≡ block answer old

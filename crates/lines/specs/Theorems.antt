@@ -3,11 +3,11 @@
 -- `most` is the largest N, `rows` judge the digits, and all that is asked of these is `lawful`: digits which they do not refuse are
 -- digits whose sum is one less than their number. Assumes nothing.
 use mathlib.Core.Path.{_≡_, refl}
-use mathlib.Core.List.{List, [], _∷_, _++_, map}
+use mathlib.Core.List.{List, _∷_, _++_, map}
 use Prim.Native.Nat.{ℕ, _≤_}
 use lib.ListN.{length}
 use Rattle.refusal.specs.Table.{Clear, Outcome, gives}
-use Rattle.lines.specs.Line.{written, Cut, DigitRow, judged, LineAnswers, TextAnswers}
+use Rattle.lines.specs.Line.{written, Cut, DigitRow, judged, LineAnswers, TextAnswers, Reply}
 use Rattle.lines.specs.Damage.{Code, Change, Robust, Accepted, Recovers}
 use Rattle.lines.specs.Reading.{ReadLine, ReadText}
 use Rattle.lines.specs.Taking.{read-once}
@@ -19,10 +19,10 @@ use Rattle.lines.specs.Robustness.{one-edit}
 
 module _ (most : ℕ) (rows : List DigitRow) where
   -- A line has one answer, and so has a text.
-  pub one-answer : (t : List ℕ) (o p : Outcome (List ℕ)) → LineAnswers most rows t o → LineAnswers most rows t p → o ≡ p
+  pub one-answer : (t : List ℕ) (o p : Reply) → LineAnswers most rows t o → LineAnswers most rows t p → o ≡ p
   one-answer t o p h k = answered-once most rows h k
 
-  pub one-reading : (t : List ℕ) (os ps : List (Outcome (List ℕ))) → TextAnswers most rows t os → TextAnswers most rows t ps → os ≡ ps
+  pub one-reading : (t : List ℕ) (os ps : List Reply) → TextAnswers most rows t os → TextAnswers most rows t ps → os ≡ ps
   one-reading t os ps h k = texts-once most rows h k
 
   -- Reading a line into a lent output has one result, and leaves one thing there.
@@ -45,13 +45,13 @@ module _ (most : ℕ) (rows : List DigitRow) where
 
   -- "looks at nothing behind it": the answer to a line is the same whatever follows its line feed.
   pub first-line-only :
-      (t u b rest more : List ℕ) (o : Outcome (List ℕ)) → Cut 10 t b rest → Cut 10 u b more → LineAnswers most rows t o → LineAnswers most rows u o
+      (t u b rest more : List ℕ) (o : Reply) → Cut 10 t b rest → Cut 10 u b more → LineAnswers most rows t o → LineAnswers most rows u o
   first-line-only t u b rest more o c d h = answer-moves most rows c d h
 
 module _ (most : ℕ) (rows : List DigitRow) (bound : most ≤ 99) (lawful : (c : List ℕ) → Clear (judged rows c) → Code c) where
   -- What is written of accepted codes is read back: these codes, and nothing else.
   pub read-back :
-      (cs : List (List ℕ)) (os : List (Outcome (List ℕ))) → Accepted most rows cs → TextAnswers most rows (written cs) os → os ≡ map gives cs
+      (cs : List (List ℕ)) (os : List Reply) → Accepted most rows cs → TextAnswers most rows (written cs) os → os ≡ map gives cs
   read-back cs os a h = reads-back most rows bound lawful cs a refl h
 
   pub readable : (cs : List (List ℕ)) → Accepted most rows cs → TextAnswers most rows (written cs) (map gives cs)
@@ -60,12 +60,12 @@ module _ (most : ℕ) (rows : List DigitRow) (bound : most ≤ 99) (lawful : (c 
   -- One byte of the text is replaced, lost or put in: a line is refused, the records read are among those sent, in their order, and at
   -- most two are missing.
   pub one-byte :
-      (cs : List (List ℕ)) (u : List ℕ) (os : List (Outcome (List ℕ))) → Accepted most rows cs → Change (written cs) u → TextAnswers most rows u os
+      (cs : List (List ℕ)) (u : List ℕ) (os : List Reply) → Accepted most rows cs → Change (written cs) u → TextAnswers most rows u os
       → Robust cs os
   one-byte cs u os a c h = one-edit most rows bound lawful cs a (edit-of c) os h
 
   -- After damage of any size, every line behind a line feed that is left is read as in the clean text.
   pub recovers :
-      (cs : List (List ℕ)) (x y z u : List ℕ) (os : List (Outcome (List ℕ))) → Accepted most rows cs → written cs ≡ x ++ (10 ∷ y) → u ≡ z ++ (10 ∷ y)
+      (cs : List (List ℕ)) (x y z u : List ℕ) (os : List Reply) → Accepted most rows cs → written cs ≡ x ++ (10 ∷ y) → u ≡ z ++ (10 ∷ y)
       → TextAnswers most rows u os → Recovers most rows cs y z os
   recovers cs x y z u os a e q h = recover most rows bound lawful cs x y z u a e q h

@@ -11,7 +11,7 @@ use borrow.Rule.Slice.PartMut.{midOf, putMid}
 use Rattle.laws.specs.Laid.{laidOver}
 use Rattle.laws.specs.Laying.{laid-none, laid-more, length-laid}
 use Rattle.refusal.specs.Table.{Outcome}
-use Rattle.lines.specs.Line.{DigitRow, LineAnswers, TextAnswers}
+use Rattle.lines.specs.Line.{DigitRow, LineAnswers, TextAnswers, Reply}
 use Rattle.lines.specs.Form.{UpTo}
 use Rattle.lines.specs.Reading.{block, blocks, counted, numberOf, placeOf, Behind, Taken, none, unfinished, next, ReadSoFar, ReadText}
 use Rattle.lines.specs.Taking.{unfed, fed-cut}
@@ -73,7 +73,7 @@ read-none most rows {num = num} {pla} =
 module _ (most : ℕ) (rows : List DigitRow) where
   -- the first line of r, and what is behind it
   line-taken :
-      {r : List ℕ} {e : ℕ} {o : Outcome (List ℕ)} → 1 ≤ length r → UpTo r e → LineAnswers most rows r o → Taken most rows r (o ∷ []) (drop (suc e) r)
+      {r : List ℕ} {e : ℕ} {o : Reply} → 1 ≤ length r → UpTo r e → LineAnswers most rows r o → Taken most rows r (o ∷ []) (drop (suc e) r)
   line-taken {r} {e} {o} l u a = go (ℕ-discrete e (length r))
     where
       go : Dec (e ≡ length r) → Taken most rows r (o ∷ []) (drop (suc e) r)
@@ -84,7 +84,7 @@ module _ (most : ℕ) (rows : List DigitRow) where
       {w : ℕ} {t rec num pla rec₁ num₁ pla₁ : List ℕ} {k at : ℕ} (fits : most ≤ w) (g : ReadSoFar most rows w t rec num pla rec₁ num₁ pla₁ k at) (more : at < length t)
       (room : (w * k + w ≤ length rec) × (k < length num) × (k < length pla)) where
     -- a number for each line, one more
-    told-more : (f : Outcome (List ℕ) → ℕ) (o : Outcome (List ℕ)) (old new : List ℕ) → new ≡ laidOver (map f (g .answers)) old → k < length old
+    told-more : (f : Reply → ℕ) (o : Reply) (old new : List ℕ) → new ≡ laidOver (map f (g .answers)) old → k < length old
         → set new k (f o) ≡ laidOver (map f (g .answers ++ (o ∷ []))) old
     told-more f o old new e l =
         laid-more (map f (g .answers)) old new k (f o) e (length-map (g .answers) f ∙ sym (g .count)) l
@@ -92,7 +92,7 @@ module _ (most : ℕ) (rows : List DigitRow) where
 
     -- one line more: its answer is o, told as r, and `to` is behind it
     pub read-more :
-        {b to : ℕ} {new : List ℕ} {o : Outcome (List ℕ)} {r : Outcome ℕ} → Behind t at to → LineAnswers most rows (drop at t) o → r ≡ counted o
+        {b to : ℕ} {new : List ℕ} {o : Reply} {r : Outcome ℕ} → Behind t at to → LineAnswers most rows (drop at t) o → r ≡ counted o
         → new ≡ block o (midOf b w rec₁) → b ≡ w * k
         → ReadSoFar most rows w t rec num pla (putMid b w rec₁ new) (set num₁ k (numberOf r)) (set pla₁ k (placeOf r)) (k + 1) to
     read-more {b} {to} {new} {o} {r} h a er en eb =

@@ -1,5 +1,4 @@
 -- `lines::form` meets its contract: a count and a space, then digits. Assumes nothing.
-use native.Mathlib.Omega.{arith}
 use borrow.Author.Needs.{needs}
 use Rattle.lines.specs.Form.{Begins}
 use Rattle.lines.proofs.Forming.{opened, unopened, begins-within, has-form, has-none}

@@ -13,7 +13,12 @@ use Rattle.lines.specs.Taking.{length-values}
 use Rattle.lines.proofs.judge.Statement.{statement}
 use Rattle.lines.proofs.judge.Tie as tie
 
-are-values : (c : tie.After-v3) → take (length (c .before .before .before .before .before .args .t .now)) (c .before .before .read-digits .last .1 .0) ≡ values (c .before .before .before .before .before .args .t .now)
+abbrev Values : tie.After-v3 → Type 0
+Values c =
+    let t = c .before .before .before .before .before .args .t .now in
+    take (length t) (c .before .before .read-digits .last .1 .0) ≡ values t
+
+are-values : (c : tie.After-v3) → Values c
 are-values c = laid-front _ _ _ _ (c .before .before .read-digits .ensures) (length-values _)
 
 slice-aggregate-check : tie.Need-slice-aggregate-check

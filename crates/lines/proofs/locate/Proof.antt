@@ -1,7 +1,6 @@
 -- `lines::locate` meets its contract: rows 1, 2, 3 and 5, in this order. Assumes nothing.
 use mathlib.Core.Path.{sym}
 use mathlib.Core.Logic.{inl, inr}
-use native.Mathlib.Omega.{arith}
 use borrow.Author.Needs.{needs}
 use lib.Seq.{length-take-le}
 use Rattle.code.specs.Limits.{size}
@@ -11,7 +10,10 @@ use Rattle.lines.proofs.locate.Statement.{statement}
 use Rattle.lines.proofs.locate.Tie as tie
 
 read : (c : tie.After-n) → Found (c .before .before .before .before .before .before .before .args .text .now) (c .before .before .before .before .before .feed .result) (c .n .given .0 .0) (c .n .given .0 .1 .0)
-read c = found (c .before .before .before .before .before .feed .ensures) (c .before .before .before .before .if1 .left) (c .before .before .form .ensures) (c .n .given .1)
+read c =
+    let f = c .before .before in
+    let i = f .before .before in
+    found (i .before .feed .ensures) (i .if1 .left) (f .form .ensures) (c .n .given .1)
 
 part-length : tie.Need-slice-aggregate-form
 part-length c = sym (length-take-le (c .before .before .feed .result) (c .before .before .before .before .args .text .now) (c .before .before .feed .ensures .within))
@@ -29,6 +31,8 @@ locate-spec =
     (λ c. refused (not-sized size (read (c .before .before)) (inl (c .if2 .taken))))
     (λ c. refused (not-sized size (read (c .before .before .before)) (inr (c .if3 .taken))))
     (λ c. read (c .before .before .before) .ordered)
-    (λ c. refused (no-form (c .before .before .before .before .before .feed .ensures) size (c .before .before .before .before .if1 .left) (c .before .before .form .ensures) (c .enum-told .given .1)))
+    (λ c. let f = c .before .before in
+    let i = f .before .before in
+    refused (no-form (i .before .feed .ensures) size (i .if1 .left) (f .form .ensures) (c .enum-told .given .1)))
     (λ c. stands (standing size (read (c .before .before .before .before)) (c .before .before .if2 .left) (c .before .if3 .left) (c .if4 .taken)))
     (λ c. refused (not-as-many size (read (c .before .before .before .before)) (c .before .before .if2 .left) (c .before .if3 .left) (c .if4 .left))))

@@ -1,5 +1,5 @@
 -- `lines::read_digits` meets its contract: the loop keeps that the values of the bytes passed are written. Assumes nothing.
-use Prim.Native.Nat.{_+_, _-_}
+use Prim.Native.Nat.{_-_}
 use native.Mathlib.Omega.{arith}
 use lib.ListN.{length}
 use Rattle.laws.specs.Laying.{Mapped, mapped-none, mapped-more, mapped-all}

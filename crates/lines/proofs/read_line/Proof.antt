@@ -38,12 +38,17 @@ read-line-spec =
     judge-requires
     (λ c. search needs)
     (λ c. search needs)
-    (λ c. read-short size digitTable (at (c .before .before .before .before .before .before)) _ (was-clear (c .before .before .before .judge .ensures) (c .before .enum-told .given .1)) (c .if1 .taken))
+    (λ c. let j = c .before .before .before in
+    read-short size digitTable (at (j .before .before .before)) _ (was-clear (j .judge .ensures) (c .before .enum-told .given .1)) (c .if1 .taken))
     (λ c. at (c .before .before .before .before .before .before) .ordered)
     (λ c. at (c .before .before .before .before .before .before) .ordered)
     (λ c. at (c .before .before .before .before .before .before) .within)
     read-digits-requires
     (λ c. read-front size digitTable refl (unlocated (c .before .before .before .locate .ensures) (c .before .k .given .1)))
-    (λ c. read-digits size digitTable (at (c .before .before .before .before .before .before)) _ refl (was-lowest (c .before .before .before .judge .ensures) (c .before .k2 .given .1)))
+    (λ c. let j = c .before .before .before in
+    read-digits size digitTable (at (j .before .before .before)) _ refl (was-lowest (j .judge .ensures) (c .before .k2 .given .1)))
     (λ c. search needs)
-    (λ c. read-line size digitTable (at (c .before .before .before .before .before .before .before .before .before .before .before)) _ (was-clear (c .before .before .before .before .before .before .before .before .judge .ensures) (c .before .before .before .before .before .before .enum-told .given .1)) (c .before .before .before .before .before .if1 .left) (c .before .before .read-digits .ensures)))
+    (λ c. let e = c .before .before .before .before .before in
+    let j = e .before .before .before in
+    read-line size digitTable (at (j .before .before .before)) _ (was-clear (j .judge .ensures) (e .before .enum-told .given .1)) (e .if1 .left)
+    (c .before .before .read-digits .ensures)))

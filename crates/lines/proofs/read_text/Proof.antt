@@ -6,7 +6,6 @@ use mir.Syntax.{w64}
 use mir.Val.{Fits}
 use borrow.Author.Count.{falls}
 use borrow.Author.Needs.{needs}
-use lib.ListN.{length}
 use Rattle.code.specs.Limits.{size}
 use Rattle.lines.specs.Judged.{digitTable}
 use Rattle.lines.specs.Turns.{read-none}
@@ -25,15 +24,21 @@ word c = fits (c .before .loop .inv) (c .loop-test .taken) (c .before .before .b
 
 note-requires : tie.Need-note-requires Inv-loop μ-loop
 note-requires c κs =
-    let r = room-now (c .before .before .before .before .before .before .before .before .before .loop .inv) (c .before .before .before .before .before .before .before .before .loop-test .taken) in
+    let i = c .before .before .before .before .before .before .before .before in
+    let r = room-now (i .before .loop .inv) (i .loop-test .taken) in
     (r .1, r .2)
 
 behind-requires : tie.Need-behind-requires Inv-loop μ-loop
-behind-requires c κs = not-past (c .before .before .before .before .before .before .before .before .before .before .before .before .before .before .loop .inv) (c .before .before .before .before .before .before .before .before .before .before .before .before .if1 .left)
+behind-requires c κs =
+    let e = c .before .before .before .before .before .before .before .before .before .before .before .before in
+    not-past (e .before .before .loop .inv) (e .if1 .left)
 
 loop-again : tie.Need-loop-again Inv-loop μ-loop
 loop-again c =
-    going-more (c .before .before .before .before .before .before .before .before .before .before .before .before .before .before .before .loop .inv) (c .before .before .before .before .before .before .before .before .before .before .before .before .before .before .loop-test .taken) (c .before .before .before .before .before .before .before .before .before .before .before .before .before .if1 .left) (c .before .before .before .before .before .before .before .before .before .before .read-line .ensures) (c .before .before .before .before .before .note .ensures) (c .behind .ensures)
+    let n = c .before .before .before .before .before in
+    let r = n .before .before .before .before .before in
+    let e = r .before .before .before in
+    going-more (e .before .before .loop .inv) (e .before .loop-test .taken) (e .if1 .left) (r .read-line .ensures) (n .note .ensures) (c .behind .ensures)
 
 pub read-text-spec : {M : Type 1} → statement M
 read-text-spec =

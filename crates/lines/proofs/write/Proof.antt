@@ -14,28 +14,39 @@ write-count-requires c κs = (
   omega (arith, c .before .before .before .pre .1 .1, length-line (c .before .before .before .args .code .now)),
 )
 
-sized : (c : tie.After-write-count) → (c .write-count .result + length (c .before .before .before .before .args .code .now) + 2 ≤ length (c .before .before .before .before .args .out .now)) × (length (c .write-count .last .1 .0) ≡ length (c .before .before .before .before .args .out .now))
+-- what is known behind the count: there is room for the rest, and what is lent has kept its length
+abbrev Sized : tie.After-write-count → Type 0
+Sized c =
+    let a = c .before .before .before .before .args in
+    (c .write-count .result + length (a .code .now) + 2 ≤ length (a .out .now)) × (length (c .write-count .last .1 .0) ≡ length (a .out .now))
+
+sized : (c : tie.After-write-count) → Sized c
 sized c = sizes _ _ (c .before .before .before .before .pre .1 .1) (c .write-count .ensures)
 
 fits : (c : tie.After-write-count) → c .write-count .result + length (c .before .before .before .before .args .code .now) + 2 < 2 ^ 64
 fits c = let h = sized c in omega (arith, c .before .before .before .before .good)
 
 write-digits-requires : tie.Need-write-digits-requires
-write-digits-requires c κs = (
-  c .before .before .before .before .before .before .before .pre .1 .0,
-  room-behind _ _ (c .before .before .before .before .before .before .before .pre .1 .1) (c .before .before .before .write-count .ensures),
-)
+write-digits-requires c κs =
+    let w = c .before .before .before in
+    let a = w .before .before .before .before in
+    (a .pre .1 .0, room-behind _ _ (a .pre .1 .1) (w .write-count .ensures))
 
 slice-write-out-2 : tie.Need-slice-write-out-2
 slice-write-out-2 c =
-    let h = sized (c .before .before .before .before .before .before) in
-    omega (arith, long-joined _ _ (c .before .before .before .before .before .before .before .before .before .before .pre .1 .1) (c .before .before .before .before .before .before .write-count .ensures) (c .before .before .write-digits .ensures))
+    let w = c .before .before .before .before .before .before in
+    let h = sized w in
+    omega (arith, long-joined _ _ (w .before .before .before .before .pre .1 .1) (w .write-count .ensures) (c .before .before .write-digits .ensures))
 
 same-length : tie.Need-same-length
-same-length c = long-written _ _ (c .before .before .before .before .before .before .before .before .before .before .pre .1 .1) (c .before .before .before .before .before .before .write-count .ensures) (c .before .before .write-digits .ensures) _ _
+same-length c =
+    let w = c .before .before .before .before .before .before in
+    long-written _ _ (w .before .before .before .before .pre .1 .1) (w .write-count .ensures) (c .before .before .write-digits .ensures) _ _
 
 returns : tie.Need-returns
-returns c = line-written _ _ (c .before .before .before .before .before .before .before .before .before .before .pre .1 .1) (c .before .before .before .before .before .before .write-count .ensures) (c .before .before .write-digits .ensures)
+returns c =
+    let w = c .before .before .before .before .before .before in
+    line-written _ _ (w .before .before .before .before .pre .1 .1) (w .write-count .ensures) (c .before .before .write-digits .ensures)
 
 pub write-spec : {M : Type 1} → statement M
 write-spec =
