@@ -25,6 +25,7 @@ pub record Value (b v : ℕ) : Type 0 where
   pub digit : v ≤ 9 → b ≡ 48 + v
   pub other : 9 < v → (d : ℕ) → d ≤ 9 → b ≡ 48 + d → ⊥
 
+-- b is a digit's byte
 abbrev pub Figure : ℕ → Type 0
 Figure b = (48 ≤ b) × (b ≤ 57)
 

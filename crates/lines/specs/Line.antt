@@ -39,6 +39,7 @@ abbrev pub Each : (ℕ → Type 0) → List ℕ → Type 0
 Each P [] = Unit {0}
 Each P (a ∷ t) = P a × Each P t
 
+-- a is not k
 abbrev pub Other : ℕ → ℕ → Type 0
 Other k a = a ≡ k → ⊥
 
@@ -51,6 +52,7 @@ pub record Cut (k : ℕ) (t b rest : List ℕ) : Type 0 where
   pub parts : t ≡ b ++ (k ∷ rest)
   pub free : Free k b
 
+-- d is a digit
 abbrev pub Digit : ℕ → Type 0
 Digit d = d ≤ 9
 

@@ -1,5 +1,5 @@
-// Lines: the form of a line, found and written. What a line is stands in specs/Line.antt, and what these functions promise in
-// specs/Form.antt.
+// Lines: the form of a line, found and written; a line and a text, read. What a line is stands in specs/Line.antt, what the functions
+// on its form promise in specs/Form.antt, and what reading promises in specs/Reading.antt.
 use code::check;
 use refusal::Answer;
 use refusal::Check;
