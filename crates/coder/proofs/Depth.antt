@@ -13,7 +13,7 @@ pub flatten-length : (c : List ℕ) (cs : List (List ℕ)) → length (flatten (
 unfolding flatten
 flatten-length c cs = length-append c (flatten cs)
 
-flatten-perm : {cs ds : List (List ℕ)} → List·Permᴰ cs ds → length (flatten cs) ≡ length (flatten ds)
+pub flatten-perm : {cs ds : List (List ℕ)} → List·Permᴰ cs ds → length (flatten cs) ≡ length (flatten ds)
 flatten-perm List·Permᴰ·nil = refl
 flatten-perm (List·Permᴰ·cons {a = a} {b = b} {l₁ = l} {l₂ = m} e d) =
     flatten-length a l ∙ ap₂ (λ x n. length x + n) e (flatten-perm d) ∙ sym (flatten-length b m)

@@ -6,6 +6,7 @@ pub mod Settling
 pub mod Depth
 pub mod Upto
 pub mod Writing
+pub mod Leaves
 pub mod Turns
 pub mod Calls
 pub mod Neighbours

@@ -2,12 +2,12 @@
 -- table, and what it then writes. Assumes nothing.
 use mathlib.Core.Path.{_≡_, refl, sym, ap, ap₂, _∙_}
 use mathlib.Core.Logic.{ite, Dec·not}
-use mathlib.Core.List.{List, [], _∷_, _++_, append-nil, filter, map, List·Memᴰ, List·Memᴰ·head, List·Memᴰ·tail, Memᴰ·cast}
+use mathlib.Core.List.{List, [], _∷_, _++_, filter, map, List·Memᴰ, List·Memᴰ·head, List·Memᴰ·tail, Memᴰ·cast}
 use Prim.Native.Nat.{ℕ, zero, suc, _+_, _-_, _≤_, _<_}
 use native.Mathlib.Decide.{ℕ-discrete}
 use native.Mathlib.Omega.{arith}
-use lib.ListN.{length, getD, take, drop, drop-of-length-le}
-use lib.Seq.{take-suc, take-length, length-take-le}
+use lib.ListN.{length, getD, take, drop}
+use lib.Seq.{take-suc, take-length}
 use Rattle.laws.specs.Places.{at-in}
 use Rattle.laws.specs.Laid.{laidOver}
 use Rattle.code.specs.Limits.{size, valence}
@@ -20,7 +20,7 @@ use Rattle.tree.specs.Theorems as Theorems
 use Rattle.coder.proofs.Neighbours.{neighbour-in, mutual-in, lone}
 use Rattle.skeleton.specs.Table.{IsTable}
 use Rattle.coder.specs.Table.{IsSomeTable}
-use Rattle.coder.specs.Coded.{cells, but, kids, codeBy, coded, put, cell, Rows}
+use Rattle.coder.specs.Coded.{cells, but, kids, codeBy, coded, cell, Rows}
 
 filter-in : {A : Type 0} {P : A → Type 0} (d : (a : A) → Dec (P a)) {x : A} (l : List A) → List·Memᴰ x (filter d l) → List·Memᴰ x l
 filter-in d [] m = m
@@ -117,16 +117,11 @@ ready-at {t} {d} {N} r s h k =
       long = ap length (coded-is tree (s .table) r (s .skeleton .few) h k) ∙ Theorems.size N (s .edges) r tree h k;
     }
 
--- the code, written over the first n places alone
-laid : (n : ℕ) (c xs : List ℕ) {ys : List ℕ} → length c ≡ n → n ≤ length xs → ys ≡ put (length (take n xs) - n) c (take n xs) → ys ++ drop n xs ≡ laidOver c xs
-unfolding put laidOver
-laid n c xs h k e =
-    let z : length (take n xs) - n ≡ 0 = (let l = length-take-le n xs k in omega arith) in
-    let none : drop (0 + length c) (take n xs) ≡ [] = drop-of-length-le (take n xs) {i = 0 + length c} (let l = length-take-le n xs k in omega arith) in
-    ap (λ l. l ++ drop n xs) (e ∙ ap (λ i. put i c (take n xs)) z ∙ ap (λ l. c ++ l) none ∙ append-nil c) ∙ ap (λ i. c ++ drop i xs) (sym h)
-
-pub rooted-laid : {t : List (List ℕ)} {d : List ℕ} {N : ℕ} {E ys : List ℕ} (r : ℕ) (xs : List ℕ) → IsSomeTable N t d → IsTree N E → IsTable N E t d → 1 ≤ r → r ≤ N → N ≤ length xs
-    → ys ≡ put (length (take N xs) - N) (coded t d 0 r) (take N xs) → ys ++ drop N xs ≡ laidOver (rooted N E r) xs
-rooted-laid {t} {d} {N} r xs s tree b h k l e =
+-- the code, written over the first N places alone
+pub rooted-laid : {t : List (List ℕ)} {d : List ℕ} {N : ℕ} {E ys : List ℕ} (r : ℕ) (xs : List ℕ) → IsSomeTable N t d → IsTree N E → IsTable N E t d → 1 ≤ r → r ≤ N
+    → ys ≡ coded t d 0 r → ys ++ drop N xs ≡ laidOver (rooted N E r) xs
+unfolding laidOver
+rooted-laid {t} {d} {N} r xs s tree b h k e =
     let a = ready-at r s h k in
-    laid N (coded t d 0 r) xs (a .long) l e ∙ ap (λ c. laidOver c xs) (coded-is tree b r (a .few) h k)
+    let is : coded t d 0 r ≡ rooted N _ r = coded-is tree b r (a .few) h k in
+    ap₂ (λ l n. l ++ drop n xs) (e ∙ is) (sym (a .long) ∙ ap length is)

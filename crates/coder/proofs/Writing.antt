@@ -1,16 +1,19 @@
--- What `put` writes: one digit, and a code behind others. Assumes nothing.
+-- What `put` writes: a whole list, and a code behind others. Assumes nothing.
 use mathlib.Core.Path.{_≡_, sym, ap, ap₂, _∙_}
-use mathlib.Core.List.{List, [], _∷_, _++_, append-assoc}
-use Prim.Native.Nat.{ℕ, _<_}
-use native.Mathlib.Numerals.{add-one}
-use lib.ListN.{length, take, drop, set}
-use lib.Seq.{take-at, drop-at, drop-drop, set-split}
+use mathlib.Core.List.{List, [], _∷_, _++_, append-assoc, append-nil}
+use Prim.Native.Nat.{ℕ, _+_, _-_}
+use native.Mathlib.Nat.{sub-self}
+use native.Mathlib.Omega.{arith}
+use lib.ListN.{length, take, drop, drop-of-length-le}
+use lib.Seq.{take-at, drop-at, drop-drop}
 use Rattle.coder.specs.Coded.{put}
 
--- a store is a code of one digit
-pub put-one : (xs : List ℕ) (m x : ℕ) → m < length xs → set xs m x ≡ put m (x ∷ []) xs
+-- a code that fills a list
+pub put-all : {c ys : List ℕ} (xs : List ℕ) → length c ≡ length xs → ys ≡ put (length xs - length xs) c xs → ys ≡ c
 unfolding put
-put-one xs m x h = set-split xs m x h ∙ ap (λ i. take m xs ++ (x ∷ drop i xs)) (sym (add-one m))
+put-all {c} xs h e =
+    let none : drop (0 + length c) xs ≡ [] = drop-of-length-le xs {i = 0 + length c} (omega arith) in
+    e ∙ ap (λ a. put a c xs) (sub-self (length xs)) ∙ ap (λ l. c ++ l) none ∙ append-nil c
 
 -- what is written behind p ++ x
 pub put-behind : (p x c q : List ℕ) (m : ℕ) → length (p ++ x) ≡ m → put m c (p ++ (x ++ q)) ≡ p ++ (x ++ (c ++ drop (length c) q))

@@ -6,7 +6,7 @@ use mathlib.Core.Bool.{Bool, true, false}
 use mathlib.Core.List.{List, [], _∷_, _++_, map, filter, flatten}
 use Prim.Native.Nat.{ℕ, zero, suc, _+_, _-_, _≤_, _<_}
 use native.Mathlib.Decide.{ℕ-discrete}
-use lib.ListN.{length, getD, take, drop}
+use lib.ListN.{length, getD, take, drop, replicate}
 use Rattle.laws.specs.Order.{Falling, insert}
 use Rattle.code.specs.Limits.{size, valence}
 use Rattle.code.specs.declared.Order.{Order}
@@ -62,6 +62,12 @@ pub record Rows (t : List (List ℕ)) (d : List ℕ) (v : ℕ) : Type 0 where
   pub degs : (u : ℕ) → 1 ≤ u → u ≤ number → deg d u ≤ valence
   pub row : (u j : ℕ) → 1 ≤ u → u ≤ number → j < deg d u → (1 ≤ cell t u j) × (cell t u j ≤ number)
   pub back : (u j : ℕ) → 1 ≤ u → u ≤ number → j < deg d u → deg d (cell t u j) ≡ 1 → cell t (cell t u j) 0 ≡ u
+
+-- the last `left` places hold 0
+pub record Blank (left : ℕ) (xs : List ℕ) : Type 0 where
+  pub few : left ≤ size
+  pub within : left ≤ length xs
+  pub zeros : drop (length xs - left) xs ≡ replicate left 0
 
 -- the codes L stand one behind the other before `a`, and their lengths begin lens
 pub record Stand (s lens : List ℕ) (i a : ℕ) (p : List ℕ) (L : List (List ℕ)) (q : List ℕ) : Type 0 where

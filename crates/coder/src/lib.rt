@@ -3,7 +3,7 @@ use code::Order;
 ghost use mathlib.Core.Path.{_≡_};
 ghost use mathlib.Core.List.{List, _++_};
 ghost use Prim.Native.Nat.{ℕ, _+_, _-_, _≤_, _<_};
-ghost use lib.ListN.{length, take};
+ghost use lib.ListN.{length, take, replicate};
 ghost use Rattle.laws.specs.Part.{part};
 ghost use Rattle.laws.specs.Order.{Falling, insert};
 ghost use Rattle.code.specs.Compare.{lex};
@@ -13,7 +13,7 @@ ghost use Rattle.laws.specs.Laid.{laidOver};
 ghost use Rattle.tree.specs.Skeleton as tree;
 ghost use Rattle.skeleton.specs.Table.{IsTable};
 ghost use Rattle.coder.specs.Table.{IsSomeTable};
-ghost use Rattle.coder.specs.Coded.{isLess, put, coded, deg, cell, Rows, Stand, Spot};
+ghost use Rattle.coder.specs.Coded.{isLess, put, coded, deg, cell, Rows, Blank, Stand, Spot};
 
 // Whether the code from `a` up to `e` is smaller than the one from `m` up to `b`: two siblings, each where it stands in the buffer.
 fn smaller(s: &[u8], a: usize, e: usize, m: usize, b: usize) -> bool
@@ -101,8 +101,9 @@ fn neighbour(rows: &[[u8; 4]; 64], v: usize, j: usize) -> usize
 }
 
 // Writes the code of what hangs at v, whose parent is `parent`, and returns how many vertices are then left. `left` vertices are not
-// yet coded, and `out` has one place for each vertex of the skeleton: the code begins where `left` places are left. The children are
-// asked for first, so at each call `left` is less.
+// yet coded, and `out` has one place for each vertex of the skeleton, those not yet written holding 0: the code begins where `left`
+// places are left. The children are asked for first, so at each call `left` is less. A leaf's code, 0, is the smallest of all: the
+// leaves come last, where their digits stand already.
 fn code(
     rows: &[[u8; 4]; 64],
     degs: &[u8; 64],
@@ -112,7 +113,8 @@ fn code(
     out: &mut [u8],
 ) -> usize
     requires { ⌜ Rows (now rows) (now degs) v ⌝ }
-    requires { ⌜ (left ≤ size) × (left ≤ length (now out)) × (length (coded (now rows) (now degs) parent v) ≤ left) ⌝ }
+    requires { ⌜ Blank left (now out) ⌝ }
+    requires { ⌜ length (coded (now rows) (now degs) parent v) ≤ left ⌝ }
     ensures { λ r. ⌜ r ≡ left - length (coded (now (rows .entry)) (now (degs .entry)) parent v) ⌝ }
     ensures { λ _. ⌜ now (out .exit) ≡ put (length (now (out .entry)) - left) (coded (now (rows .entry)) (now (degs .entry)) parent v) (now (out .entry)) ⌝ }
 {
@@ -121,18 +123,14 @@ fn code(
     let mut lens = [0usize; 4];
     let mut rest = left - 1;
     let mut k = 0;
+    let mut leaves = 0;
     let mut j = 0;
     while j < n {
         let w = neighbour(rows, v, j);
         j += 1;
         if w != parent {
             if degree(degs, w) == 1 {
-                // A leaf has the smallest of all codes, which stays behind the others.
-                let end = out.len() - rest;
-                out[end] = 0;
-                lens[k] = 1;
-                rest -= 1;
-                k += 1;
+                leaves += 1;
             } else {
                 let after = code(rows, degs, v, w, rest, out);
                 settle(out, &mut lens, k, out.len() - rest, out.len() - after);
@@ -141,8 +139,30 @@ fn code(
             }
         }
     }
-    out[at] = k as u8;
-    rest
+    out[at] = (k + leaves) as u8;
+    rest - leaves
+}
+
+// Writes 0 everywhere.
+fn clear(s: &mut [u8])
+    ensures { λ _. ⌜ now (s .exit) ≡ replicate (length (now (s .entry))) 0 ⌝ }
+{
+    let mut i = 0;
+    while i < s.len() {
+        s[i] = 0;
+        i += 1;
+    }
+}
+
+// Writes the code at `root` over all of `out`, which has one place for each vertex.
+fn cover(rows: &[[u8; 4]; 64], degs: &[u8; 64], root: usize, out: &mut [u8])
+    requires { ⌜ Rows (now rows) (now degs) root ⌝ }
+    requires { ⌜ (length (now out) ≤ size) × (length (coded (now rows) (now degs) 0 root) ≡ length (now out)) ⌝ }
+    ensures { λ _. ⌜ now (out .exit) ≡ coded (now (rows .entry)) (now (degs .entry)) 0 root ⌝ }
+{
+    clear(out);
+    let n = out.len();
+    code(rows, degs, 0, root, n, out);
 }
 
 // Writes the rooted code at `root` of the skeleton of n vertices whose table is given.
@@ -152,5 +172,5 @@ pub fn rooted(rows: &[[u8; 4]; 64], degs: &[u8; 64], n: usize, root: usize, out:
     ensures { λ _. ⌜ ((E : List ℕ) → tree.IsTree n E → IsTable n E (now (rows .entry)) (now (degs .entry))
         → now (out .exit) ≡ laidOver (tree.rooted n E root) (now (out .entry))) ⌝ }
 {
-    code(rows, degs, 0, root, n, &mut out[..n]);
+    cover(rows, degs, root, &mut out[..n]);
 }

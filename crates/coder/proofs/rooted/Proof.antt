@@ -1,5 +1,5 @@
 -- `coder::rooted` meets its contract: the code by the table is the rooted code. Assumes nothing.
-use mathlib.Core.Path.{sym}
+use mathlib.Core.Path.{sym, _∙_}
 use native.Mathlib.Omega.{arith}
 use lib.Seq.{length-take-le}
 use borrow.Author.Needs.{needs}
@@ -16,8 +16,9 @@ rooted-spec =
     (λ c κs.
     let s = c .before .before in
     let r = ready-at (s .args .root) (s .pre .0) (s .pre .1 .0) (s .pre .1 .1) in
-    (r .rows, (r .few, omega (arith, length-take-le (s .args .n) (s .args .out .now) (s .pre .1 .2)), omega (arith, r .long))))
+    let l = length-take-le (s .args .n) (s .args .out .now) (s .pre .1 .2) in
+    (r .rows, (omega (arith, r .few), r .long ∙ sym l)))
     (λ c. search needs)
     (λ c E tree table.
     let s = c .before .before .before .before .before in
-    rooted-laid (s .args .root) (s .args .out .now) (s .pre .0) tree table (s .pre .1 .0) (s .pre .1 .1) (s .pre .1 .2) (c .before .before .code .ensures .1)))
+    rooted-laid (s .args .root) (s .args .out .now) (s .pre .0) tree table (s .pre .1 .0) (s .pre .1 .1) (c .before .before .cover .ensures)))
