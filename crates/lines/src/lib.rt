@@ -1,6 +1,5 @@
 // Lines: the form of a line, found and written; a line and a text, read. What a line is stands in specs/Line.antt, what the functions
 // on its form promise in specs/Form.antt, and what reading promises in specs/Reading.antt.
-use code::check;
 use refusal::Answer;
 use refusal::Check;
 ghost use mathlib.Core.Path.{_≡_};
@@ -229,7 +228,7 @@ fn judge(t: &[u8]) -> Check
 {
     let mut v = [0u8; 64];
     read_digits(t, &mut v);
-    check(&v[..t.len()])
+    fast::check(&v[..t.len()])
 }
 
 // The first line of a text: its digits as values, to the start of what is lent.
