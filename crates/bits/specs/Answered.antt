@@ -14,6 +14,7 @@ use Rattle.refusal.specs.Laws.{clear-one, clear-both, first-place, lowest-front
 use Rattle.refusal.specs.declared.Answer.{Answer}
 use Rattle.refusal.specs.declared.Answer.the-variants.{Done, Refused}
 use Rattle.refusal.specs.declared.Check.{Check}
+use Rattle.code.specs.Limits.{size}
 use Rattle.code.specs.Code.{EndsAt, row12, digitRows}
 use Rattle.code.specs.Code as code
 use Rattle.code.specs.Counting.{one-end}
@@ -41,7 +42,7 @@ pub data Judged (R : ℕ) (May : List Bool → Type 0) (bs : List Bool) (out : L
 -- and the output keeps its length
 pub record Reading (R : ℕ) (May : List Bool → Type 0) (bs : List Bool) (out : List ℕ) (r : Answer) : Type 0 where
   pub answer : Judged R May bs out r
-  pub size : length out ≡ 64
+  pub long : length out ≡ size
 
 -- what is then refused of the digits is what is refused of the bits
 pub answer-digits
@@ -93,7 +94,7 @@ module _ {R : ℕ} {bs : List Bool} {out : List ℕ} where
 module _ {R : ℕ} (May : List Bool → Type 0) {bs : List Bool} {out : List ℕ} {r : Found} (s : Scanned R bs out r) where
   pub answer-over : {p : ℕ} → r ≡ Over p → Reading R May bs out (Refused 10 p)
   answer-over e =
-      record { answer = refused (lowest-front (row11 May bs ∷ row12 (whole bs) ∷ []) refl (was-over (s .finds) e)); size = s .size }
+      record { answer = refused (lowest-front (row11 May bs ∷ row12 (whole bs) ∷ []) refl (was-over (s .finds) e)); long = s .long }
 
   pub answer-short : {n : ℕ} → r ≡ Short n → Reading R May bs out (Refused 12 n)
   answer-short {n} e =
@@ -102,7 +103,7 @@ module _ {R : ℕ} (May : List Bool → Type 0) {bs : List Bool} {out : List ℕ
       let c : Clear (row11 May bs ∷ []) = clear-one (λ p h. a .1 (p - 1) (h .0)) in
       record {
         answer = refused (lowest-back (clear-both (t .0) c) (first-place a (λ q l b. omega (arith, a .0, b .0))));
-        size = s .size;
+        long = s .long;
       }
 
   module _ {n : ℕ} (e : r ≡ Ended n) where
@@ -115,7 +116,7 @@ module _ {R : ℕ} (May : List Bool → Type 0) {bs : List Bool} {out : List ℕ
     -- more follows than may
     pub answer-more : (May (after bs n) → ⊥) → Reading R May bs out (Refused 11 (n + 1))
     answer-more m =
-        record { answer = refused (more-lowest R May bs (was-ended (s .finds) e .0) end-at m); size = s .size }
+        record { answer = refused (more-lowest R May bs (was-ended (s .finds) e .0) end-at m); long = s .long }
 
     -- what follows may follow
     pub answer-read : May (after bs n) → Reading R May bs out (Done n)
@@ -135,5 +136,5 @@ module _ {R : ℕ} (May : List Bool → Type 0) {bs : List Bool} {out : List ℕ
                 count = count;
                 room = omega (arith, length-take n out);
               });
-          size = s .size;
+          long = s .long;
         }

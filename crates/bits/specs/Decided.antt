@@ -66,7 +66,7 @@ module _ {R : ℕ} {May : List Bool → Type 0} {bs : List Bool} {out : List ℕ
     code-ends = ends-iff (take n out) .1 (code-read .ends)
 
     pub code-most : n ≤ size
-    code-most = omega (arith, code-read .room, s .size)
+    code-most = omega (arith, code-read .room, s .long)
 
 -- ---- the whole table
 
@@ -94,12 +94,12 @@ module _ {R : ℕ} {May : List Bool → Type 0} {bs : List Bool} {out : List ℕ
   decided t m (larger l) = refuses (lowest-back f (was-lowest (answer-ordered t (fails l)) refl))
 
   pub decide-refused : {r : Answer} {k p : ℕ} → Reading R May bs out r → r ≡ Refused k p → Decision (fs ++ bitRows R May bs) R May bs out (Refused k p)
-  decide-refused s e = record { answer = refuses (lowest-back f (was-refused (s .answer) e)); long = s .size }
+  decide-refused s e = record { answer = refuses (lowest-back f (was-refused (s .answer) e)); long = s .long }
 
   pub decide-ordered :
       {r a : Answer} {n : ℕ} → Reading R May bs out r → r ≡ Done n → Ordered (take n out) n a
       → Decision (fs ++ bitRows R May bs) R May bs out a
-  decide-ordered s e o = record { answer = decided (was-accepted (s .answer) e) (code-most s e) o; long = s .size }
+  decide-ordered s e o = record { answer = decided (was-accepted (s .answer) e) (code-most s e) o; long = s .long }
 
 -- a row before them applies
 pub decide-front :

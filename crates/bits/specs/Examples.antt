@@ -11,6 +11,7 @@ use Rattle.refusal.specs.Laws.{clear-one, clear-both, lowest-back}
 use Rattle.code.specs.Limits.{valence}
 use Rattle.code.specs.Code as code
 use Rattle.code.specs.Ends.{ends-iff}
+use Rattle.bits.specs.Limits.{wholeSize}
 use Rattle.bits.specs.Bits.{bits, bit, word, bytes, digitsFrom, whole, fractionBits, Zeros, Nothing, row4, bitRows, wholeRows}
 use Rattle.bits.specs.Reading.{more-refused}
 
@@ -86,7 +87,7 @@ sixteen : word 5 16 ≡ bits (1 ∷ 0 ∷ []) ++ (false ∷ false ∷ [])
 unfolding word bit bits
 sixteen = refl
 
-pub refused-sixteen : Lowest (wholeRows 32 valence 3 16) 11 3
+pub refused-sixteen : Lowest (wholeRows wholeSize valence 3 16) 11 3
 refused-sixteen =
     lowest-back
     (clear-both (clear-one {r = row3 32 3} in-range) (clear-one {r = row4 3 16} (λ p a. omega (arith, a .1))))

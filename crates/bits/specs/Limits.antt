@@ -10,3 +10,7 @@ packedBytes = 16
 -- "N carried beside it, N <= 32"
 abbrev pub wholeSize : ℕ
 wholeSize = 32
+
+-- "a binary point before the first bit, N <= 27"
+abbrev pub fractionSize : ℕ
+fractionSize = 27

@@ -14,6 +14,7 @@ use lib.ListN.{length, take, drop, getD, set, replicate, length-append, length-s
 use lib.Seq.{take-suc-set, drop-set-lt, drop-drop, take-all, take-length, length-take-le}
 use Rattle.laws.specs.Laid.{laidOver}
 use Rattle.refusal.specs.Table.{Writes}
+use Rattle.code.specs.Limits.{size}
 use Rattle.code.specs.Code.{sum}
 use Rattle.code.specs.Counting.{sum-more}
 use Rattle.bits.specs.Bits.{bits, word, bytes}
@@ -82,7 +83,7 @@ module _ {d old out : List ℕ} {i m c a : ℕ} (s : Packing d old out i m c a) 
         are-bytes = rw t (record { below = more-below (take m out) v (s .are-bytes .below) b });
       }
 
-  module _ {R : ℕ} (w : Coded R 64 d) (r : R ≤ 6) (n : (2 * length d + 6) / 8 ≤ length old) where
+  module _ {R : ℕ} (w : Coded R size d) (r : R ≤ 6) (n : (2 * length d + 6) / 8 ≤ length old) where
     all-bits : length d ≤ i → 8 * m + c + 1 ≡ 2 * length d
     all-bits l =
         let t : sum (take i d) ≡ sum d = ap sum (take-all i d l) in

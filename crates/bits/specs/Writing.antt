@@ -14,6 +14,7 @@ use lib.ListN.{length, take, drop, getD, take-append-drop}
 use lib.Seq.{take-suc, take-length, take-all}
 use Rattle.code.specs.Code.{sum, EndsAt}
 use Rattle.code.specs.Counting.{sum-append, sum-more}
+use Rattle.bits.specs.Limits.{wholeSize}
 use Rattle.bits.specs.Bits.{bits, bit, word}
 use Rattle.bits.specs.Ends.{end-sum}
 use Rattle.bits.specs.Laws.{bits-append}
@@ -101,7 +102,7 @@ number-none d = record { same = refl; below = lit< tt; read = omega arith }
 
 module _ {d : List ℕ} {i x : ℕ} (s : Numbering d i x) (h : i < length d) where
   -- the next digit fits a word of 64 bits
-  pub number-room : {R : ℕ} → Coded R 32 d → Room (getD d i 0) x
+  pub number-room : {R : ℕ} → Coded R wholeSize d → Room (getD d i 0) x
   number-room c =
       let k = getD d i 0 in
       let w = sum-within d (i + 1) (c .ends) in

@@ -58,7 +58,7 @@ fn digit_in(x: u64, len: usize, bit: usize) -> usize
 // The digits of a packed code, up to its end. The bits read are the digits and their sum, so the code has ended as soon as they are
 // fewer than two for each digit.
 pub fn digits(s: &[u8], out: &mut [u8]) -> Found
-    requires { ⌜ (length (now s) ≤ 16) × (length (now out) ≡ 64) ⌝ }
+    requires { ⌜ (length (now s) ≤ packedBytes) × (length (now out) ≡ size) ⌝ }
     ensures { λ r. ⌜ Scanned valence (bytes (now (s .entry))) (now (out .exit)) r ⌝ }
 {
     let m = 8 * s.len();
@@ -84,7 +84,7 @@ pub fn digits(s: &[u8], out: &mut [u8]) -> Found
 
 // The digits of the len lowest bits of x, up to the code's end.
 pub fn word_digits(x: u64, len: usize, out: &mut [u8]) -> Found
-    requires { ⌜ (len ≤ 64) × (length (now out) ≡ 64) ⌝ }
+    requires { ⌜ (len ≤ 64) × (length (now out) ≡ size) ⌝ }
     ensures { λ r. ⌜ Scanned valence (word len x) (now (out .exit)) r ⌝ }
 {
     let mut n: usize = 0;
@@ -109,7 +109,7 @@ pub fn word_digits(x: u64, len: usize, out: &mut [u8]) -> Found
 
 // The digits of a packed code, with rows 10 to 12.
 pub fn packed(s: &[u8], out: &mut [u8]) -> Answer
-    requires { ⌜ (length (now s) ≤ 16) × (length (now out) ≡ 64) ⌝ }
+    requires { ⌜ (length (now s) ≤ packedBytes) × (length (now out) ≡ size) ⌝ }
     ensures { λ r. ⌜ Reading valence Fill (bytes (now (s .entry))) (now (out .exit)) r ⌝ }
 {
     match digits(s, out) {
@@ -130,7 +130,7 @@ pub fn packed(s: &[u8], out: &mut [u8]) -> Answer
 
 // The digits of a whole number with N = n beside it, with rows 10 to 12.
 pub fn number(n: usize, x: u64, out: &mut [u8]) -> Answer
-    requires { ⌜ (1 ≤ n) × ((n ≤ 32) × (length (now out) ≡ 64)) ⌝ }
+    requires { ⌜ (1 ≤ n) × ((n ≤ wholeSize) × (length (now out) ≡ size)) ⌝ }
     ensures { λ r. ⌜ Reading valence Nothing (word (2 * n - 1) x) (now (out .exit)) r ⌝ }
 {
     match word_digits(x, 2 * n - 1, out) {
@@ -147,7 +147,7 @@ pub fn number(n: usize, x: u64, out: &mut [u8]) -> Answer
 
 // The digits of the len lowest bits of x, behind which only zeros may follow, with rows 10 to 12.
 fn zeros_behind(x: u64, len: usize, out: &mut [u8]) -> Answer
-    requires { ⌜ (len ≤ 64) × (length (now out) ≡ 64) ⌝ }
+    requires { ⌜ (len ≤ 64) × (length (now out) ≡ size) ⌝ }
     ensures { λ r. ⌜ Reading valence Zeros (word len x) (now (out .exit)) r ⌝ }
 {
     match word_digits(x, len, out) {
@@ -167,7 +167,7 @@ fn zeros_behind(x: u64, len: usize, out: &mut [u8]) -> Answer
 
 // The digits of the 53 bits of a fraction, with rows 10 to 12; `rest`: there is a rest other than zero behind them.
 pub fn fraction(x: u64, rest: bool, out: &mut [u8]) -> Answer
-    requires { ⌜ (x < 2 ^ 53) × (length (now out) ≡ 64) ⌝ }
+    requires { ⌜ (x < 2 ^ 53) × (length (now out) ≡ size) ⌝ }
     ensures { λ r. ⌜ Reading valence Zeros (fractionBits x rest) (now (out .exit)) r ⌝ }
 {
     if rest {
@@ -262,7 +262,7 @@ fn digit(code: &[u8], i: usize) -> u64
 
 // The whole number of a code.
 pub fn number_of(code: &[u8]) -> u64
-    requires { ⌜ Coded valence 32 (now code) ⌝ }
+    requires { ⌜ Coded valence wholeSize (now code) ⌝ }
     ensures { λ r. ⌜ Numbers (now (code .entry)) r ⌝ }
 {
     let mut x: u64 = 0;
@@ -276,7 +276,7 @@ pub fn number_of(code: &[u8]) -> u64
 
 // The packed form of a code, at the start of out; how many bytes it has. The c lowest bits of a are still to be written.
 pub fn pack(code: &[u8], out: &mut [u8]) -> usize
-    requires { ⌜ Coded valence 64 (now code) × ((2 * length (now code) + 6) / 8 ≤ length (now out)) ⌝ }
+    requires { ⌜ Coded valence size (now code) × ((2 * length (now code) + 6) / 8 ≤ length (now out)) ⌝ }
     ensures { λ r. ⌜ Writes (Packs (now (code .entry))) (now (out .entry)) r (now (out .exit)) ⌝ }
 {
     let mut a: u64 = 0;

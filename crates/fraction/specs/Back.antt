@@ -17,6 +17,7 @@ use lib.Ieee.Fits.{down-pos}
 use lib.Ieee.Positive.{num, den, den-pos, value→cross}
 use Rattle.refusal.specs.Table.{Clear}
 use Rattle.code.specs.Code.{digitRows}
+use Rattle.bits.specs.Limits.{fractionSize}
 use Rattle.bits.specs.Bits.{bits, word, cutFrom, fractionBits, Zeros, Reads}
 use Rattle.bits.specs.Ends.{end-sum, right-ends}
 use Rattle.bits.specs.Laws.{length-bits, cut-bits}
@@ -68,7 +69,7 @@ fraction-inside {c} {x} p =
     let k = 2 * length c - 1 in
     below-one x (p .number) (2 ^ k) (pow-pos k) (p .numbers .below) (p .value)
 
-module _ {c : List ℕ} {x : Float} (p : IsFraction c x) (l : length c ≤ 27) where
+module _ {c : List ℕ} {x : Float} (p : IsFraction c x) (l : length c ≤ fractionSize) where
   -- the whole number, moved up to 53 places
   moved : num x * 2 ^ 53 * 1 ≡ p .number * 2 ^ (53 - (2 * length c - 1)) * den x
   moved =
@@ -171,7 +172,7 @@ module _ {R : ℕ} (x : Float) {c : List ℕ} (r : Reads R Zeros (bitsOf x) c) w
       let l = simp (length-word, length-append, length-bits) at (ap length same) in
       omega (arith, l, rw take-length at (end-sum c (length c) (right-ends c (r .right))))
 
-  pub fraction-size : length c ≤ 27
+  pub fraction-size : length c ≤ fractionSize
   fraction-size = omega (arith, counted)
 
   none-over : num x * 2 ^ 53 ≡ first53 x * den x

@@ -6,6 +6,7 @@ ghost use mathlib.Core.List.{[], _∷_};
 ghost use lib.ListN.{length};
 ghost use Rattle.code.specs.Limits.{size, valence};
 ghost use Rattle.refusal.specs.Table.{Answers};
+ghost use Rattle.bits.specs.Limits.{fractionSize};
 ghost use Rattle.bits.specs.Bits.{Zeros};
 ghost use Rattle.bits.specs.Answered.{Reading};
 ghost use Rattle.bits.specs.Decided.{Decision};
@@ -35,7 +36,7 @@ pub struct Drawn {
 
 // The fraction of a code.
 pub fn fraction_of(code: &[u8]) -> f64
-    requires { ⌜ Coded valence 27 (now code) ⌝ }
+    requires { ⌜ Coded valence fractionSize (now code) ⌝ }
     ensures { λ r. ⌜ IsFraction (now (code .entry)) r ⌝ }
 {
     let x = bits::number_of(code);
@@ -97,7 +98,7 @@ fn draw(x: f64) -> Drawn
 // The digits of a fraction that is in range, with rows 10 to 12.
 pub fn read(x: f64, out: &mut [u8]) -> Answer
     requires { ⌜ (Outside x → ⊥) ⌝ }
-    requires { ⌜ length (now out) ≡ 64 ⌝ }
+    requires { ⌜ length (now out) ≡ size ⌝ }
     ensures { λ r. ⌜ Reading valence Zeros (bitsOf x) (now (out .exit)) r ⌝ }
 {
     let d = draw(x);

@@ -53,7 +53,7 @@ enum-known-e : tie.Need-enum-known-e
 enum-known-e c = search needs
 
 siblings-requires : tie.Need-siblings-requires
-siblings-requires c κs = let s = c .before .before .before .before .before .before .number .ensures in let e = c .before .before .e .given .1 in (code-ends s e, (code-most s e, s .size))
+siblings-requires c κs = let s = c .before .before .before .before .before .before .number .ensures in let e = c .before .before .e .given .1 in (code-ends s e, (code-most s e, s .long))
 
 same-length : tie.Need-same-length
 same-length c = search needs

@@ -48,7 +48,7 @@ add-t11 : tie.Need-add-t11 Inv-loop μ-loop
 add-t11 c = omega (arith, twice (c .before .before .before .before .loop .inv))
 
 same-length : tie.Need-same-length Inv-loop μ-loop
-same-length c = c .before .before .before .before .loop .inv .size ∙ sym (c .before .before .before .before .before .before .pre .1)
+same-length c = c .before .before .before .before .loop .inv .long ∙ sym (c .before .before .before .before .before .before .pre .1)
 
 returns : tie.Need-returns Inv-loop μ-loop
 returns c =
@@ -59,7 +59,7 @@ add-if2 : tie.Need-add-if2 Inv-loop μ-loop
 add-if2 c = omega (arith, turn c)
 
 same-length-2 : tie.Need-same-length-2 Inv-loop μ-loop
-same-length-2 c = c .before .before .before .before .before .loop .inv .size ∙ sym (c .before .before .before .before .before .before .before .pre .1)
+same-length-2 c = c .before .before .before .before .before .loop .inv .long ∙ sym (c .before .before .before .before .before .before .before .pre .1)
 
 returns-2 : tie.Need-returns-2 Inv-loop μ-loop
 returns-2 c =
@@ -87,7 +87,7 @@ mul-if3 : tie.Need-mul-if3 Inv-loop μ-loop
 mul-if3 c = omega (arith, turn (c .before))
 
 same-length-3 : tie.Need-same-length-3 Inv-loop μ-loop
-same-length-3 c = simp length-set (c .before .before .before .before .before .before .loop .inv .size ∙ sym (c .before .before .before .before .before .before .before .before .pre .1))
+same-length-3 c = simp length-set (c .before .before .before .before .before .before .loop .inv .long ∙ sym (c .before .before .before .before .before .before .before .before .pre .1))
 
 returns-3 : tie.Need-returns-3 Inv-loop μ-loop
 returns-3 c =
@@ -125,7 +125,7 @@ loop-again c =
     (omega arith)
 
 same-length-4 : tie.Need-same-length-4 Inv-loop μ-loop
-same-length-4 c = c .before .loop .inv .size ∙ sym (c .before .before .before .pre .1)
+same-length-4 c = c .before .loop .inv .long ∙ sym (c .before .before .before .pre .1)
 
 returns-4 : tie.Need-returns-4 Inv-loop μ-loop
 returns-4 c = sofar-out (c .before .loop .inv) (omega (arith, length-word (c .before .before .before .args .len) (c .before .before .before .args .x)))

@@ -37,7 +37,7 @@ enum-known-n : tie.Need-enum-known-n
 enum-known-n c = search needs
 
 siblings-requires : tie.Need-siblings-requires
-siblings-requires c κs = let s = c .before .before .before .before .before .before .read .ensures in let e = c .before .before .n .given .1 in (code-ends s e, (code-most s e, s .size))
+siblings-requires c κs = let s = c .before .before .before .before .before .before .read .ensures in let e = c .before .before .n .given .1 in (code-ends s e, (code-most s e, s .long))
 
 same-length : tie.Need-same-length
 same-length c = search needs
