@@ -1,4 +1,6 @@
--- Heads: the steps up from a vertex, and what one more link does to them. Assumes nothing.
+-- Heads: the vertex that stands for all that a vertex is joined to.
+--
+-- In order: the steps up to it; what one more link does; that heads tell rightly what the edges so far join. Assumes nothing.
 use mathlib.Core.Path.{_≡_, refl, sym, ap, _∙_}
 use mathlib.Core.List.{List, _++_}
 use Prim.Native.Nat.{ℕ, zero, suc, _+_, _≤_, _<_}

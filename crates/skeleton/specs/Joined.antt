@@ -1,7 +1,7 @@
 -- Labels of vertices: two vertices have one label just where a walk joins them. How a program knows 8, and how `Count` counts.
 --
 -- In order: what it is for a labelling to be right; that it is right where there are no arcs; that it stays right when an edge comes
--- and one label gives way to another. Assumes nothing.
+-- and one label gives way to another; that an edge is the same from its other end. Assumes nothing.
 use mathlib.Core.Path.{_≡_, refl, sym, ap, _∙_}
 use mathlib.Core.Logic.{_⊎_, inl, inr, ⊎-elim}
 use mathlib.Core.List.{List, [], _++_, List·Memᴰ, List·Memᴰ·head, List·Memᴰ·tail, List·Memᴰ·not-nil, List·Memᴰ·cases-cons, List·Memᴰ·eq-of-singleton, List·Memᴰ·append-cases, Memᴰ·append-left, Memᴰ·append-right}

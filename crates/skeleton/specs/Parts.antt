@@ -1,8 +1,7 @@
 -- What the parts of the code promise each other. No call that a partner makes cites this file.
 --
--- In order: a test; the vertex that stands for all that a vertex is joined to, found by steps in an array with one for
--- each byte; the table of neighbours, one arc at a
--- time. Assumes nothing.
+-- In order: a test; the vertex that stands for all that a vertex is joined to, found by steps in an array with one for each byte; the
+-- table of neighbours, one arc at a time. Assumes nothing.
 use mathlib.Core.Path.{_≡_}
 use mathlib.Core.Bool.{Bool, true, false}
 use mathlib.Core.List.{List, []}

@@ -1,10 +1,10 @@
 -- `skeleton::head` meets its contract. The loop's invariant: x has the head of v. The measure is x, since each step goes down.
 -- Assumes nothing.
-use lib.ListN.{getD}
 use mathlib.Core.Path.{_≡_, refl, sym, _∙_}
 use Prim.Native.Nat.{_<_}
 use native.Mathlib.Omega.{arith}
 use borrow.Author.Needs.{needs}
+use lib.ListN.{getD}
 use Rattle.skeleton.specs.Parts.{headOf}
 use Rattle.skeleton.proofs.Heads.{head-step, head-own}
 use Rattle.skeleton.proofs.head.Statement.{statement}
