@@ -18,8 +18,7 @@ use Rattle.tree.specs.Codes.{code-of-tree, rooted-join}
 use Rattle.tree.specs.Grow.{rooted-tree}
 use Rattle.tree.specs.Theorems as Theorems
 use Rattle.coder.proofs.Neighbours.{neighbour-in, mutual-in, lone}
-use Rattle.skeleton.specs.Table.{IsTable}
-use Rattle.coder.specs.Table.{IsSomeTable}
+use Rattle.skeleton.specs.Table.{IsTable, Held}
 use Rattle.coder.specs.Coded.{cells, but, kids, codeBy, coded, put, cell, Rows}
 
 filter-in : {A : Type 0} {P : A → Type 0} (d : (a : A) → Dec (P a)) {x : A} (l : List A) → List·Memᴰ x (filter d l) → List·Memᴰ x l
@@ -108,7 +107,7 @@ pub record Ready (t : List (List ℕ)) (d : List ℕ) (N r : ℕ) : Type 0 where
   pub few : N ≤ size
   pub long : length (coded t d 0 r) ≡ N
 
-pub ready-at : {t : List (List ℕ)} {d : List ℕ} {N : ℕ} (r : ℕ) → IsSomeTable N t d → 1 ≤ r → r ≤ N → Ready t d N r
+pub ready-at : {t : List (List ℕ)} {d : List ℕ} {N : ℕ} (r : ℕ) → Held N t d → 1 ≤ r → r ≤ N → Ready t d N r
 ready-at {t} {d} {N} r s h k =
     let tree = s .skeleton .tree in
     record {
@@ -125,7 +124,7 @@ laid n c xs h k e =
     let none : drop (0 + length c) (take n xs) ≡ [] = drop-of-length-le (take n xs) {i = 0 + length c} (let l = length-take-le n xs k in omega arith) in
     ap (λ l. l ++ drop n xs) (e ∙ ap (λ i. put i c (take n xs)) z ∙ ap (λ l. c ++ l) none ∙ append-nil c) ∙ ap (λ i. c ++ drop i xs) (sym h)
 
-pub rooted-laid : {t : List (List ℕ)} {d : List ℕ} {N : ℕ} {E ys : List ℕ} (r : ℕ) (xs : List ℕ) → IsSomeTable N t d → IsTree N E → IsTable N E t d → 1 ≤ r → r ≤ N → N ≤ length xs
+pub rooted-laid : {t : List (List ℕ)} {d : List ℕ} {N : ℕ} {E ys : List ℕ} (r : ℕ) (xs : List ℕ) → Held N t d → IsTree N E → IsTable N E t d → 1 ≤ r → r ≤ N → N ≤ length xs
     → ys ≡ put (length (take N xs) - N) (coded t d 0 r) (take N xs) → ys ++ drop N xs ≡ laidOver (rooted N E r) xs
 rooted-laid {t} {d} {N} r xs s tree b h k l e =
     let a = ready-at r s h k in

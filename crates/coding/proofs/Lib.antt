@@ -1,0 +1,2 @@
+-- Proofs of the coding functions. Assumes nothing.
+pub mod Written
