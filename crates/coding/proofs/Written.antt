@@ -29,16 +29,16 @@ rooted-written {n} {E} r t h k e = record { result = rooted n E r; right = refl;
 
 -- ---- the larger of two codes
 
+-- a list that is copied to the start of another
+pub copied : (c old new : List ℕ) → new ≡ take (length c) c ++ drop (length c) old → new ≡ laidOver c old
+unfolding laidOver
+copied c old new e = e ∙ ap (λ (l : List ℕ). l ++ drop (length c) old) (take-all (length c) c (le-refl (length c)))
+
 -- other is copied over best
 pub raised-by :
     {n : ℕ} {best other new : List ℕ} → (take n best ≽ take n other → ⊥)
     → new ≡ take (length (take n other)) (take n other) ++ drop (length (take n other)) best → Raised n best other new
-unfolding laidOver
-raised-by {n} {best} {other} g e =
-    record {
-      kept = λ h. absurd (g h);
-      raised = λ h. e ∙ ap (λ (l : List ℕ). l ++ drop (length (take n other)) best) (take-all (length (take n other)) (take n other) (le-refl (length (take n other))));
-    }
+raised-by {n} {best} {other} {new} g e = record { kept = λ h. absurd (g h); raised = λ h. copied (take n other) best new e }
 
 -- what is written over as many is gone
 laid-over : (a b old : List ℕ) → length a ≡ length b → laidOver b (laidOver a old) ≡ laidOver b old
