@@ -2,24 +2,25 @@
 --
 -- In order: the contract; what was found, as a caller learns it; the four answers. How the code tests what follows is in `Follow`.
 -- Row 13 is judged of the digits that were read: `answer-digits`. Assumes nothing.
-use mathlib.Core.Path.{_≡_, refl, sym, ap, _∙_}
+use mathlib.Core.Path.{_≡_, refl, ap}
 use mathlib.Core.Bool.{Bool}
-use mathlib.Core.List.{List, [], _∷_, _++_}
-use Prim.Native.Nat.{ℕ, zero, suc, _+_, _-_, _*_, _≤_, _<_}
+use mathlib.Core.List.{List, [], _∷_}
+use Prim.Native.Nat.{ℕ, _+_, _-_, _*_, _≤_}
 use native.Mathlib.Omega.{arith}
 use lib.ListN.{length, take, length-append, length-take}
 use lib.Seq.{length-take-le}
-use Rattle.refusal.specs.Table.{Row, Clear, Lowest, Answers, passes}
+use Rattle.refusal.specs.Table.{Clear, Lowest, Answers, passes}
 use Rattle.refusal.specs.Laws.{clear-one, clear-both, first-place, lowest-front, lowest-back, goes-on}
 use Rattle.refusal.specs.declared.Answer.{Answer}
 use Rattle.refusal.specs.declared.Answer.the-variants.{Done, Refused}
 use Rattle.refusal.specs.declared.Check.{Check}
+use Rattle.code.specs.Limits.{size}
 use Rattle.code.specs.Code.{EndsAt, row12, digitRows}
 use Rattle.code.specs.Code as code
 use Rattle.code.specs.Counting.{one-end}
 use Rattle.bits.specs.declared.Found.{Found}
 use Rattle.bits.specs.declared.Found.the-variants.{Over, Short, Ended}
-use Rattle.bits.specs.Bits.{bits, whole, after, row10, row11, endRows, bitRows, Carries}
+use Rattle.bits.specs.Bits.{whole, after, row10, row11, endRows, bitRows, Carries}
 use Rattle.bits.specs.Ends.{end-sum, first-end}
 use Rattle.bits.specs.Laws.{length-bits, after-end}
 use Rattle.bits.specs.Found.{Finds, over, short, ended, Scanned}
@@ -34,14 +35,14 @@ pub record Accepted (R : ℕ) (May : List Bool → Type 0) (bs : List Bool) (out
   pub room : n ≤ length out
 
 -- the answer, with out what the reader has written
-pub data Answered (R : ℕ) (May : List Bool → Type 0) (bs : List Bool) (out : List ℕ) : Answer → Type 0 where
-  accepted : {n : ℕ} → Accepted R May bs out n → Answered R May bs out (Done n)
-  refused : {k p : ℕ} → Lowest (endRows R May bs) k p → Answered R May bs out (Refused k p)
+pub data Judged (R : ℕ) (May : List Bool → Type 0) (bs : List Bool) (out : List ℕ) : Answer → Type 0 where
+  accepted : {n : ℕ} → Accepted R May bs out n → Judged R May bs out (Done n)
+  refused : {k p : ℕ} → Lowest (endRows R May bs) k p → Judged R May bs out (Refused k p)
 
 -- and the output keeps its length
 pub record Reading (R : ℕ) (May : List Bool → Type 0) (bs : List Bool) (out : List ℕ) (r : Answer) : Type 0 where
-  pub answer : Answered R May bs out r
-  pub size : length out ≡ 64
+  pub answer : Judged R May bs out r
+  pub long : length out ≡ size
 
 -- what is then refused of the digits is what is refused of the bits
 pub answer-digits
@@ -93,7 +94,7 @@ module _ {R : ℕ} {bs : List Bool} {out : List ℕ} where
 module _ {R : ℕ} (May : List Bool → Type 0) {bs : List Bool} {out : List ℕ} {r : Found} (s : Scanned R bs out r) where
   pub answer-over : {p : ℕ} → r ≡ Over p → Reading R May bs out (Refused 10 p)
   answer-over e =
-      record { answer = refused (lowest-front (row11 May bs ∷ row12 (whole bs) ∷ []) refl (was-over (s .finds) e)); size = s .size }
+      record { answer = refused (lowest-front (row11 May bs ∷ row12 (whole bs) ∷ []) refl (was-over (s .finds) e)); long = s .long }
 
   pub answer-short : {n : ℕ} → r ≡ Short n → Reading R May bs out (Refused 12 n)
   answer-short {n} e =
@@ -102,7 +103,7 @@ module _ {R : ℕ} (May : List Bool → Type 0) {bs : List Bool} {out : List ℕ
       let c : Clear (row11 May bs ∷ []) = clear-one (λ p h. a .1 (p - 1) (h .0)) in
       record {
         answer = refused (lowest-back (clear-both (t .0) c) (first-place a (λ q l b. omega (arith, a .0, b .0))));
-        size = s .size;
+        long = s .long;
       }
 
   module _ {n : ℕ} (e : r ≡ Ended n) where
@@ -115,7 +116,7 @@ module _ {R : ℕ} (May : List Bool → Type 0) {bs : List Bool} {out : List ℕ
     -- more follows than may
     pub answer-more : (May (after bs n) → ⊥) → Reading R May bs out (Refused 11 (n + 1))
     answer-more m =
-        record { answer = refused (more-lowest R May bs (was-ended (s .finds) e .0) end-at m); size = s .size }
+        record { answer = refused (more-lowest R May bs (was-ended (s .finds) e .0) end-at m); long = s .long }
 
     -- what follows may follow
     pub answer-read : May (after bs n) → Reading R May bs out (Done n)
@@ -135,5 +136,5 @@ module _ {R : ℕ} (May : List Bool → Type 0) {bs : List Bool} {out : List ℕ
                 count = count;
                 room = omega (arith, length-take n out);
               });
-          size = s .size;
+          long = s .long;
         }

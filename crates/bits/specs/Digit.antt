@@ -2,17 +2,16 @@
 -- a place of the bits, counted so in a word of 16 bits that two bytes make, and in a whole number's 64.
 --
 -- Assumes nothing.
-use mathlib.Core.Path.{_≡_, refl, sym, ap, _∙_}
+use mathlib.Core.Path.{_≡_, refl, ap, _∙_}
 use mathlib.Core.Bool.{Bool, true, false}
 use mathlib.Core.List.{List, [], _∷_, _++_, append-assoc, append-nil}
-use Prim.Native.Nat.{ℕ, zero, suc, _+_, _-_, _*_, _/_, _%_, _^_, _≤_, _<_}
+use Prim.Native.Nat.{ℕ, suc, _+_, _-_, _*_, _/_, _%_, _^_, _≤_, _<_}
 use native.Mathlib.Decide.{decLt}
-use native.Mathlib.Nat.{mod-lt, le-refl, lt-of-le-of-lt}
+use native.Mathlib.Nat.{mod-lt}
 use native.Mathlib.Numerals.{add-one}
 use native.Mathlib.Omega.{arith}
-use lib.Dec.{lit<}
-use lib.ListN.{length, drop, getD, replicate, length-append, drop-of-length-le, List·getD-eq-default}
-use lib.Seq.{drop-append-le, drop-cons}
+use lib.ListN.{length, drop, getD, length-append, drop-of-length-le, List·getD-eq-default}
+use lib.Seq.{drop-cons}
 use lib.Pow.{pow-pos}
 use lib.Count.{leadingZeros}
 use Rattle.bits.specs.Bits.{word, bytes}

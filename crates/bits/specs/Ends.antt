@@ -1,16 +1,14 @@
 -- Where a digit code ends, by a part of the digits: digits behind the end do not move it, and digits that end nothing are open.
 --
 -- That a code ends in one place is in the crate `code`. Assumes nothing.
-use mathlib.Core.Path.{_≡_, refl, sym}
-use mathlib.Core.Logic.{_⊎_, inl, inr, ⊎-elim}
+use mathlib.Core.Path.{_≡_}
 use mathlib.Core.List.{List, [], _∷_, _++_}
-use Prim.Native.Nat.{ℕ, zero, suc, _+_, _-_, _*_, _≤_, _<_}
-use native.Mathlib.Decide.{decLt, decLe}
-use native.Mathlib.Nat.{zero-add, add-assoc, le-refl}
-use native.Mathlib.Numerals.{sub-one}
+use Prim.Native.Nat.{ℕ, zero, suc, _+_, _≤_, _<_}
+use native.Mathlib.Decide.{decLt}
+use native.Mathlib.Nat.{le-refl}
 use native.Mathlib.Omega.{arith}
-use lib.ListN.{length, take, drop, getD, length-append, take-append-drop}
-use lib.Seq.{take-append-le, take-length, length-take-le}
+use lib.ListN.{length, take, drop, length-append, take-append-drop}
+use lib.Seq.{take-append-le, length-take-le}
 use Rattle.refusal.specs.Table.{Clear}
 use Rattle.refusal.specs.Laws.{clear-left, others}
 use Rattle.code.specs.Code.{sum, EndsAt, row11, row12, row13, digitRows}

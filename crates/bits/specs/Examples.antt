@@ -3,7 +3,7 @@ use mathlib.Core.Path.{_≡_, refl, ap}
 use mathlib.Core.Logic.{⊎-elim}
 use mathlib.Core.Bool.{Bool, true, false, true≢false}
 use mathlib.Core.List.{List, [], _∷_, _++_}
-use Prim.Native.Nat.{ℕ, zero, suc, _+_, _-_, _*_, _^_}
+use Prim.Native.Nat.{ℕ, zero, suc, _-_, _*_, _^_}
 use native.Mathlib.Omega.{arith}
 use lib.ListN.{length, getD}
 use Rattle.refusal.specs.Table.{Lowest, row3}
@@ -11,7 +11,8 @@ use Rattle.refusal.specs.Laws.{clear-one, clear-both, lowest-back}
 use Rattle.code.specs.Limits.{valence}
 use Rattle.code.specs.Code as code
 use Rattle.code.specs.Ends.{ends-iff}
-use Rattle.bits.specs.Bits.{bits, bit, word, bytes, digitsFrom, cutFrom, whole, fractionBits, Zeros, Nothing, row4, bitRows, wholeRows}
+use Rattle.bits.specs.Limits.{wholeSize}
+use Rattle.bits.specs.Bits.{bits, bit, word, bytes, digitsFrom, whole, fractionBits, Zeros, Nothing, row4, bitRows, wholeRows}
 use Rattle.bits.specs.Reading.{more-refused}
 
 -- x is the whole number of c
@@ -86,7 +87,7 @@ sixteen : word 5 16 ≡ bits (1 ∷ 0 ∷ []) ++ (false ∷ false ∷ [])
 unfolding word bit bits
 sixteen = refl
 
-pub refused-sixteen : Lowest (wholeRows 32 valence 3 16) 11 3
+pub refused-sixteen : Lowest (wholeRows wholeSize valence 3 16) 11 3
 refused-sixteen =
     lowest-back
     (clear-both (clear-one {r = row3 32 3} in-range) (clear-one {r = row4 3 16} (λ p a. omega (arith, a .1))))

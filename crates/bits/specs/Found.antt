@@ -1,16 +1,17 @@
 -- What a reader of digits has found, in the words of rows 10 and 12 and of a code's end, and how it comes to it.
 --
 -- In order: the contract; what a reader knows when it has n digits in its output; what each way on tells. Assumes nothing.
-use mathlib.Core.Path.{_≡_, refl, sym, ap, _∙_}
+use mathlib.Core.Path.{_≡_, refl, sym, ap}
 use mathlib.Core.Bool.{Bool}
 use mathlib.Core.List.{List, [], _∷_, _++_}
-use Prim.Native.Nat.{ℕ, zero, suc, _+_, _*_, _≤_, _<_}
+use Prim.Native.Nat.{ℕ, _+_, _*_, _≤_, _<_}
 use native.Mathlib.Numerals.{add-one}
 use native.Mathlib.Nat.{le-refl}
 use native.Mathlib.Omega.{arith}
 use lib.ListN.{length, take, drop, set, length-append, length-set, drop-of-length-le}
 use lib.Seq.{take-suc-set, take-take}
 use Rattle.refusal.specs.Table.{Clear, Lowest}
+use Rattle.code.specs.Limits.{size}
 use Rattle.code.specs.Code.{sum, EndsAt, cap, row12}
 use Rattle.bits.specs.declared.Found.{Found}
 use Rattle.bits.specs.declared.Found.the-variants.{Over, Short, Ended}
@@ -29,18 +30,18 @@ pub data Finds (R : ℕ) (bs : List Bool) (out : List ℕ) : Found → Type 0 wh
 -- and the output keeps its length
 pub record Scanned (R : ℕ) (bs : List Bool) (out : List ℕ) (r : Found) : Type 0 where
   pub finds : Finds R bs out r
-  pub size : length out ≡ 64
+  pub long : length out ≡ size
 
 -- n digits are read into out, and their code goes on at the bit b
 pub record Sofar (R : ℕ) (bs : List Bool) (out : List ℕ) (n b : ℕ) : Type 0 where
   pub front : Front R bs (take n out) b
   pub goes-on : Open (take n out) n
   pub count : length (take n out) ≡ n
-  pub size : length out ≡ 64
+  pub long : length out ≡ size
 
-pub sofar-none : (R : ℕ) (bs : List Bool) (out : List ℕ) → length out ≡ 64 → Sofar R bs out 0 0
+pub sofar-none : (R : ℕ) (bs : List Bool) (out : List ℕ) → length out ≡ size → Sofar R bs out 0 0
 sofar-none R bs out h =
-    record { front = front-none R bs; goes-on = record { holds = λ i l. omega arith }; count = refl; size = h }
+    record { front = front-none R bs; goes-on = record { holds = λ i l. omega arith }; count = refl; long = h }
 
 module _ {R : ℕ} {bs : List Bool} {out : List ℕ} {n b : ℕ} (s : Sofar R bs out n b) where
   open-all : Open (take n out) (length (take n out))
@@ -57,13 +58,13 @@ module _ {R : ℕ} {bs : List Bool} {out : List ℕ} {n b : ℕ} (s : Sofar R bs
   sofar-over m k h l =
       record {
         finds = over (rw (s .count) at (step-over (s .front) m k open-all h (rw (s .count) l)));
-        size = s .size;
+        long = s .long;
       }
 
   pub sofar-short : (m k : ℕ) → R < m → Near m k (drop b bs) → k ≤ cap R (n + 1) → length bs ≤ b + k → Scanned R bs out (Short n)
   sofar-short m k r h l g =
       let t = step-short (s .front) m k r open-all h (rw (s .count) l) g in
-      record { finds = short (t .0) (rw (s .count) at (t .1)); size = s .size }
+      record { finds = short (t .0) (rw (s .count) at (t .1)); long = s .long }
 
   -- behind the last bit there is no run
   pub sofar-out : length bs ≤ b → Scanned R bs out (Short n)
@@ -72,9 +73,9 @@ module _ {R : ℕ} {bs : List Bool} {out : List ℕ} {n b : ℕ} (s : Sofar R bs
       let h : Near (R + 1) 0 (drop b bs) = rw (drop-of-length-le bs g) (near-exact (R + 1) refl) in
       sofar-short (R + 1) 0 (omega arith) h (omega arith) (omega arith)
 
-  module _ (m k : ℕ) (r : R < m) (h : Near m k (drop b bs)) (l : k ≤ cap R (n + 1)) (g : b + k < length bs) (w : n < 64) where
+  module _ (m k : ℕ) (r : R < m) (h : Near m k (drop b bs)) (l : k ≤ cap R (n + 1)) (g : b + k < length bs) (w : n < size) where
     written : take (n + 1) (set out n k) ≡ take n out ++ (k ∷ [])
-    written = rw (add-one, take-suc-set out n k (omega (arith, s .size)))
+    written = rw (add-one, take-suc-set out n k (omega (arith, s .long)))
 
     counted : length (take n out ++ (k ∷ [])) ≡ n + 1
     counted = simp length-append (omega (arith, s .count))
@@ -87,7 +88,7 @@ module _ {R : ℕ} {bs : List Bool} {out : List ℕ} {n b : ℕ} (s : Sofar R bs
         let t = step-end next (last-ends k next open-all (rw (s .count) e)) in
         record {
           finds = ended (t .0) (rw counted at (t .1)) (rw written (rw counted at (sym (t .2))));
-          size = rw length-set (s .size);
+          long = rw length-set (s .long);
         }
 
     pub sofar-on : 2 * (n + 1) ≤ b + (k + 1) → Sofar R bs (set out n k) (n + 1) (b + (k + 1))
@@ -96,5 +97,5 @@ module _ {R : ℕ} {bs : List Bool} {out : List ℕ} {n b : ℕ} (s : Sofar R bs
           front = rw written next;
           goes-on = rw written (rw counted at (last-open k next open-all (rw (s .count) e)));
           count = rw written counted;
-          size = rw length-set (s .size);
+          long = rw length-set (s .long);
         }

@@ -1,4 +1,5 @@
 -- The bit-tuple of a rooted code, and its three carriers. Assumes nothing.
+pub mod Limits
 pub mod Bits
 pub mod Ends
 pub mod Laws
@@ -13,3 +14,4 @@ pub mod Written
 pub mod Writing
 pub mod Packing
 pub mod Examples
+pub mod Decided

@@ -2,10 +2,10 @@
 --
 -- Assumes nothing.
 use mathlib.Core.Path.{_≡_, refl, sym, ap, _∙_}
-use mathlib.Core.Bool.{Bool, true, false}
+use mathlib.Core.Bool.{false}
 use mathlib.Core.List.{List, [], _∷_, _++_, append-assoc, append-nil}
 use Prim.Native.Nat.{ℕ, zero, suc, _+_, _-_, _*_, _/_, _%_, _^_, _≤_, _<_}
-use native.Mathlib.Nat.{mod-lt, le-refl, lt-of-lt-of-le}
+use native.Mathlib.Nat.{mod-lt, lt-of-lt-of-le}
 use native.Mathlib.Numerals.{add-one}
 use native.Mathlib.Omega.{arith}
 use lib.Dec.{lit<}
@@ -14,9 +14,10 @@ use lib.ListN.{length, take, drop, getD, set, replicate, length-append, length-s
 use lib.Seq.{take-suc-set, drop-set-lt, drop-drop, take-all, take-length, length-take-le}
 use Rattle.laws.specs.Laid.{laidOver}
 use Rattle.refusal.specs.Table.{Writes}
-use Rattle.code.specs.Code.{sum, EndsAt}
+use Rattle.code.specs.Limits.{size}
+use Rattle.code.specs.Code.{sum}
 use Rattle.code.specs.Counting.{sum-more}
-use Rattle.bits.specs.Bits.{bits, word, bytes, Carries}
+use Rattle.bits.specs.Bits.{bits, word, bytes}
 use Rattle.bits.specs.Ends.{end-sum}
 use Rattle.bits.specs.Laws.{length-bits}
 use Rattle.bits.specs.Words.{length-word, word-shift, bytes-append, length-bytes}
@@ -82,7 +83,7 @@ module _ {d old out : List ℕ} {i m c a : ℕ} (s : Packing d old out i m c a) 
         are-bytes = rw t (record { below = more-below (take m out) v (s .are-bytes .below) b });
       }
 
-  module _ {R : ℕ} (w : Coded R 64 d) (r : R ≤ 6) (n : (2 * length d + 6) / 8 ≤ length old) where
+  module _ {R : ℕ} (w : Coded R size d) (r : R ≤ 6) (n : (2 * length d + 6) / 8 ≤ length old) where
     all-bits : length d ≤ i → 8 * m + c + 1 ≡ 2 * length d
     all-bits l =
         let t : sum (take i d) ≡ sum d = ap sum (take-all i d l) in

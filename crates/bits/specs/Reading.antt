@@ -3,23 +3,22 @@
 --
 -- In order: tables that apply alike; the rows of bits that carry a code; both ways between a clear table and a reading; one code.
 -- Assumes nothing.
-use mathlib.Core.Path.{_≡_, refl, sym, ap, _∙_}
-use mathlib.Core.Logic.{_⊎_, inl, inr, ⊎-elim, _↔_}
+use mathlib.Core.Path.{_≡_, refl, sym, _∙_}
+use mathlib.Core.Logic.{_⊎_, inl, inr}
 use mathlib.Core.Bool.{Bool}
 use mathlib.Core.List.{List, [], _∷_, _++_}
-use Prim.Native.Nat.{ℕ, zero, suc, _+_, _-_, _*_, _≤_, _<_}
-use native.Mathlib.Nat.{le-refl}
+use Prim.Native.Nat.{ℕ, suc, _+_, _-_, _≤_, _<_}
 use native.Mathlib.Omega.{arith}
-use lib.ListN.{length, take, getD, length-append, List·getD-append}
+use lib.ListN.{length, take, length-append, List·getD-append}
 use Rattle.refusal.specs.Table.{Row, Applies, Clear, Lowest, Answers, passes, fails}
 use Rattle.refusal.specs.Laws.{clear-one, first-place, lowest-front, lowest-back}
 use Rattle.refusal.specs.declared.Check.{Check}
-use Rattle.code.specs.Code.{EndsAt, Larger, digit, cap, row12, digitRows}
+use Rattle.code.specs.Code.{EndsAt, Larger, digit, row12, digitRows}
 use Rattle.code.specs.Code as code
 use Rattle.code.specs.Counting.{one-end, some-end}
 use Rattle.bits.specs.Bits.{bits, whole, runs, after, row10, row11, row13, endRows, bitRows, Carries, Reads}
 use Rattle.bits.specs.Ends.{first-end, right-ends}
-use Rattle.bits.specs.Laws.{read-bits, cut-bits, after-end, after-code, code-ends, code-read, one-code}
+use Rattle.bits.specs.Laws.{read-bits, after-end, after-code, code-ends, code-read, one-code}
 
 -- two tables apply alike
 pub record Alike (xs ys : List Row) : Type 0 where

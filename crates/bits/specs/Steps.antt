@@ -3,23 +3,22 @@
 -- In order: the run at a place of the bits; what is known of the digits read; the next digit is above its cap; the bits give out;
 -- one digit more; the code ends. Assumes nothing.
 use mathlib.Core.Path.{_≡_, refl, sym, ap, _∙_}
-use mathlib.Core.Logic.{_⊎_, inl, inr}
 use mathlib.Core.Bool.{Bool, true, false}
 use mathlib.Core.List.{List, [], _∷_, _++_, append-assoc, append-nil}
 use Prim.Native.Nat.{ℕ, zero, suc, _+_, _-_, _*_, _≤_, _<_}
 use native.Mathlib.Decide.{decLe}
 use native.Mathlib.Nat.{zero-add, add-zero, suc-add, add-suc, le-refl}
-use native.Mathlib.Numerals.{add-one, sub-one}
+use native.Mathlib.Numerals.{add-one}
 use native.Mathlib.Omega.{arith}
-use lib.ListN.{length, take, drop, getD, replicate, length-append, length-drop, length-replicate, List·getD-append}
-use lib.Seq.{getD-append-seam, getD-append-add, drop-append-seam, drop-append-add, take-append-seam, take-append-le, take-length, drop-drop}
-use Rattle.refusal.specs.Table.{Row, Clear, Lowest}
+use lib.ListN.{length, take, drop, getD, replicate, length-append, length-drop, List·getD-append}
+use lib.Seq.{getD-append-seam, getD-append-add, take-append-seam, take-append-le, take-length, drop-drop}
+use Rattle.refusal.specs.Table.{Clear, Lowest}
 use Rattle.refusal.specs.Laws.{clear-one, first-place}
 use Rattle.code.specs.Code.{sum, EndsAt, digit, cap, row12}
 use Rattle.code.specs.Counting.{sum-append}
 use Rattle.bits.specs.Bits.{bits, digitsFrom, cutFrom, whole, runs, row10}
 use Rattle.bits.specs.Ends.{Open, ends-more, open-none}
-use Rattle.bits.specs.Laws.{one-digit, no-digit, cut-ones, read-bits, cut-bits, bits-append, length-bits}
+use Rattle.bits.specs.Laws.{no-digit, read-bits, cut-bits, bits-append}
 use Rattle.bits.specs.Words.{lead}
 use Rattle.bits.specs.Digit.{Near}
 

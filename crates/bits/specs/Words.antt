@@ -2,14 +2,14 @@
 -- the low bits, two words side by side, a word shifted to the left; and the bits of bytes. Assumes nothing.
 use mathlib.Core.Path.{_≡_, refl, sym, ap, _∙_}
 use mathlib.Core.Bool.{Bool, true, false}
-use mathlib.Core.List.{List, [], _∷_, _++_, append-assoc, append-nil}
+use mathlib.Core.List.{List, [], _∷_, _++_, append-assoc}
 use Prim.Native.Nat.{ℕ, zero, suc, _+_, _-_, _*_, _/_, _%_, _^_, _≤_, _<_}
 use native.Mathlib.Decide.{decLt}
-use native.Mathlib.Nat.{zero-add, add-zero, suc-add, add-comm, zero-mul, suc-mul, mul-assoc, pow-suc, pow-succ', zero-div, div-eq-of-lt, mul-add-div-right, mod-lt, le-refl}
+use native.Mathlib.Nat.{zero-add, add-zero, suc-add, add-comm, zero-mul, mul-assoc, pow-suc, pow-succ', zero-div, div-eq-of-lt, mul-add-div-right, mod-lt}
 use native.Mathlib.Numerals.{one-add}
 use native.Mathlib.Omega.{arith}
 use lib.Dec.{lit<}
-use lib.ListN.{length, take, drop, getD, replicate, length-append}
+use lib.ListN.{length, drop, getD, replicate, length-append}
 use lib.Seq.{drop-append-le, drop-append-add}
 use lib.Pow.{pow-pos, split, high, shr-shr, mod-pow-add}
 use lib.Count.{leadingZeros, leading-length, leading-unique}

@@ -1,26 +1,25 @@
 -- A writer's steps: a digit appended to the bits of a word, the highest eight bits taken off it as a byte, and what the two writers
 -- know as they go. Assumes nothing.
 use mathlib.Core.Path.{_≡_, refl, sym, ap, _∙_}
-use mathlib.Core.Bool.{Bool, true, false}
-use mathlib.Core.List.{List, [], _∷_, _++_, append-assoc, append-nil}
+use mathlib.Core.Bool.{Bool}
+use mathlib.Core.List.{List, [], _∷_, _++_, append-nil}
 use Prim.Native.Nat.{ℕ, zero, suc, _+_, _-_, _*_, _/_, _%_, _^_, _≤_, _<_}
-use native.Mathlib.Nat.{one-mul, suc-add, add-comm, add-assoc, mod-lt, pow-suc, le-refl, lt-of-lt-of-le}
+use native.Mathlib.Nat.{one-mul, suc-add, mod-lt, pow-suc, lt-of-lt-of-le}
 use native.Mathlib.Numerals.{add-one}
 use native.Mathlib.Omega.{arith}
 use lib.Dec.{lit<}
 use lib.Pow.{pow-pos, pow-mono, pow-add, split, high, mod-mod-pow, shl-lt, shl-exact}
 use lib.Arith.{digits-lt}
-use lib.ListN.{length, take, drop, getD, set, replicate, length-append, length-set, take-append-drop}
-use lib.Seq.{take-suc, take-length, take-suc-set, drop-set-lt, drop-drop, length-take-le, take-all}
-use Rattle.laws.specs.Laid.{laidOver}
-use Rattle.refusal.specs.Table.{Writes}
+use lib.ListN.{length, take, drop, getD, take-append-drop}
+use lib.Seq.{take-suc, take-length, take-all}
 use Rattle.code.specs.Code.{sum, EndsAt}
 use Rattle.code.specs.Counting.{sum-append, sum-more}
-use Rattle.bits.specs.Bits.{bits, bit, word, bytes, Zeros, Fill, Nothing, Carries}
+use Rattle.bits.specs.Limits.{wholeSize}
+use Rattle.bits.specs.Bits.{bits, bit, word}
 use Rattle.bits.specs.Ends.{end-sum}
-use Rattle.bits.specs.Laws.{bits-append, length-bits}
-use Rattle.bits.specs.Words.{length-word, word-low, word-mod, word-two, word-shift, bytes-append, length-bytes}
-use Rattle.bits.specs.Written.{Coded, Bytes, Packs, Numbers}
+use Rattle.bits.specs.Laws.{bits-append}
+use Rattle.bits.specs.Words.{word-low, word-mod, word-two}
+use Rattle.bits.specs.Written.{Coded, Numbers}
 
 -- ---- words
 
@@ -103,7 +102,7 @@ number-none d = record { same = refl; below = lit< tt; read = omega arith }
 
 module _ {d : List ℕ} {i x : ℕ} (s : Numbering d i x) (h : i < length d) where
   -- the next digit fits a word of 64 bits
-  pub number-room : {R : ℕ} → Coded R 32 d → Room (getD d i 0) x
+  pub number-room : {R : ℕ} → Coded R wholeSize d → Room (getD d i 0) x
   number-room c =
       let k = getD d i 0 in
       let w = sum-within d (i + 1) (c .ends) in

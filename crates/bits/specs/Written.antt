@@ -1,19 +1,20 @@
 -- The packed form and the whole-number form of a code, as they are written, and that each is one.
 --
--- In order: what a writer is lent; the two forms; they are read back; there is one packed form and one whole number. Assumes nothing.
+-- In order: what a writer is lent; the two forms; they are read back, and what is read is one; there is one packed form and one whole
+-- number. Assumes nothing.
 use mathlib.Core.Path.{_≡_, refl, sym, ap, _∙_}
-use mathlib.Core.Bool.{Bool, true, false}
-use mathlib.Core.List.{List, [], _∷_, _++_, append-nil}
-use Prim.Native.Nat.{ℕ, zero, suc, _+_, _-_, _*_, _/_, _%_, _^_, _≤_, _<_}
+use mathlib.Core.Bool.{Bool}
+use mathlib.Core.List.{List, [], _∷_}
+use Prim.Native.Nat.{ℕ, suc, _+_, _-_, _*_, _^_, _≤_, _<_}
 use native.Mathlib.Decide.{decLt, decLe}
-use native.Mathlib.Nat.{mod-eq-of-lt, le-refl}
+use native.Mathlib.Nat.{mod-eq-of-lt}
 use native.Mathlib.Omega.{arith}
-use lib.ListN.{length, take, drop, getD, replicate, length-append, List·getD-eq-default}
+use lib.ListN.{length, take, drop, getD, length-append, List·getD-eq-default}
 use lib.Seq.{take-at, drop-at, take-length}
 use Rattle.refusal.specs.Table.{Clear}
 use Rattle.refusal.specs.Laws.{never}
-use Rattle.code.specs.Code.{sum, EndsAt, digit, cap, digitRows}
-use Rattle.bits.specs.Bits.{bits, whole, word, bytes, Zeros, Fill, Nothing, fractionBits, Carries, Reads}
+use Rattle.code.specs.Code.{sum, EndsAt, digitRows}
+use Rattle.bits.specs.Bits.{word, bytes, Zeros, Fill, Nothing, Carries, Reads}
 use Rattle.bits.specs.Ends.{end-sum, right-ends}
 use Rattle.bits.specs.Laws.{length-bits}
 use Rattle.bits.specs.Words.{length-word, word-same, length-bytes}
@@ -56,6 +57,25 @@ packed-back r p = record { carries = p .carries; right = r }
 
 pub number-back : {R x : ℕ} {c : List ℕ} → Clear (digitRows R c) → Numbers c x → Reads R Nothing (word (2 * length c - 1) x) c
 number-back r p = record { carries = p .carries; right = r }
+
+-- ---- what is read is a form of the code read
+
+pub packed-read : {R : ℕ} {c s : List ℕ} → Bytes s → Reads R Fill (bytes s) c → Packs c s
+packed-read b r = record { carries = r .carries; are-bytes = b }
+
+-- the N beside a whole number is the number of its digits
+pub number-size : {R n : ℕ} (x : ℕ) {c : List ℕ} → 1 ≤ n → Reads R Nothing (word (2 * n - 1) x) c → length c ≡ n
+number-size {n = n} x {c} h r =
+    let a = r .carries in
+    let e = right-ends c (r .right) in
+    let l = simp (length-word, length-append, length-bits) at (ap length (a .same)) in
+    let z : length (a .fill) ≡ 0 = ap length (a .may) in
+    let s : sum c + 1 ≡ length c = rw take-length at (end-sum c (length c) e) in
+    omega (arith, l, z, s)
+
+pub number-read :
+    {R n x : ℕ} {c : List ℕ} → 1 ≤ n → x < 2 ^ (2 * n - 1) → Reads R Nothing (word (2 * n - 1) x) c → Numbers c x
+number-read {n = n} {x} {c} h b r = let z = number-size x h r in record { carries = rw z (r .carries); below = rw z b }
 
 -- ---- one form
 

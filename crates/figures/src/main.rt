@@ -59,7 +59,7 @@ fn written(out: &[u8]) {
 fn decode(code: &[u8]) {
     let mut out = [0u8; 126];
     digits(code);
-    answer(zurkhovel::decode_code(code, &mut out));
+    answer(zurkhovel::codes::decode_code(code, &mut out));
     written(&out);
     text(b"\n");
 }
@@ -71,12 +71,12 @@ fn sizes() {
     code[62] = 0;
     code[63] = 0;
     text(b"path of 64");
-    answer(zurkhovel::check_code(&code[..64]));
+    answer(zurkhovel::codes::check_code(&code[..64]));
     text(b"\n");
     code[62] = 1;
     code[64] = 0;
     text(b"path of 65");
-    answer(zurkhovel::check_code(&code));
+    answer(zurkhovel::codes::check_code(&code));
     text(b"\n");
 }
 

@@ -1,4 +1,5 @@
--- A renumbering carries a skeleton's degrees and rooted codes, and so its N-tuple code and its centred code. Assumes nothing.
+-- A renumbering carries a skeleton's rooted codes and degrees, and so its centred code and its N-tuple code. That equal codes come from a
+-- renumbering is in `Forms`. Assumes nothing.
 use mathlib.Core.Path.{_≡_, refl, ap, sym, _∙_}
 use mathlib.Core.List.{List}
 use Prim.Native.Nat.{ℕ, _≤_}

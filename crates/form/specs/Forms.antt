@@ -1,6 +1,7 @@
--- What the N-tuple code and the centred code have in common (`IsForm`), and what follows from that alone: such a code is a rooted code
--- with a digit for each vertex, it decodes to the skeleton that was coded, and equal ones come from the same skeleton. What the refusal
--- table lets pass of them is in `Accepted`. Assumes nothing.
+-- What the N-tuple code and the centred code have in common (`IsForm`), and what follows from that alone.
+--
+-- In order: the form, and that both are one; what the code of a tree is and decodes to; that equal codes come from the same skeleton;
+-- whether digits are of the form. What the refusal table lets pass of them is in `Accepted`. Assumes nothing.
 use mathlib.Core.Path.{_≡_, ap, sym, _∙_, subst}
 use mathlib.Core.Logic.{_↔_, ⊎-elim}
 use mathlib.Core.List.{List, List-discrete}
@@ -22,9 +23,13 @@ AtRoot N E c = (r : ℕ) × ((1 ≤ r) × (r ≤ N)) × (c ≡ rooted N E r)
 
 -- a form of code: one of a tree's rooted codes, the same under other numbers
 pub record IsForm (form : ℕ → List ℕ → List ℕ → Type 0) : Type 0 where
+  -- a tree has not two codes of the form
   pub one : {N : ℕ} {E c d : List ℕ} → IsTree N E → form N E c → form N E d → c ≡ d
+  -- it has one
   pub some : (N : ℕ) (E : List ℕ) → IsTree N E → (c : List ℕ) × form N E c
+  -- which is the rooted code at one of its vertices
   pub at-root : (N : ℕ) (E c : List ℕ) → IsTree N E → form N E c → AtRoot N E c
+  -- and the same skeleton under other numbers has it too
   pub carried : (N : ℕ) (E F c : List ℕ) → IsTree N E → Renumbering N E F → form N E c → form N F c
 
 pub n-tuple-form : IsForm nTuple

@@ -5,3 +5,5 @@ pub mod Carried
 pub mod Forms
 pub mod Accepted
 pub mod Theorems
+pub mod Computed
+pub mod Figures

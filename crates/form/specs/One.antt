@@ -1,12 +1,13 @@
--- A tree has one N-tuple code and one centred code: not two, and not none. Every `at`, the code at each root, will do. Assumes nothing.
+-- A tree has one N-tuple code and one centred code: not two, and then not none. Every `at`, the code at each root, will do. What the two
+-- are is in `Form`. Assumes nothing.
 use mathlib.Core.Path.{_≡_, refl}
 use mathlib.Core.Logic.{_⊎_, inl, inr, ⊎-elim}
 use mathlib.Core.List.{List, _∷_}
 use Prim.Native.Nat.{ℕ, zero, suc, _≤_}
 use native.Mathlib.Decide.{ℕ-discrete}
 use native.Mathlib.Omega.{arith}
-use Rattle.laws.specs.Order.{_≽_}
-use Rattle.laws.specs.Sorting.{refl≽, total≽, trans≽, antisym≽}
+use Rattle.laws.specs.Order.{_≽_, dec≽}
+use Rattle.laws.specs.Sorting.{refl≽, total≽, trans≽, antisym≽, below≽}
 use Rattle.tree.specs.Skeleton.{degree, IsTree}
 use Rattle.path.specs.Path.{middle₁, middle₂, IsCentre}
 use Rattle.path.specs.Theorems.{there-is-one, one-centre}
@@ -41,21 +42,22 @@ module _ {N : ℕ} {E : List ℕ} {at : ℕ → List ℕ} {c d : List ℕ} where
 -- ---- not none
 
 -- of the vertices 1 to n, one of the largest key
-largest : (key : ℕ → List ℕ) (n : ℕ) → 1 ≤ n → (r : ℕ) × ((1 ≤ r) × (r ≤ n)) × ((v : ℕ) → 1 ≤ v → v ≤ n → key r ≽ key v)
+unfoldable pub largest : (key : ℕ → List ℕ) (n : ℕ) → 1 ≤ n → (r : ℕ) × ((1 ≤ r) × (r ≤ n)) × ((v : ℕ) → 1 ≤ v → v ≤ n → key r ≽ key v)
 largest key zero h = let z : ⊥ = omega arith in absurd z
 largest key (suc zero) h = (1, omega arith, λ v a b. let e : v ≡ 1 = omega arith in rw e (refl≽ (key 1)))
-largest key (suc (suc n)) h = let (r, i, m) = largest key (suc n) (omega arith) in step r i m (total≽ (key r) (key (suc (suc n))))
+largest key (suc (suc n)) h = let (r, i, m) = largest key (suc n) (omega arith) in step r i m (dec≽ (key r) (key (suc (suc n))))
   where
     also : (r : ℕ) → key r ≽ key (suc (suc n)) → ((v : ℕ) → 1 ≤ v → v ≤ suc n → key r ≽ key v) → (v : ℕ) → 1 ≤ v → v ≤ suc (suc n) → key r ≽ key v
     also r g m v a b = elim (ℕ-discrete v (suc (suc n))) [ yes e ↦ rw e g | no e ↦ m v a (omega arith) ]
 
-    step : (r : ℕ) → (1 ≤ r) × (r ≤ suc n) → ((v : ℕ) → 1 ≤ v → v ≤ suc n → key r ≽ key v) → (key r ≽ key (suc (suc n))) ⊎ (key (suc (suc n)) ≽ key r)
+    step : (r : ℕ) → (1 ≤ r) × (r ≤ suc n) → ((v : ℕ) → 1 ≤ v → v ≤ suc n → key r ≽ key v) → Dec (key r ≽ key (suc (suc n)))
         → (r : ℕ) × ((1 ≤ r) × (r ≤ suc (suc n))) × ((v : ℕ) → 1 ≤ v → v ≤ suc (suc n) → key r ≽ key v)
-    step r i m (inl g) = (r, omega arith, also r g m)
-    step r i m (inr g) = (
+    step r i m (yes g) = (r, omega arith, also r g m)
+    step r i m (no g) = (
       suc (suc n),
       omega arith,
-      also (suc (suc n)) (refl≽ (key (suc (suc n)))) (λ v a b. trans≽ (key (suc (suc n))) (key r) (key v) g (m v a b)),
+      also (suc (suc n)) (refl≽ (key (suc (suc n))))
+          (λ v a b. trans≽ (key (suc (suc n))) (key r) (key v) (below≽ (key r) (key (suc (suc n))) g) (m v a b)),
     )
 
 module _ {N : ℕ} {E : List ℕ} {at : ℕ → List ℕ} {u v : ℕ} (z : IsCentre N E u v) where
@@ -67,7 +69,7 @@ module _ {N : ℕ} {E : List ℕ} {at : ℕ → List ℕ} {u v : ℕ} (z : IsCen
   at-second g = record { first = u; second = v; centre = z; either = inr refl; above-first = g; above-second = refl≽ (at v) }
 
 module _ (N : ℕ) (E : List ℕ) (at : ℕ → List ℕ) (t : IsTree N E) where
-  pub some-n-tuple : (c : List ℕ) × NTuple N E at c
+  unfoldable pub some-n-tuple : (c : List ℕ) × NTuple N E at c
   some-n-tuple =
       let (r, i, m) = largest (λ v. degree E v ∷ at v) N (omega (arith, t .edges)) in (
         at r,

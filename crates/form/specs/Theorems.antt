@@ -14,11 +14,11 @@ use Rattle.form.specs.Form.{nTuple, centred, formRows}
 use Rattle.form.specs.Forms.{IsForm, n-tuple-form, centred-form, is-rooted, form-size, form-decoded, form-again, form-verdict, form-decided}
 use Rattle.form.specs.Accepted.{right-decoded, form-passes, form-exactly, form-itself}
 
--- Both codes are forms of code: every tree has exactly one, it is one of the tree's rooted codes, and renumbering the tree does not
--- change it.
+-- Every tree has exactly one N-tuple code; it is one of the tree's rooted codes, and other numbers do not change it.
 pub the-n-tuple : IsForm nTuple
 the-n-tuple = n-tuple-form
 
+-- Every tree has exactly one centred code; it is one of the tree's rooted codes, and other numbers do not change it.
 pub the-centred : IsForm centred
 the-centred = centred-form
 

@@ -4,20 +4,20 @@ use mathlib.Core.Path.{_≡_, refl, sym, ap, _∙_}
 use mathlib.Core.Bool.{Bool, true, false, not, _&&_}
 use Prim.Native.Nat.{ℕ, zero, suc, _+_, _-_, _*_, _/_, _%_, _^_, _≤_, _<_}
 use native.Mathlib.Decide.{decLe}
-use native.Mathlib.Nat.{mul-one, one-mul, zero-mul, mul-assoc, mul-comm, mul-right-comm, add-mul, mul-pos, zero-lt-suc, pow-suc, div-eq-of-lt, mod-eq-of-lt, mod-lt, mod-le, div-le-self, div-add-mod', mul-div-mul-right, lt-of-lt-of-le, lt-of-le-of-lt, not-le-of-lt}
+use native.Mathlib.Nat.{mul-one, zero-mul, mul-assoc, mul-comm, mul-right-comm, add-mul, mul-pos, zero-lt-suc, pow-suc, div-eq-of-lt, mod-eq-of-lt, mod-lt, mod-le, div-le-self, div-add-mod', mul-div-mul-right, lt-of-lt-of-le, lt-of-le-of-lt, not-le-of-lt}
 use native.Mathlib.Numerals.{one-add}
 use native.Mathlib.Omega.{arith}
-use lib.IntN.{ℤ, pos, negsuc}
+use lib.IntN.{pos, negsuc}
 use lib.Dec.{T, leb, ltb, eqb, ltb→lt, leb→le}
 use lib.Pow.{pow-pos, pow-mono, pow-lt, pow-add, shl-lt, shr-shr, field, mod-mod-pow, high, low}
 use borrow.Author.Tests.{ltb-true, ltb-false}
-use lib.Ieee.{Float, nan, inf, fin, binary64, up, down, round, add, sub, lt, ne, ofBits, fits}
+use lib.Ieee.{Float, nan, inf, fin, binary64, up, down, add, sub, lt, ne, ofBits, fits}
 use lib.Ieee.Exact.{HasValue}
 use lib.Ieee.Scale.{round-same}
 use lib.Ieee.Fits.{and-l, and-r}
 use lib.Ieee.Positive.{num, den, den-pos, value→cross}
 use Rattle.fraction.specs.Fraction.{Outside, first53, rest53}
-use Rattle.fraction.specs.Floats.{frac, frac-value, doubled, under-one, less-one, not-zero, cross-none}
+use Rattle.fraction.specs.Floats.{frac-value, doubled, under-one, less-one, not-zero, cross-none}
 
 -- ---- one step
 

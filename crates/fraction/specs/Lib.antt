@@ -6,3 +6,4 @@ pub mod Range
 pub mod Outcome
 pub mod Writing
 pub mod Back
+pub mod Examples

@@ -1,6 +1,5 @@
 -- Document 01, "Places and their forms": "Where an answer is an enum, a definition gives this paper's number and values for each of the
 -- enum's cases, and the promises use this definition." Assumes nothing.
-use Prim.Native.Nat.{ℕ}
 use lib.Ieee.{Float}
 use Rattle.refusal.specs.Table.{Outcome, gives, refuses}
 use Rattle.fraction.specs.declared.Fraction.{Fraction}

@@ -1,26 +1,27 @@
 -- The fraction of a code is its whole number over a power of two, and the division loses nothing. Assumes nothing.
-use mathlib.Core.Path.{_≡_, refl, sym, ap, _∙_}
-use mathlib.Core.Bool.{Bool, true, false}
+use mathlib.Core.Path.{_≡_, _∙_}
+use mathlib.Core.Bool.{false}
 use mathlib.Core.List.{List}
-use Prim.Native.Nat.{ℕ, _+_, _-_, _*_, _%_, _^_, _≤_, _<_}
-use native.Mathlib.Nat.{one-mul, lt-of-lt-of-le, le-of-lt, le-trans}
+use Prim.Native.Nat.{ℕ, _-_, _*_, _%_, _^_, _≤_, _<_}
+use native.Mathlib.Nat.{one-mul, lt-of-lt-of-le, le-of-lt}
 use native.Mathlib.Omega.{arith}
 use lib.IntN.{pos}
 use lib.Dec.{T, le→leb, lit<}
 use lib.Pow.{pow-pos, pow-mono, shl-exact}
 use lib.ListN.{length}
-use lib.Ieee.{Float, binary64, round, div, ofInt, inFloat}
+use lib.Ieee.{binary64, round, div, ofInt, inFloat}
 use lib.Ieee.Back.{round-whole}
 use lib.Ieee.Fits.{div-fits}
+use Rattle.bits.specs.Limits.{wholeSize, fractionSize}
 use Rattle.bits.specs.Written.{Coded, Numbers}
 use Rattle.fraction.specs.Fraction.{IsFraction}
 use Rattle.fraction.specs.Floats.{frac-value, divided}
 
 -- a code that a fraction holds, a whole number holds
-pub coded-more : {R : ℕ} {c : List ℕ} → Coded R 27 c → Coded R 32 c
+pub coded-more : {R : ℕ} {c : List ℕ} → Coded R fractionSize c → Coded R wholeSize c
 coded-more c = record { ends = c .ends; size = omega (arith, c .size); small = c .small }
 
-module _ {R : ℕ} {c : List ℕ} (w : Coded R 27 c) where
+module _ {R : ℕ} {c : List ℕ} (w : Coded R fractionSize c) where
   pub some : 1 ≤ length c
   some = omega (arith, w .ends .less)
 

@@ -3,14 +3,15 @@ use refusal::Answer;
 use refusal::Check;
 ghost use mathlib.Core.Path.{_≡_};
 ghost use mathlib.Core.List.{[], _∷_};
-ghost use Prim.Native.Nat.{_*_, _^_};
 ghost use lib.ListN.{length};
-ghost use Rattle.code.specs.Limits.{valence};
+ghost use Rattle.code.specs.Limits.{size, valence};
 ghost use Rattle.refusal.specs.Table.{Answers};
+ghost use Rattle.bits.specs.Limits.{fractionSize};
 ghost use Rattle.bits.specs.Bits.{Zeros};
 ghost use Rattle.bits.specs.Answered.{Reading};
+ghost use Rattle.bits.specs.Decided.{Decision};
 ghost use Rattle.bits.specs.Written.{Coded};
-ghost use Rattle.fraction.specs.Fraction.{IsFraction, Outside, row4, bitsOf};
+ghost use Rattle.fraction.specs.Fraction.{IsFraction, Outside, row4, bitsOf, fractionRows};
 ghost use Rattle.fraction.specs.Drawing.{Next, Draws};
 
 // What the writer of a fraction answers.
@@ -35,7 +36,7 @@ pub struct Drawn {
 
 // The fraction of a code.
 pub fn fraction_of(code: &[u8]) -> f64
-    requires { ⌜ Coded valence 27 (now code) ⌝ }
+    requires { ⌜ Coded valence fractionSize (now code) ⌝ }
     ensures { λ r. ⌜ IsFraction (now (code .entry)) r ⌝ }
 {
     let x = bits::number_of(code);
@@ -95,11 +96,25 @@ fn draw(x: f64) -> Drawn
 }
 
 // The digits of a fraction that is in range, with rows 10 to 12.
-pub fn read(x: f64, out: &mut [u8; 64]) -> Answer
+pub fn read(x: f64, out: &mut [u8]) -> Answer
     requires { ⌜ (Outside x → ⊥) ⌝ }
-    requires { ⌜ length (now out) ≡ 64 ⌝ }
+    requires { ⌜ length (now out) ≡ size ⌝ }
     ensures { λ r. ⌜ Reading valence Zeros (bitsOf x) (now (out .exit)) r ⌝ }
 {
     let d = draw(x);
     bits::fraction(d.bits, d.rest, out)
+}
+
+// The right code in a fraction: rows 4 and 10 to 13.
+pub fn fraction_code(x: f64, out: &mut [u8]) -> Answer
+    requires { ⌜ length (now out) ≡ size ⌝ }
+    ensures { λ r. ⌜ Decision (fractionRows valence x) valence Zeros (bitsOf x) (now (out .exit)) r ⌝ }
+{
+    if let Check::Refuse(k, p) = ranged(x) {
+        return Answer::Refused(k, p);
+    }
+    match read(x, out) {
+        Answer::Refused(k, p) => Answer::Refused(k, p),
+        Answer::Done(n) => bits::siblings(out, n),
+    }
 }

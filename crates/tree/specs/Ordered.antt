@@ -24,22 +24,22 @@ use Rattle.tree.specs.Base.{base, rooted-base, digits-base}
 use Rattle.tree.specs.Theorems.{decode-code}
 
 -- the codes of a forest's trees as they stand
-strings : Forest → List (List ℕ)
+unfoldable pub strings : Forest → List (List ℕ)
 strings none = []
 strings (tree v d f) = (width d ∷ flatten (strings d)) ∷ strings f
 
-strings-length : (f : Forest) → length (strings f) ≡ width f
+pub strings-length : (f : Forest) → length (strings f) ≡ width f
 unfolding strings width
 strings-length none = refl
 strings-length (tree v d f) = ap suc (strings-length f)
 
-strings-shape : (f : Forest) → flatten (strings f) ≡ shape f
+pub strings-shape : (f : Forest) → flatten (strings f) ≡ shape f
 unfolding strings shape flatten
 strings-shape none = refl
 strings-shape (tree v d f) = ap₂ (λ l m. width d ∷ (l ++ m)) (strings-shape d) (strings-shape f)
 
 -- they are the codes that the forest's digits make
-codes-forest : (f : Forest) (ds : List ℕ) → codes (shape f ++ ds) ≡ strings f ++ codes ds
+pub codes-forest : (f : Forest) (ds : List ℕ) → codes (shape f ++ ds) ≡ strings f ++ codes ds
 unfolding codes shape strings
 codes-forest none ds = refl
 codes-forest (tree v d f) ds =
@@ -49,11 +49,11 @@ codes-forest (tree v d f) ds =
     (take-at (strings d) (strings f ++ codes ds) (width d) (strings-length d))
     (drop-at (strings d) (strings f ++ codes ds) (width d) (strings-length d))
 
-first-codes : (f : Forest) (ds : List ℕ) → take (width f) (codes (shape f ++ ds)) ≡ strings f
+pub first-codes : (f : Forest) (ds : List ℕ) → take (width f) (codes (shape f ++ ds)) ≡ strings f
 first-codes f ds = ap (take (width f)) (codes-forest f ds) ∙ take-at (strings f) (codes ds) (width f) (strings-length f)
 
 -- the trees below each vertex go down as they stand
-abbrev Down : Forest → Type 0
+abbrev pub Down : Forest → Type 0
 Down none = Unit {0}
 Down (tree v d f) = Falling (strings d) × Down d × Down f
 
@@ -73,14 +73,14 @@ ordered-code f =
 
 module _ (l : ℕ → Unit {0}) where
   -- where they go down as they stand, their codes are what stands
-  down-branches : (f : Forest) → Down f → branches base l f ≡ strings f
+  pub down-branches : (f : Forest) → Down f → branches base l f ≡ strings f
   unfolding branches strings joinₗ
   down-branches none o = refl
   down-branches (tree v d f) (h, a, b) =
       let e : branches base l d ≡ strings d = down-branches d a in
       ap₂ (λ x y. x ∷ y) (ap (λ x. length x ∷ flatten (sort x)) e ∙ ap₂ (λ n x. n ∷ flatten x) (strings-length d) (sort-stays (strings d) h)) (down-branches f b)
 
-  sorted-down : (f : Forest) → Sorted base l f → Down f
+  pub sorted-down : (f : Forest) → Sorted base l f → Down f
   sorted-down none s = tt
   sorted-down (tree v d f) (h, a, b) = let o : Down d = sorted-down d a in (rw (down-branches d o) at h, o, sorted-down f b)
 

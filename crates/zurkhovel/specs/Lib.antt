@@ -1,3 +1,3 @@
 -- The promises of the public calls. Assumes nothing.
-pub mod Calls
+pub mod Codes
 pub mod One

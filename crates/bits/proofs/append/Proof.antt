@@ -1,5 +1,4 @@
 -- `bits::append` meets its contract: `appends`. Assumes nothing.
-use native.Mathlib.Omega.{arith}
 use Rattle.bits.specs.Writing.{appends}
 use borrow.Author.Needs.{needs}
 use Rattle.bits.proofs.append.Statement.{statement}

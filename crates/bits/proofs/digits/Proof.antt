@@ -1,9 +1,10 @@
 -- `bits::digits` meets its contract. The loop's invariant: n digits are read, and their code goes on at the bit b. Each way through the
 -- body is a law of `Found`. Assumes nothing.
+use mathlib.Core.Path.{sym, _∙_}
 use Prim.Native.Nat.{ℕ, _+_, _-_, _*_, _≤_, _<_}
 use native.Mathlib.Omega.{arith}
 use lib.Dec.{lit<}
-use lib.ListN.{length}
+use lib.ListN.{length, length-set}
 use Rattle.code.specs.Limits.{valence}
 use Rattle.bits.specs.Bits.{bytes}
 use Rattle.bits.specs.Words.{length-bytes}
@@ -32,7 +33,7 @@ mul-m : tie.Need-mul-m Inv-loop μ-loop
 mul-m c = omega arith
 
 loop-holds : tie.Need-loop-holds Inv-loop μ-loop
-loop-holds c = sofar-none _ _ _ (c .before .pre .1)
+loop-holds c = sofar-none _ _ _ (c .before .before .pre .1)
 
 digit-at-requires : tie.Need-digit-at-requires Inv-loop μ-loop
 digit-at-requires c κs = omega arith
@@ -49,6 +50,9 @@ cast-if1 c = omega arith
 add-t12 : tie.Need-add-t12 Inv-loop μ-loop
 add-t12 c = omega (arith, twice (c .before .before .before .before .loop .inv))
 
+same-length : tie.Need-same-length Inv-loop μ-loop
+same-length c = c .before .before .before .before .loop .inv .long ∙ sym (c .before .before .before .before .before .before .before .pre .1)
+
 returns : tie.Need-returns Inv-loop μ-loop
 returns c =
     let k = c .before .before .digit-at in
@@ -57,18 +61,21 @@ returns c =
 add-if2 : tie.Need-add-if2 Inv-loop μ-loop
 add-if2 c = omega (arith, turn c)
 
+same-length-2 : tie.Need-same-length-2 Inv-loop μ-loop
+same-length-2 c = c .before .before .before .before .before .loop .inv .long ∙ sym (c .before .before .before .before .before .before .before .before .pre .1)
+
 returns-2 : tie.Need-returns-2 Inv-loop μ-loop
 returns-2 c =
     let k = c .before .before .before .digit-at in
     let l = c .before .before .before .before .before .loop in
-    let s = c .before .before .before .before .before .before .before .args .s .now in
+    let s = c .before .before .before .before .before .before .before .before .args .s .now in
     sofar-short (l .inv) 9 (k .result) (lit< tt) (k .ensures) (omega (arith, c .before .before .top .ensures)) (omega (arith, length-bytes s))
 
 cast-out : tie.Need-cast-out Inv-loop μ-loop
 cast-out c = omega (arith, turn (c .before))
 
-element-write-out : tie.Need-element-write-out Inv-loop μ-loop
-element-write-out c = omega (arith, turn (c .before))
+slice-write-out : tie.Need-slice-write-out Inv-loop μ-loop
+slice-write-out c = omega (arith, turn (c .before))
 
 add-n : tie.Need-add-n Inv-loop μ-loop
 add-n c = omega (arith, turn (c .before))
@@ -82,11 +89,14 @@ add-b-2 c = omega (arith, turn (c .before))
 mul-if3 : tie.Need-mul-if3 Inv-loop μ-loop
 mul-if3 c = omega (arith, turn (c .before))
 
+same-length-3 : tie.Need-same-length-3 Inv-loop μ-loop
+same-length-3 c = simp length-set (c .before .before .before .before .before .before .loop .inv .long ∙ sym (c .before .before .before .before .before .before .before .before .before .pre .1))
+
 returns-3 : tie.Need-returns-3 Inv-loop μ-loop
 returns-3 c =
     let k = c .before .before .before .before .digit-at in
     let l = c .before .before .before .before .before .before .loop in
-    let s = c .before .before .before .before .before .before .before .before .args .s .now in
+    let s = c .before .before .before .before .before .before .before .before .before .args .s .now in
     sofar-end
     (l .inv)
     9
@@ -105,7 +115,7 @@ loop-again : tie.Need-loop-again Inv-loop μ-loop
 loop-again c =
     let k = c .before .before .before .before .digit-at in
     let l = c .before .before .before .before .before .before .loop in
-    let s = c .before .before .before .before .before .before .before .before .args .s .now in
+    let s = c .before .before .before .before .before .before .before .before .before .args .s .now in
     sofar-on
     (l .inv)
     9
@@ -117,8 +127,11 @@ loop-again c =
     (turn (c .before .before) .room)
     (omega arith)
 
+same-length-4 : tie.Need-same-length-4 Inv-loop μ-loop
+same-length-4 c = c .before .loop .inv .long ∙ sym (c .before .before .before .before .pre .1)
+
 returns-4 : tie.Need-returns-4 Inv-loop μ-loop
-returns-4 c = sofar-out (c .before .loop .inv) (omega (arith, length-bytes (c .before .before .before .args .s .now)))
+returns-4 c = sofar-out (c .before .loop .inv) (omega (arith, length-bytes (c .before .before .before .before .args .s .now)))
 
 pub digits-spec : {M : Type 1} → statement M
 digits-spec =
@@ -133,16 +146,20 @@ digits-spec =
     top-requires
     cast-if1
     add-t12
+    same-length
     returns
     add-if2
+    same-length-2
     returns-2
     cast-out
-    element-write-out
+    slice-write-out
     add-n
     add-b
     add-b-2
     mul-if3
+    same-length-3
     returns-3
     loop-less
     loop-again
+    same-length-4
     returns-4)

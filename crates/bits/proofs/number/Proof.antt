@@ -27,34 +27,46 @@ enum-known-e c = search needs
 enum-known-e-2 : tie.Need-enum-known-e-2
 enum-known-e-2 c = search needs
 
-add-t13 : tie.Need-add-t13
-add-t13 c = search needs
-
-within : (c : tie.After-known-told3) → Within (c .before .e2 .given .0 .0) (2 * c .before .before .before .before .before .args .n - 1)
+within : (c : tie.After-known-told3) → Within (c .before .e2 .given .0 .0) (2 * c .before .before .before .before .before .before .before .before .args .n - 1)
 within c =
-    let a = c .before .before .before .before .before .args in
-    let t = end-within (c .before .before .before .word-digits .ensures) (c .before .e2 .given .1) in
+    let a = c .before .before .before .before .before .before .before .before .args in
+    let t = end-within (c .before .before .before .before .before .word-digits .ensures) (c .before .e2 .given .1) in
     omega (arith, t, length-word (2 * a .n - 1) (a .x))
+
+add-t14 : tie.Need-add-t14
+add-t14 c = search needs
+
+same-length : tie.Need-same-length
+same-length c = search needs
 
 returns : tie.Need-returns
 returns c =
-    let a = c .before .before .before .before .before .before .args in
+    let a = c .before .before .before .before .before .before .before .before .before .args in
     let e = c .before .before .e2 .given in
     let w = within (c .before) in
-    answer-more Nothing (c .before .before .before .before .word-digits .ensures) (e .1)
+    answer-more Nothing (c .before .before .before .before .before .before .word-digits .ensures) (e .1)
     (word-something (a .x) (2 * a .n - 1) (e .0 .0) (w .long) (omega arith))
 
+same-length-2 : tie.Need-same-length-2
+same-length-2 c = search needs
+
 returns-2 : tie.Need-returns-2
-returns-2 c = answer-over Nothing (c .before .before .before .word-digits .ensures) (c .before .p .given .1)
+returns-2 c = answer-over Nothing (c .before .before .before .before .before .word-digits .ensures) (c .before .p .given .1)
+
+same-length-3 : tie.Need-same-length-3
+same-length-3 c = search needs
 
 returns-3 : tie.Need-returns-3
-returns-3 c = answer-short Nothing (c .before .before .before .word-digits .ensures) (c .before .e .given .1)
+returns-3 c = answer-short Nothing (c .before .before .before .before .before .word-digits .ensures) (c .before .e .given .1)
+
+same-length-4 : tie.Need-same-length-4
+same-length-4 c = search needs
 
 returns-4 : tie.Need-returns-4
 returns-4 c =
-    let a = c .before .before .before .before .before .before .args in
+    let a = c .before .before .before .before .before .before .before .before .before .args in
     let e = c .before .before .e2 .given in
-    answer-read Nothing (c .before .before .before .before .word-digits .ensures) (e .1)
+    answer-read Nothing (c .before .before .before .before .before .before .word-digits .ensures) (e .1)
     (word-nothing (a .x) (2 * a .n - 1) (e .0 .0) (omega arith))
 
 pub number-spec : {M : Type 1} → statement M
@@ -67,8 +79,12 @@ number-spec =
     enum-known-p
     enum-known-e
     enum-known-e-2
-    add-t13
+    add-t14
+    same-length
     returns
+    same-length-2
     returns-2
+    same-length-3
     returns-3
+    same-length-4
     returns-4)

@@ -1,9 +1,9 @@
 -- `bits::pack` meets its contract. The loop's invariant is `Packing`. Assumes nothing.
-use Prim.Native.Nat.{ℕ, _-_, _*_, _^_, _%_, _<_, _≤_}
+use Prim.Native.Nat.{_-_, _*_, _^_, _≤_}
 use native.Mathlib.Omega.{arith}
 use lib.Dec.{lit<, lit≤}
 use native.Mathlib.Nat.{mod-lt}
-use lib.ListN.{length, getD, length-set}
+use lib.ListN.{length, length-set}
 use lib.Pow.{mod-mod-pow}
 use Rattle.bits.specs.Packing.{Packing, pack-none, pack-room, pack-byte, pack-on, pack-out, pack-last, pack-done}
 use Rattle.bits.proofs.pack.Statement.{statement}

@@ -22,10 +22,10 @@ enum-known-n c = search needs
 enum-known-n-2 : tie.Need-enum-known-n-2
 enum-known-n-2 c = search needs
 
-within : (c : tie.After-known-told3) → Within (c .before .n2 .given .0 .0) (8 * length (c .before .before .before .before .before .before .args .s .now))
+within : (c : tie.After-known-told3) → Within (c .before .n2 .given .0 .0) (8 * length (c .before .before .before .before .before .before .before .before .before .args .s .now))
 within c =
-    let s = c .before .before .before .before .before .before .args .s .now in
-    let t = end-within (c .before .before .before .digits .ensures) (c .before .n2 .given .1) in
+    let s = c .before .before .before .before .before .before .before .before .before .args .s .now in
+    let t = end-within (c .before .before .before .before .before .digits .ensures) (c .before .n2 .given .1) in
     omega (arith, t, length-bytes s)
 
 mul-if1 : tie.Need-mul-if1
@@ -37,15 +37,18 @@ add-if1 c = omega (arith, within c)
 mul-if1-2 : tie.Need-mul-if1-2
 mul-if1-2 c = search needs
 
-add-t15 : tie.Need-add-t15
-add-t15 c = search needs
+add-t16 : tie.Need-add-t16
+add-t16 c = search needs
+
+same-length : tie.Need-same-length
+same-length c = search needs
 
 returns : tie.Need-returns
 returns c =
-    let s = c .before .before .before .before .before .before .before .args .s .now in
+    let s = c .before .before .before .before .before .before .before .before .before .before .args .s .now in
     let n = c .before .before .n2 .given in
     let w = within (c .before) in
-    answer-more Fill (c .before .before .before .before .digits .ensures) (n .1)
+    answer-more Fill (c .before .before .before .before .before .before .digits .ensures) (n .1)
     (spare-byte s (n .0 .0) (w .some) (w .long) (c .if1 .taken))
 
 sub-last : tie.Need-sub-last
@@ -66,29 +69,41 @@ cast-if2 c = search needs
 shl-if2 : tie.Need-shl-if2
 shl-if2 c = search needs
 
+same-length-2 : tie.Need-same-length-2
+same-length-2 c = search needs
+
 returns-2 : tie.Need-returns-2
 returns-2 c =
-    let s = c .before .before .before .before .before .before .before .before .before .args .s .now in
+    let s = c .before .before .before .before .before .before .before .before .before .before .before .before .args .s .now in
     let n = c .before .before .before .before .n2 .given in
     let w = within (c .before .before .before) in
-    answer-read Fill (c .before .before .before .before .before .before .digits .ensures) (n .1)
+    answer-read Fill (c .before .before .before .before .before .before .before .before .digits .ensures) (n .1)
     (fill-zeros s (n .0 .0) (w .some) (w .long) (c .before .before .if1 .left) (c .if2 .taken))
 
-add-t10 : tie.Need-add-t10
-add-t10 c = omega (arith, within (c .before .before .before))
+add-t11 : tie.Need-add-t11
+add-t11 c = omega (arith, within (c .before .before .before))
+
+same-length-3 : tie.Need-same-length-3
+same-length-3 c = search needs
 
 returns-3 : tie.Need-returns-3
-returns-3 c = answer-over Fill (c .before .before .before .digits .ensures) (c .before .p .given .1)
+returns-3 c = answer-over Fill (c .before .before .before .before .before .digits .ensures) (c .before .p .given .1)
+
+same-length-4 : tie.Need-same-length-4
+same-length-4 c = search needs
 
 returns-4 : tie.Need-returns-4
-returns-4 c = answer-short Fill (c .before .before .before .digits .ensures) (c .before .n .given .1)
+returns-4 c = answer-short Fill (c .before .before .before .before .before .digits .ensures) (c .before .n .given .1)
+
+same-length-5 : tie.Need-same-length-5
+same-length-5 c = search needs
 
 returns-5 : tie.Need-returns-5
 returns-5 c =
-    let s = c .before .before .before .before .before .before .before .before .before .args .s .now in
+    let s = c .before .before .before .before .before .before .before .before .before .before .before .before .args .s .now in
     let n = c .before .before .before .before .n2 .given in
     let w = within (c .before .before .before) in
-    answer-more Fill (c .before .before .before .before .before .before .digits .ensures) (n .1)
+    answer-more Fill (c .before .before .before .before .before .before .before .before .digits .ensures) (n .1)
     (fill-ones s (n .0 .0) (w .some) (w .long) (c .before .before .if1 .left) (c .if2 .left))
 
 pub packed-spec : {M : Type 1} → statement M
@@ -102,7 +117,8 @@ packed-spec =
     mul-if1
     add-if1
     mul-if1-2
-    add-t15
+    add-t16
+    same-length
     returns
     sub-last
     shared-slice-read-last
@@ -110,8 +126,12 @@ packed-spec =
     sub-if2
     cast-if2
     shl-if2
+    same-length-2
     returns-2
-    add-t10
+    add-t11
+    same-length-3
     returns-3
+    same-length-4
     returns-4
+    same-length-5
     returns-5)

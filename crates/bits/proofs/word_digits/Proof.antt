@@ -1,7 +1,9 @@
 -- `bits::word_digits` meets its contract, as `bits::digits` does. Assumes nothing.
-use Prim.Native.Nat.{ℕ, _+_, _-_, _*_, _≤_, _<_}
+use mathlib.Core.Path.{sym, _∙_}
+use Prim.Native.Nat.{ℕ, _+_, _-_, _≤_, _<_}
 use native.Mathlib.Omega.{arith}
 use lib.Dec.{lit<}
+use lib.ListN.{length-set}
 use Rattle.code.specs.Limits.{valence}
 use Rattle.bits.specs.Bits.{word}
 use Rattle.bits.specs.Words.{length-word}
@@ -28,7 +30,7 @@ turn c =
     record { small = omega (arith, c .before .top .ensures, cap-le valence (l .n + 1)); room = omega (arith, twice (l .inv)) }
 
 loop-holds : tie.Need-loop-holds Inv-loop μ-loop
-loop-holds c = sofar-none _ _ _ (c .pre .1)
+loop-holds c = sofar-none _ _ _ (c .before .pre .1)
 
 digit-in-requires : tie.Need-digit-in-requires Inv-loop μ-loop
 digit-in-requires c κs = omega arith
@@ -45,6 +47,9 @@ cast-if1 c = omega arith
 add-t11 : tie.Need-add-t11 Inv-loop μ-loop
 add-t11 c = omega (arith, twice (c .before .before .before .before .loop .inv))
 
+same-length : tie.Need-same-length Inv-loop μ-loop
+same-length c = c .before .before .before .before .loop .inv .long ∙ sym (c .before .before .before .before .before .before .pre .1)
+
 returns : tie.Need-returns Inv-loop μ-loop
 returns c =
     let k = c .before .before .digit-in in
@@ -53,18 +58,21 @@ returns c =
 add-if2 : tie.Need-add-if2 Inv-loop μ-loop
 add-if2 c = omega (arith, turn c)
 
+same-length-2 : tie.Need-same-length-2 Inv-loop μ-loop
+same-length-2 c = c .before .before .before .before .before .loop .inv .long ∙ sym (c .before .before .before .before .before .before .before .pre .1)
+
 returns-2 : tie.Need-returns-2 Inv-loop μ-loop
 returns-2 c =
     let k = c .before .before .before .digit-in in
     let l = c .before .before .before .before .before .loop in
-    let a = c .before .before .before .before .before .before .args in
+    let a = c .before .before .before .before .before .before .before .args in
     sofar-short (l .inv) 9 (k .result) (lit< tt) (near-exact 9 (k .ensures)) (omega (arith, c .before .before .top .ensures)) (omega (arith, length-word (a .len) (a .x)))
 
 cast-out : tie.Need-cast-out Inv-loop μ-loop
 cast-out c = omega (arith, turn (c .before))
 
-element-write-out : tie.Need-element-write-out Inv-loop μ-loop
-element-write-out c = omega (arith, turn (c .before))
+slice-write-out : tie.Need-slice-write-out Inv-loop μ-loop
+slice-write-out c = omega (arith, turn (c .before))
 
 add-n : tie.Need-add-n Inv-loop μ-loop
 add-n c = omega (arith, turn (c .before))
@@ -78,11 +86,14 @@ add-b-2 c = omega (arith, turn (c .before))
 mul-if3 : tie.Need-mul-if3 Inv-loop μ-loop
 mul-if3 c = omega (arith, turn (c .before))
 
+same-length-3 : tie.Need-same-length-3 Inv-loop μ-loop
+same-length-3 c = simp length-set (c .before .before .before .before .before .before .loop .inv .long ∙ sym (c .before .before .before .before .before .before .before .before .pre .1))
+
 returns-3 : tie.Need-returns-3 Inv-loop μ-loop
 returns-3 c =
     let k = c .before .before .before .before .digit-in in
     let l = c .before .before .before .before .before .before .loop in
-    let a = c .before .before .before .before .before .before .before .args in
+    let a = c .before .before .before .before .before .before .before .before .args in
     sofar-end
     (l .inv)
     9
@@ -101,7 +112,7 @@ loop-again : tie.Need-loop-again Inv-loop μ-loop
 loop-again c =
     let k = c .before .before .before .before .digit-in in
     let l = c .before .before .before .before .before .before .loop in
-    let a = c .before .before .before .before .before .before .before .args in
+    let a = c .before .before .before .before .before .before .before .before .args in
     sofar-on
     (l .inv)
     9
@@ -113,8 +124,11 @@ loop-again c =
     (turn (c .before .before) .room)
     (omega arith)
 
+same-length-4 : tie.Need-same-length-4 Inv-loop μ-loop
+same-length-4 c = c .before .loop .inv .long ∙ sym (c .before .before .before .pre .1)
+
 returns-4 : tie.Need-returns-4 Inv-loop μ-loop
-returns-4 c = sofar-out (c .before .loop .inv) (omega (arith, length-word (c .before .before .args .len) (c .before .before .args .x)))
+returns-4 c = sofar-out (c .before .loop .inv) (omega (arith, length-word (c .before .before .before .args .len) (c .before .before .before .args .x)))
 
 pub word-digits-spec : {M : Type 1} → statement M
 word-digits-spec =
@@ -128,16 +142,20 @@ word-digits-spec =
     top-requires
     cast-if1
     add-t11
+    same-length
     returns
     add-if2
+    same-length-2
     returns-2
     cast-out
-    element-write-out
+    slice-write-out
     add-n
     add-b
     add-b-2
     mul-if3
+    same-length-3
     returns-3
     loop-less
     loop-again
+    same-length-4
     returns-4)

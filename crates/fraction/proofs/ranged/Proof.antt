@@ -1,6 +1,5 @@
 -- `fraction::ranged` meets its contract, by `Range`. Assumes nothing.
 use mathlib.Core.Path.{sym, subst}
-use native.Mathlib.Omega.{arith}
 use lib.Dec.{T}
 use lib.Ieee.{binary64, fits}
 use Rattle.fraction.specs.Range.{refused-outside, passed-inside, outside-nan, no-nan, outside-sign, outside-large, inside}

@@ -9,8 +9,11 @@ draw-requires c κs = search needs
 fraction-requires : tie.Need-fraction-requires
 fraction-requires c κs = search needs
 
+same-length : tie.Need-same-length
+same-length c = search needs
+
 returns : tie.Need-returns
-returns c = let d = c .before .before .draw .ensures in rw (d .first, d .others) at (c .fraction .ensures)
+returns c = let d = c .before .before .before .before .draw .ensures in rw (d .first, d .others) at (c .before .before .fraction .ensures)
 
 pub read-spec : {M : Type 1} → statement M
-read-spec = tie.close (tie.spec draw-requires fraction-requires returns)
+read-spec = tie.close (tie.spec draw-requires fraction-requires same-length returns)

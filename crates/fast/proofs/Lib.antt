@@ -1,0 +1,1 @@
+-- Nothing that more than one proof cites.

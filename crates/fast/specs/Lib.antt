@@ -1,0 +1,13 @@
+-- A centred code told by its digits alone. Assumes nothing.
+pub mod Middle
+pub mod Lift
+pub mod Turn
+pub mod Root
+pub mod Theorems
+pub mod Skip
+pub mod Stack
+pub mod Pieces
+pub mod Race
+pub mod Spot
+pub mod Over
+pub mod Answer

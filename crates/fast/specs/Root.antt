@@ -1,0 +1,152 @@
+-- The test on the digits of a rooted code says whether the root is in the centre with no larger code there (`middle-iff`); and where a
+-- code is the centred one of what it decodes to, the root is such a vertex (`root-iff`). Assumes nothing.
+use mathlib.Core.Path.{_≡_, refl, ap, sym, _∙_, subst, subst₂}
+use mathlib.Core.Logic.{_↔_, _⊎_, inl, inr, ⊎-elim}
+use mathlib.Core.List.{List, [], _∷_, List·Permᴰ, List·Permᴰ·cons}
+use Prim.Native.Nat.{ℕ, zero, suc, max, _+_, _≤_, _<_}
+use native.Mathlib.Decide.{ℕ-discrete, decLt}
+use native.Mathlib.Omega.{arith}
+use lib.ListN.{length}
+use Rattle.laws.specs.Order.{_≽_, Falling}
+use Rattle.laws.specs.Sorting.{refl≽}
+use Rattle.tree.specs.Skeleton.{IsTree, rooted, Renumbering}
+use Rattle.tree.specs.Forest.{Forest, none, tree, Rooted}
+use Rattle.tree.specs.Grow.{rooted-tree}
+use Rattle.tree.specs.Base.{base}
+use Rattle.tree.specs.Decoding.{width, shape}
+use Rattle.tree.specs.Sorted.{sorted, sorted-below, sorted-falling}
+use Rattle.tree.specs.Ordered.{strings, Down, down-branches, sorted-down}
+use Rattle.tree.specs.Theorems.{equal-codes}
+use Rattle.path.specs.Path.{IsCentre}
+use Rattle.path.specs.Heights.{tall}
+use Rattle.path.specs.Balance as Balance
+use Rattle.path.specs.Theorems as Paths
+use Rattle.form.specs.Form.{Centred, centred}
+use Rattle.fast.specs.Middle.{top, peak, second, tops, other, Middle}
+use Rattle.fast.specs.Lift.{Lifted, talls, top-talls, second-below, lift}
+use Rattle.fast.specs.Turn.{Falls, moved, turned-round, code-is, code-more, other-is, heights-whole}
+
+-- r is in the centre, and the code at the centre's other vertex is not larger
+pub record AtCentre (N : ℕ) (E : List ℕ) (r : ℕ) : Type 0 where
+  pub twin : ℕ
+  pub centre : IsCentre N E r twin ⊎ IsCentre N E twin r
+  pub above : rooted N E r ≽ rooted N E twin
+
+module _ (N : ℕ) (E : List ℕ) (t : IsTree N E) where
+  alone : (r : ℕ) → IsCentre N E r r → AtCentre N E r
+  alone r i = record { twin = r; centre = inl i; above = refl≽ (rooted N E r) }
+
+  -- beside r the centre has one vertex
+  one-twin : (r x y : ℕ) → IsCentre N E r x → IsCentre N E r y ⊎ IsCentre N E y r → y ≡ x
+  one-twin r x y i (inl j) = ⊎-elim (λ e. e .1) (λ e. e .1 ∙ e .0) (Paths.one-centre N E t r x r y i j)
+  one-twin r x y i (inr j) = ⊎-elim (λ e. e .0 ∙ e .1) (λ e. e .0) (Paths.one-centre N E t r x y r i j)
+
+  module _ (r : ℕ) (s : Rooted N E r) (o : Falls (s .forest)) where
+    abbrev f : Forest
+    f = s .forest
+
+    abbrev c : List ℕ
+    c = width f ∷ shape f
+
+    -- the test by the forest's heights
+    abbrev Test : Type 0
+    Test = (tall f ≡ second (talls f)) ⊎ ((tall f ≡ suc (second (talls f))) × (c ≽ other c))
+
+    test-is : Middle c ≡ Test
+    test-is = rw (heights-whole f, top-talls f)
+
+    none-at : s .forest ≡ none → AtCentre N E r
+    none-at is = alone r (Balance.no-branch N E t r s is)
+
+    none-test : s .forest ≡ none → Test
+    unfolding tall talls second
+    none-test is = inl (rw is)
+
+    module _ (l : Lifted (s .forest) (peak (talls (s .forest)))) where
+      lifted : (u : Rooted N E r) × (u .forest ≡ tree (l .root) (l .below) (l .others))
+      lifted = moved s r (tree (l .root) (l .below) (l .others)) (List·Permᴰ·cons refl (l .names)) (l .same r)
+
+      twin-code : rooted N E (l .root) ≡ other c
+      twin-code =
+          let (u, is) = lifted in
+          let (v, at) = turned-round u (l .root) (l .below) (l .others) is in
+          let (a, b, z) = l .down (o .1) in
+          code-more v r (l .others) (l .below) at (l .falls (o .0), z) (a, b) ∙ sym (other-is f l)
+
+      two : tall f ≡ suc (second (talls f)) → IsCentre N E r (l .root)
+      two e = let (u, is) = lifted in Balance.two-centre N E t r u (l .root) (l .below) (l .others) is (omega (arith, l .first, l .next))
+
+      there : Test → AtCentre N E r
+      there (inl e) = let (u, is) = lifted in alone r (Balance.one-centre N E t r u (l .root) (l .below) (l .others) is (omega (arith, l .first, l .next)))
+      there (inr (e, h)) = record {
+        twin = l .root;
+        centre = inl (two e);
+        above = subst₂ (λ x y. x ≽ y) (sym (code-is s o)) (sym twin-code) h;
+      }
+
+      back : AtCentre N E r → Test
+      back a = step (ℕ-discrete (tall f) (second (talls f))) (ℕ-discrete (tall f) (suc (second (talls f))))
+        where
+          low : (tall f ≡ second (talls f) → ⊥) → (tall f ≡ suc (second (talls f)) → ⊥) → ⊥
+          low n m =
+              let (u, is) = lifted in
+              let k : tall (l .others) < tall (l .below) = omega (arith, l .first, l .next, second-below (talls f), top-talls f) in
+              ⊎-elim
+              (λ i. Balance.no-centre N E t r u (l .root) (l .below) (l .others) is k (i .path) (i .longest) .0 (i .first))
+              (λ i. Balance.no-centre N E t r u (l .root) (l .below) (l .others) is k (i .path) (i .longest) .1 (i .second))
+              (a .centre)
+
+          step : Dec (tall f ≡ second (talls f)) → Dec (tall f ≡ suc (second (talls f))) → Test
+          step (yes e) d = inl e
+          step (no n) (yes e) =
+              let q : a .twin ≡ l .root = one-twin r (l .root) (a .twin) (two e) (a .centre) in
+              inr (e, subst₂ (λ x y. x ≽ y) (code-is s o) (ap (rooted N E) q ∙ twin-code) (a .above))
+          step (no n) (no m) = absurd (low n m)
+
+  -- the test on the digits of a rooted code
+  pub middle-iff : (r : ℕ) → 1 ≤ r → r ≤ N → Middle (rooted N E r) ↔ AtCentre N E r
+  middle-iff r h k =
+      let bare : ℕ → Unit {0} = λ v. tt in
+      let u : Rooted N E r = rooted-tree N E r t h k in
+      let s : Rooted N E r = sorted base bare N E r u in
+      let o : Down (s .forest) = sorted-down bare (s .forest) (sorted-below base bare N E r u) in
+      let g : Falling (strings (s .forest)) = rw (down-branches bare (s .forest) o) at (sorted-falling base bare N E r u) in
+      rw (code-is s (g, o), test-is r s (g, o)) (cases r s (g, o) (s .forest) refl)
+    where
+      cases : (r : ℕ) (s : Rooted N E r) (o : Falls (s .forest)) (g : Forest) → s .forest ≡ g → Test r s o ↔ AtCentre N E r
+      cases r s o none is = (λ m. none-at r s o is, λ a. none-test r s o is)
+      cases r s o (tree x d g) is =
+          let l : Lifted (s .forest) (peak (talls (s .forest))) = lift (s .forest) (some r s x d g is) in
+          (there r s o l, back r s o l)
+        where
+          some : (r : ℕ) (s : Rooted N E r) (x : ℕ) (d g : Forest) → s .forest ≡ tree x d g → 0 < tall (s .forest)
+          some r s x d g is = unfold tall in rw is (omega arith)
+
+  -- a code at a vertex is the centred one exactly when the code at a vertex in the centre is it, with none larger
+  pub centred-at : (r : ℕ) → 1 ≤ r → r ≤ N → AtCentre N E r → centred N E (rooted N E r)
+  centred-at r h k a = ⊎-elim
+      (λ i. record { first = r; second = a .twin; centre = i; either = inl refl; above-first = refl≽ (rooted N E r); above-second = a .above })
+      (λ i. record { first = a .twin; second = r; centre = i; either = inr refl; above-first = a .above; above-second = refl≽ (rooted N E r) })
+      (a .centre)
+
+  pub at-centred : (r : ℕ) → 1 ≤ r → r ≤ N → centred N E (rooted N E r) → AtCentre N E r
+  at-centred r h k m =
+      let (a, b) = Paths.centre-inside N E t (m .first) (m .second) (m .centre) in
+      ⊎-elim
+      (λ e. let (ρ, q) = equal-codes N E (m .first) t (a .0) (a .1) E r t h k .0 (sym e) in record {
+        twin = ρ .to (m .second);
+        centre = inl (subst (λ v. IsCentre N E v (ρ .to (m .second))) q (carried ρ));
+        above = rw (kept ρ (m .second) b) (m .above-second);
+      })
+      (λ e. let (ρ, q) = equal-codes N E (m .second) t (b .0) (b .1) E r t h k .0 (sym e) in record {
+        twin = ρ .to (m .first);
+        centre = inr (subst (λ v. IsCentre N E (ρ .to (m .first)) v) q (carried ρ));
+        above = rw (kept ρ (m .first) a) (m .above-first);
+      })
+      (m .either)
+    where
+      carried : (ρ : Renumbering N E E) → IsCentre N E (ρ .to (m .first)) (ρ .to (m .second))
+      carried ρ = Paths.centre-carried N E t E ρ (m .first) (m .second) (m .centre)
+
+      kept : (ρ : Renumbering N E E) (v : ℕ) → (1 ≤ v) × (v ≤ N) → rooted N E (ρ .to v) ≡ rooted N E v
+      kept ρ v i = let j = ρ .to-in v (i .0) (i .1) in sym (equal-codes N E v t (i .0) (i .1) E (ρ .to v) t (j .0) (j .1) .1 (ρ, refl))

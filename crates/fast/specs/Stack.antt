@@ -1,0 +1,141 @@
+-- The heights of the trees that digits make, read from the right on a stack that lies at the end of a list. Assumes nothing.
+use mathlib.Core.Path.{_≡_, refl, sym, ap, ap₂, _∙_, subst}
+use mathlib.Core.List.{List, [], _∷_, _++_}
+use Prim.Native.Nat.{ℕ, zero, suc, max, _+_, _-_, _≤_, _<_}
+use native.Mathlib.Numerals.{add-one}
+use native.Mathlib.Omega.{arith}
+use lib.ListN.{length, getD, set, take, drop, length-drop, length-set}
+use lib.Seq.{drop-cons, drop-drop, drop-length, drop-set-lt, getD-set-same}
+use Rattle.laws.specs.Part.{part, part-none, part-cons}
+use Rattle.code.specs.Limits.{size}
+use Rattle.code.specs.Code.{codes}
+use Rattle.code.specs.Ends.{Ends}
+use Rattle.code.specs.Parts.{enough}
+use Rattle.fast.specs.Middle.{top, heights, tops}
+use Rattle.fast.specs.Skip.{codes-few}
+
+pub heights-length : (ds : List ℕ) → length (heights ds) ≡ length (codes ds)
+unfolding heights codes
+heights-length [] = refl
+heights-length (k ∷ ds) = ap suc (length-drop k (heights ds) ∙ ap (λ (n : ℕ). n - k) (heights-length ds) ∙ sym (length-drop k (codes ds)))
+
+top-take : (k : ℕ) (l : List ℕ) → top (take k l) ≤ top l
+unfolding top
+top-take zero l = omega arith
+top-take (suc k) [] = omega arith
+top-take (suc k) (h ∷ l) = omega (arith, top-take k l)
+
+top-drop : (k : ℕ) (l : List ℕ) → top (drop k l) ≤ top l
+unfolding top
+top-drop zero l = omega arith
+top-drop (suc k) [] = omega arith
+top-drop (suc k) (h ∷ l) = omega (arith, top-drop k l)
+
+-- no tree is taller than its digits are many
+pub heights-low : (ds : List ℕ) → top (heights ds) ≤ length ds
+unfolding heights top
+heights-low [] = omega arith
+heights-low (k ∷ ds) = omega (arith, top-take k (heights ds), top-drop k (heights ds), heights-low ds)
+
+-- the greatest of a part, from its end on
+pub record Topped (hs : List ℕ) (from to j best : ℕ) : Type 0 where
+  pub after : from ≤ j
+  pub within : j ≤ to
+  pub best-is : best ≡ top (part j to hs)
+
+pub top-start : {hs : List ℕ} {from to : ℕ} → from ≤ to → Topped hs from to to 0
+unfolding top
+top-start {hs} {to = to} h = record { after = h; within = omega arith; best-is = sym (ap top (part-none to hs)) }
+
+module _ {hs : List ℕ} {from to j best : ℕ} (t : Topped hs from to j best) (long : to ≤ length hs) (l : from < j) where
+  greatest : top (part (j - 1) to hs) ≡ max (getD hs (j - 1) 0) best
+  unfolding top
+  greatest =
+      let n : suc (j - 1) ≡ j = omega arith in
+      let w : j ≤ to = t .within in
+      ap top (part-cons (j - 1) to hs 0 (omega arith) (omega arith))
+      ∙ ap (λ (a : ℕ). max (getD hs (j - 1) 0) (top (part a to hs))) n
+      ∙ ap (max (getD hs (j - 1) 0)) (sym (t .best-is))
+
+  pub top-more : best < getD hs (j - 1) 0 → Topped hs from to (j - 1) (getD hs (j - 1) 0)
+  top-more g = record { after = omega arith; within = omega (arith, t .within); best-is = omega (arith, greatest) }
+
+  pub top-same : getD hs (j - 1) 0 ≤ best → Topped hs from to (j - 1) best
+  top-same g = record { after = omega arith; within = omega (arith, t .within); best-is = omega (arith, greatest) }
+
+pub top-last : {hs : List ℕ} {from to j best : ℕ} → Topped hs from to j best → j ≤ from → best ≡ top (part from to hs)
+top-last {hs} {from} {to} {j} t h = let n : j ≡ from = omega (arith, t .after) in t .best-is ∙ ap (λ (a : ℕ). top (part a to hs)) n
+
+-- from digit i on, the heights stand at the end of hs
+pub record Stacked (c hs : List ℕ) (i at : ℕ) : Type 0 where
+  pub some : 1 ≤ i
+  pub within : i ≤ length c
+  pub long : length hs ≡ size
+  pub inside : at ≤ size
+  pub stands : drop at hs ≡ heights (drop i c)
+
+pub stack-start : {c hs : List ℕ} → 1 ≤ length c → length hs ≡ size → Stacked c hs (length c) size
+unfolding heights
+stack-start {c} {hs} h l =
+    let e : drop size hs ≡ [] = ap (λ (n : ℕ). drop n hs) (sym l) ∙ drop-length hs in
+    record { some = h; within = omega arith; long = l; inside = omega arith; stands = e ∙ sym (ap heights (drop-length c)) }
+
+module _ {c hs : List ℕ} {i at : ℕ} (s : Stacked c hs i at) (whole : Ends 1 c) (few : length c ≤ size) (l : 1 < i) where
+  abbrev k : ℕ
+  k = getD c (i - 1) 0
+
+  back : suc (i - 1) ≡ i
+  back = omega arith
+
+  high : length (heights (drop i c)) ≡ size - at
+  high = ap length (sym (s .stands)) ∙ length-drop at hs ∙ ap (λ (n : ℕ). n - at) (s .long)
+
+  count : length (codes (drop i c)) ≡ size - at
+  count = sym (heights-length (drop i c)) ∙ high
+
+  -- the digit's children are there
+  pub stack-enough : at + k ≤ size
+  stack-enough =
+      let e : getD c (i - 1) 0 ≤ length (codes (drop (suc (i - 1)) c)) = enough c whole (i - 1) (omega (arith, s .within)) in
+      let f : getD c (i - 1) 0 ≤ length (codes (drop i c)) = rw back at e in
+      omega (arith, count, s .inside)
+
+  pub stack-room : 1 ≤ at
+  stack-room = omega (arith, count, codes-few (drop i c), length-drop i c, s .within)
+
+  children : part at (at + k) hs ≡ take k (heights (drop i c))
+  children = let n : at + k - at ≡ k = omega arith in ap₂ (λ (a : ℕ) (b : List ℕ). take a b) n (s .stands)
+
+  pub stack-low : top (part at (at + k) hs) ≤ size
+  stack-low =
+      omega (arith, ap top children, top-take k (heights (drop i c)), heights-low (drop i c), length-drop i c)
+
+  pub stack-next : {h : ℕ} → h ≡ top (part at (at + k) hs) → Stacked c (set hs (at + k - 1) (h + 1)) (i - 1) (at + k - 1)
+  unfolding heights
+  stack-next {h} e =
+      let a : ℕ = at + k - 1 in
+      let n : suc a ≡ at + k = omega (arith, stack-room) in
+      let g : a < length hs = omega (arith, s .long, stack-enough, stack-room) in
+      let new : List ℕ = set hs a (h + 1) in
+      let one : drop a new ≡ (h + 1) ∷ drop (suc a) new = drop-cons new a 0 (omega (arith, length-set hs a (h + 1))) ∙ ap (λ (x : ℕ). x ∷ drop (suc a) new) (getD-set-same hs a (h + 1) 0 g) in
+      let two : drop (suc a) new ≡ drop k (heights (drop i c)) =
+      drop-set-lt (suc a) hs a (h + 1) (omega arith) ∙ ap (λ (x : ℕ). drop x hs) n ∙ sym (drop-drop k at hs) ∙ ap (drop k) (s .stands) in
+      let three : heights (drop (i - 1) c) ≡ suc (top (take k (heights (drop i c)))) ∷ drop k (heights (drop i c)) =
+      ap heights (drop-cons c (i - 1) 0 (omega (arith, s .within))) ∙ ap (λ (x : ℕ). suc (top (take k (heights (drop x c)))) ∷ drop k (heights (drop x c))) back in
+      record {
+        some = omega arith;
+        within = omega (arith, s .within);
+        long = length-set hs a (h + 1) ∙ s .long;
+        inside = omega (arith, stack-enough);
+        stands = one ∙ ap₂ (λ (x : ℕ) (y : List ℕ). x ∷ y) (add-one h ∙ ap suc (e ∙ ap top children)) two ∙ sym three;
+      }
+
+-- the heights of the root's branches stand at the end of hs
+pub record Branches (c hs : List ℕ) (from : ℕ) : Type 0 where
+  pub inside : from ≤ length hs
+  pub stand : drop from hs ≡ tops c
+
+pub stack-last : {c hs : List ℕ} {i at : ℕ} → Stacked c hs i at → i ≤ 1 → Branches c hs at
+stack-last {c} {hs} {i} {at} s h =
+    let n : i ≡ 1 = omega (arith, s .some) in
+    record { inside = omega (arith, s .inside, s .long); stand = s .stands ∙ ap (λ (x : ℕ). heights (drop x c)) n }
