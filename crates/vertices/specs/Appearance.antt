@@ -3,11 +3,10 @@
 -- In order: the greatest number; which class a vertex is given; the numbering, places counted from 0; that there is one. The definitions are
 -- in `Numbering`. Assumes nothing.
 use mathlib.Core.Path.{_≡_, refl, sym, ap, _∙_, subst}
-use mathlib.Core.Logic.{_↔_, ite, if-pos, if-neg}
+use mathlib.Core.Logic.{_↔_, ite}
 use mathlib.Core.List.{List, [], _∷_, _++_}
 use Prim.Native.Nat.{ℕ, zero, suc, _+_, _-_, max, _≤_, _<_}
-use native.Mathlib.Numerals.{add-one}
-use native.Mathlib.Decide.{decLt, ℕ-discrete}
+use native.Mathlib.Decide.{decLt}
 use native.Mathlib.Omega.{arith}
 use lib.ListN.{length, getD, length-append, List·getD-append}
 use lib.Seq.{getD-at, ext-getD}
@@ -52,6 +51,26 @@ module _ {R : ℕ → ℕ → Type 0} (R? : (u v : ℕ) → Dec (R u v)) where
           before : (j : ℕ) → j < suc (length l) → R (u + j) v → ⊥
           before zero h r = n (subst (λ (w : ℕ). R w v) (omega arith) r)
           before (suc j) h r = f j (omega arith) (subst (λ (w : ℕ). R w v) (past j) r)
+
+  -- it is at most the next number
+  pub class-most : (v u : ℕ) (l : List ℕ) → classOf R? v (suc (greatest l)) u l ≤ suc (greatest l)
+  class-most v u l = at (finds v (suc (greatest l)) u l)
+    where
+      at : {x : ℕ} → Finds R v (suc (greatest l)) u l x → x ≤ suc (greatest l)
+      at (old j h r) = omega (arith, greatest-above l j)
+      at (none f) = omega arith
+
+  pub numbering-length : (n : ℕ) → length (numbering R? n) ≡ n
+  unfolding numbering
+  numbering-length zero = refl
+  numbering-length (suc n) = omega (arith, length-append (numbering R? n) (classOf R? (suc n) (suc (greatest (numbering R? n))) 1 (numbering R? n) ∷ []), numbering-length n)
+
+  -- there are no more classes than vertices
+  pub numbering-most : (n : ℕ) → greatest (numbering R? n) ≤ n
+  unfolding numbering greatest
+  numbering-most zero = omega arith
+  numbering-most (suc n) =
+      omega (arith, greatest-more (numbering R? n) (classOf R? (suc n) (suc (greatest (numbering R? n))) 1 (numbering R? n)), class-most (suc n) 1 (numbering R? n), numbering-most n)
 
 -- ---- the numbering, places counted from 0
 

@@ -1,7 +1,6 @@
 -- The definitions, run on figures of document 01. Assumes nothing.
 use mathlib.Core.Path.{_≡_, refl}
-use mathlib.Core.List.{List, [], _∷_, flatten}
-use Prim.Native.Nat.{ℕ}
+use mathlib.Core.List.{[], _∷_, flatten}
 use native.Mathlib.Decide.{ℕ-discrete}
 use Rattle.code.specs.Code.{codes}
 use Rattle.vertices.specs.Numbering.{greatest, classOf, numbering}

@@ -2,5 +2,6 @@
 pub mod Numbering
 pub mod Appearance
 pub mod Vertices
+pub mod Search
 pub mod Theorems
 pub mod Examples
