@@ -1,0 +1,113 @@
+-- `skeleton::degrees` meets its contract. The loop's invariant: the edges before p are counted, and 9 applies at no place before p.
+-- Assumes nothing.
+use mathlib.Core.Logic.{inl, inr, ⊎-elim}
+use Prim.Native.Nat.{ℕ, _+_, _-_, _/_, _≤_, _<_}
+use native.Mathlib.Omega.{arith}
+use borrow.Author.Count.{below-more}
+use lib.ListN.{length}
+use Rattle.refusal.specs.Laws.{clear-one, first-place}
+use Rattle.refusal.specs.Table.{passes, fails}
+use Rattle.code.specs.Limits.{valence}
+use Rattle.skeleton.specs.Edges.{row9}
+use Rattle.skeleton.proofs.Tally.{Tally, tally-none, tally-more, tally-at, bump-small}
+use Rattle.skeleton.proofs.degrees.Statement.{statement}
+use Rattle.skeleton.proofs.degrees.Tie as tie
+
+abbrev Inv-loop : tie.InvT-loop
+Inv-loop edges count₀ m p₀ count p = (1 ≤ p) × (p ≤ length edges / 2 + 1) × Tally edges p count × ((q : ℕ) → q < p → row9 valence edges .applies q → ⊥)
+
+abbrev μ-loop : tie.MeasureT-loop
+μ-loop edges count₀ m p₀ count p = length edges / 2 + 1 - p
+
+loop-holds : tie.Need-loop-holds Inv-loop μ-loop
+loop-holds c = (omega arith, omega arith, tally-none _, λ q l a. let n : ⊥ = omega (arith, a .0) in n)
+
+one-requires : tie.Need-one-requires Inv-loop μ-loop
+one-requires c κs = omega arith
+
+other-requires : tie.Need-other-requires Inv-loop μ-loop
+other-requires c κs = omega arith
+
+array-read-if1 : tie.Need-array-read-if1 Inv-loop μ-loop
+array-read-if1 c = omega arith
+
+returns : tie.Need-returns Inv-loop μ-loop
+returns c =
+    let i = c .before .before .before .before .loop .inv in
+    let e = tally-at (i .2) (c .before .before .one .ensures) in
+    fails (first-place ((omega arith, omega arith), inl (omega (arith, e))) (i .3))
+
+array-read-if2 : tie.Need-array-read-if2 Inv-loop μ-loop
+array-read-if2 c = omega arith
+
+returns-2 : tie.Need-returns-2 Inv-loop μ-loop
+returns-2 c =
+    let i = c .before .before .before .before .before .loop .inv in
+    let e = tally-at (i .2) (c .before .before .other .ensures) in
+    fails (first-place ((omega arith, omega arith), inr (omega (arith, e))) (i .3))
+
+array-read-count : tie.Need-array-read-count Inv-loop μ-loop
+array-read-count c = omega arith
+
+add-count : tie.Need-add-count Inv-loop μ-loop
+add-count c = omega arith
+
+array-write-count : tie.Need-array-write-count Inv-loop μ-loop
+array-write-count c = omega arith
+
+array-read-count-2 : tie.Need-array-read-count-2 Inv-loop μ-loop
+array-read-count-2 c = omega arith
+
+add-count-2 : tie.Need-add-count-2 Inv-loop μ-loop
+add-count-2 c =
+    let l = c .before .before .before .before .before .loop in
+    omega (arith, bump-small (l .count) (c .before .before .before .one .result) (c .before .before .other .result) (omega arith))
+
+array-write-count-2 : tie.Need-array-write-count-2 Inv-loop μ-loop
+array-write-count-2 c = omega arith
+
+add-p : tie.Need-add-p Inv-loop μ-loop
+add-p c = omega arith
+
+loop-less : tie.Need-loop-less Inv-loop μ-loop
+loop-less c = omega arith
+
+loop-again : tie.Need-loop-again Inv-loop μ-loop
+loop-again c =
+    let i = c .before .before .before .before .before .loop .inv in
+    let a = c .before .before .before .one .ensures in
+    let b = c .before .before .other .ensures in
+    let e = tally-at (i .2) a in
+    let f = tally-at (i .2) b in (
+      omega arith,
+      omega arith,
+      tally-more _ _ (i .2) (omega arith) a b,
+      below-more _ _ (i .3) (λ h. ⊎-elim (λ k. let n : ⊥ = omega (arith, e) in n) (λ k. let n : ⊥ = omega (arith, f) in n) (h .1)),
+    )
+
+returns-3 : tie.Need-returns-3 Inv-loop μ-loop
+returns-3 c = passes (clear-one (λ q a. c .before .loop .inv .3 q (omega (arith, a .0)) a))
+
+pub degrees-spec : {M : Type 1} → statement M
+degrees-spec =
+    tie.close
+    (tie.spec
+    Inv-loop
+    μ-loop
+    loop-holds
+    one-requires
+    other-requires
+    array-read-if1
+    returns
+    array-read-if2
+    returns-2
+    array-read-count
+    add-count
+    array-write-count
+    array-read-count-2
+    add-count-2
+    array-write-count-2
+    add-p
+    loop-less
+    loop-again
+    returns-3)
