@@ -1,0 +1,6 @@
+-- CAM, 0A and A0: a skeleton by the neighbours that its vertices have among the lower numbers. Assumes nothing.
+pub mod Mixed
+pub mod Adjacency
+pub mod Examples
+pub mod Lower
+pub mod Entries

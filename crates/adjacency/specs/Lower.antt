@@ -1,0 +1,74 @@
+-- Lower neighbours, one edge at a time: from the front of a list, and behind the edges before p. Assumes nothing.
+use mathlib.Core.Path.{_≡_, refl, ap, _∙_}
+use mathlib.Core.Logic.{ite}
+use mathlib.Core.List.{List, [], _∷_, _++_, filter, filter-append}
+use Prim.Native.Nat.{ℕ, zero, suc, _+_, _*_, _≤_, _<_}
+use native.Mathlib.Decide.{ℕ-discrete, decLt}
+use native.Mathlib.Omega.{arith}
+use lib.ListN.{length}
+use Rattle.tree.specs.Skeleton.{arcs, neighbours}
+use Rattle.skeleton.specs.Edges.{Edge, one, other, before}
+use Rattle.skeleton.specs.Prefix.{arcs-more, arcs-all, arcs-none, neighbours-hit, neighbours-miss, neighbours-nil, neighbours-append}
+use Rattle.adjacency.specs.Adjacency.{lower}
+
+-- those of l that are below v
+abbrev under : ℕ → List ℕ → List ℕ
+under v l = filter {p = λ w. w < v} (λ w. decLt w v) l
+
+under-hit : (v w : ℕ) (l : List ℕ) → w < v → under v (w ∷ l) ≡ w ∷ under v l
+under-hit v w l h = step (decLt w v)
+  where
+    step : (d : Dec (w < v)) → ite {C = List ℕ} d (w ∷ under v l) (under v l) ≡ w ∷ under v l
+    step (yes k) = refl
+    step (no n) = absurd (n h)
+
+under-miss : (v w : ℕ) (l : List ℕ) → v ≤ w → under v (w ∷ l) ≡ under v l
+under-miss v w l h = step (decLt w v)
+  where
+    step : (d : Dec (w < v)) → ite {C = List ℕ} d (w ∷ under v l) (under v l) ≡ under v l
+    step (yes k) = absurd (let n : ⊥ = omega arith in n)
+    step (no n) = refl
+
+pub lower-nil : (v : ℕ) → lower [] v ≡ []
+unfolding lower arcs
+lower-nil v = rw (neighbours-nil v)
+
+-- ---- an edge in front
+
+-- an edge from a lower vertex to v
+pub lower-one : (a v : ℕ) (E : List ℕ) → a < v → lower (a ∷ v ∷ E) v ≡ a ∷ lower E v
+unfolding lower arcs
+lower-one a v E h =
+    rw (neighbours-miss a v v ((v, a) ∷ arcs E) (λ e. let n : ⊥ = omega arith in n), neighbours-hit v a v (arcs E) refl) (under-hit v a (neighbours (arcs E) v) h)
+
+-- an edge from v to a lower vertex
+pub lower-other : (v b : ℕ) (E : List ℕ) → b < v → lower (v ∷ b ∷ E) v ≡ b ∷ lower E v
+unfolding lower arcs
+lower-other v b E h =
+    rw (neighbours-hit v b v ((b, v) ∷ arcs E) refl, neighbours-miss b v v (arcs E) (λ e. let n : ⊥ = omega arith in n)) (under-hit v b (neighbours (arcs E) v) h)
+
+-- any other edge
+pub lower-pass : (a b v : ℕ) (E : List ℕ) → (a ≡ v → v ≤ b) → (b ≡ v → v ≤ a) → lower (a ∷ b ∷ E) v ≡ lower E v
+unfolding lower arcs
+lower-pass a b v E p q = first (ℕ-discrete a v)
+  where
+    second : Dec (b ≡ v) → under v (neighbours ((b, a) ∷ arcs E) v) ≡ under v (neighbours (arcs E) v)
+    second (yes e) = rw (neighbours-hit b a v (arcs E) e) (under-miss v a (neighbours (arcs E) v) (q e))
+    second (no n) = rw (neighbours-miss b a v (arcs E) n)
+    first : Dec (a ≡ v) → under v (neighbours ((a, b) ∷ (b, a) ∷ arcs E) v) ≡ under v (neighbours (arcs E) v)
+    first (yes e) = rw (neighbours-hit a b v ((b, a) ∷ arcs E) e) (under-miss v b (neighbours ((b, a) ∷ arcs E) v) (p e) ∙ second (ℕ-discrete b v))
+    first (no n) = rw (neighbours-miss a b v ((b, a) ∷ arcs E) n) (second (ℕ-discrete b v))
+
+-- ---- the edges before p
+
+pub lower-none : (E : List ℕ) (v : ℕ) → lower (before E 1) v ≡ []
+unfolding lower
+lower-none E v = rw (arcs-none E, neighbours-nil v)
+
+pub lower-more : (E : List ℕ) (p v : ℕ) → Edge E p → lower (before E (p + 1)) v ≡ lower (before E p) v ++ lower (one E p ∷ other E p ∷ []) v
+unfolding lower arcs
+lower-more E p v h = rw (arcs-more E p h, neighbours-append) (filter-append (λ w. decLt w v) (neighbours (arcs (before E p)) v) _)
+
+pub lower-all : (E : List ℕ) (p v : ℕ) → length E < 2 * p → lower (before E p) v ≡ lower E v
+unfolding lower
+lower-all E p v h = rw (arcs-all E p h)
