@@ -4,3 +4,6 @@ pub mod Adjacency
 pub mod Examples
 pub mod Lower
 pub mod Entries
+pub mod Columns
+pub mod Plain
+pub mod Zero

@@ -55,6 +55,7 @@ lower-pass a b v E p q = first (ℕ-discrete a v)
     second : Dec (b ≡ v) → under v (neighbours ((b, a) ∷ arcs E) v) ≡ under v (neighbours (arcs E) v)
     second (yes e) = rw (neighbours-hit b a v (arcs E) e) (under-miss v a (neighbours (arcs E) v) (q e))
     second (no n) = rw (neighbours-miss b a v (arcs E) n)
+
     first : Dec (a ≡ v) → under v (neighbours ((a, b) ∷ (b, a) ∷ arcs E) v) ≡ under v (neighbours (arcs E) v)
     first (yes e) = rw (neighbours-hit a b v ((b, a) ∷ arcs E) e) (under-miss v b (neighbours ((b, a) ∷ arcs E) v) (p e) ∙ second (ℕ-discrete b v))
     first (no n) = rw (neighbours-miss a b v ((b, a) ∷ arcs E) n) (second (ℕ-discrete b v))

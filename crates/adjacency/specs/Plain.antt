@@ -1,0 +1,38 @@
+-- A skeleton's edge list: the ends of an edge differ and are from 1 to N. Assumes nothing.
+use mathlib.Core.Path.{_≡_}
+use mathlib.Core.Logic.{inl, inr}
+use mathlib.Core.List.{List, [], _∷_}
+use Prim.Native.Nat.{ℕ, suc, _+_, _-_, _*_, _≤_, _<_}
+use native.Mathlib.Omega.{arith}
+use Rattle.refusal.specs.Table.{Clear, Outside}
+use Rattle.refusal.specs.Laws.{never, others}
+use Rattle.tree.specs.Skeleton.{IsSkeleton}
+use Rattle.skeleton.specs.Edges.{Edge, one, other, edgeRows}
+use Rattle.skeleton.specs.Theorems.{accepted}
+use Rattle.adjacency.specs.Columns.{Plain, none, odd, more}
+
+-- what 6 and 7 leave of an edge
+abbrev Fair : ℕ → List ℕ → ℕ → Type 0
+Fair N E p = (Outside N (one E p) → ⊥) × (Outside N (other E p) → ⊥) × (one E p ≡ other E p → ⊥)
+
+within : (N v : ℕ) → (Outside N v → ⊥) → (1 ≤ v) × (v ≤ N)
+within N v h = let low : v ≡ 0 → ⊥ = λ e. h (inl e) in let high : N < v → ⊥ = λ l. h (inr l) in (omega arith, omega arith)
+
+plain-from : (N : ℕ) (E : List ℕ) → ((p : ℕ) → Edge E p → Fair N E p) → Plain N E
+plain-from N [] h = none
+plain-from N (a ∷ []) h = odd
+plain-from N (a ∷ b ∷ E) h =
+    let f = h 1 (omega arith) in
+    more (within N a (f .0)) (within N b (f .1)) (f .2) (plain-from N E (λ p k. next p k (h (suc p) (omega (arith, k .0, k .1)))))
+  where
+    next : (p : ℕ) → Edge E p → Fair N (a ∷ b ∷ E) (suc p) → Fair N E p
+    next p k f =
+        let e : 2 * (suc p - 1) ≡ suc (suc (2 * (p - 1))) = omega (arith, k .0) in
+        let g : 2 * (suc p - 1) + 1 ≡ suc (suc (2 * (p - 1) + 1)) = omega (arith, k .0) in
+        rw (g, e) at f
+
+pub plain : {most R N : ℕ} {E : List ℕ} → IsSkeleton most R N E → Plain N E
+plain {most} {R} {N} {E} s =
+    let c = accepted most R N E 1 .1 (s, (omega arith, omega (arith, s .tree .edges))) in
+    let six = others (others c) in
+    plain-from N E (λ p k. (λ o. never six p (inr (k, inl o)), λ o. never six p (inr (k, inr o)), λ e. never (others six) p (k, e)))
