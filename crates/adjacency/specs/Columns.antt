@@ -13,7 +13,7 @@ use Rattle.laws.specs.Perms.{front}
 use Rattle.tree.specs.Skeleton.{Arc, arcs}
 use Rattle.skeleton.specs.Edges.{Edge, one, other}
 use Rattle.adjacency.specs.Adjacency.{from, lower, Physical, entry, cam, entryEdges, camEdges, tied}
-use Rattle.adjacency.specs.Lower.{lower-nil, lower-one, lower-other, lower-pass}
+use Rattle.adjacency.specs.Lower.{lower-nil, lower-odd, lower-one, lower-other, lower-pass}
 
 -- n columns, that of vertex i + 1 first; f says the rows
 unfoldable pub byColumn : (ℕ → List ℕ) → ℕ → ℕ → List ℕ
@@ -55,10 +55,6 @@ pub data Plain (N : ℕ) : List ℕ → Type 0 where
   none : Plain N []
   odd : {a : ℕ} → Plain N (a ∷ [])
   more : {a b : ℕ} {E : List ℕ} → (1 ≤ a) × (a ≤ N) → (1 ≤ b) × (b ≤ N) → (a ≡ b → ⊥) → Plain N E → Plain N (a ∷ b ∷ E)
-
-lower-odd : (a v : ℕ) → lower (a ∷ []) v ≡ []
-unfolding lower arcs
-lower-odd a v = lower-nil v
 
 pub by-column : {N : ℕ} {E : List ℕ} → Plain N E → List·Permᴰ (arcs E) (arcs (byColumn (lower E) 1 (N - 1)))
 unfolding arcs

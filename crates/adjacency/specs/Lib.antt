@@ -7,3 +7,7 @@ pub mod Entries
 pub mod Columns
 pub mod Plain
 pub mod Zero
+pub mod Made
+pub mod Reorder
+pub mod Coded
+pub mod Theorems

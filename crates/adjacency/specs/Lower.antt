@@ -33,6 +33,10 @@ pub lower-nil : (v : ℕ) → lower [] v ≡ []
 unfolding lower arcs
 lower-nil v = rw (neighbours-nil v)
 
+pub lower-odd : (a v : ℕ) → lower (a ∷ []) v ≡ []
+unfolding lower arcs
+lower-odd a v = lower-nil v
+
 -- ---- an edge in front
 
 -- an edge from a lower vertex to v
