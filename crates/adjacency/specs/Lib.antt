@@ -11,3 +11,4 @@ pub mod Made
 pub mod Reorder
 pub mod Coded
 pub mod Theorems
+pub mod Parts

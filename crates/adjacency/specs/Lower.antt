@@ -2,10 +2,10 @@
 use mathlib.Core.Path.{_≡_, refl, ap, _∙_}
 use mathlib.Core.Logic.{ite}
 use mathlib.Core.List.{List, [], _∷_, _++_, filter, filter-append}
-use Prim.Native.Nat.{ℕ, zero, suc, _+_, _*_, _≤_, _<_}
+use Prim.Native.Nat.{ℕ, zero, suc, _+_, _-_, _*_, _/_, _≤_, _<_}
 use native.Mathlib.Decide.{ℕ-discrete, decLt}
 use native.Mathlib.Omega.{arith}
-use lib.ListN.{length}
+use lib.ListN.{length, length-append}
 use Rattle.tree.specs.Skeleton.{arcs, neighbours}
 use Rattle.skeleton.specs.Edges.{Edge, one, other, before}
 use Rattle.skeleton.specs.Prefix.{arcs-more, arcs-all, arcs-none, neighbours-hit, neighbours-miss, neighbours-nil, neighbours-append}
@@ -77,3 +77,17 @@ lower-more E p v h = rw (arcs-more E p h, neighbours-append) (filter-append (λ 
 pub lower-all : (E : List ℕ) (p v : ℕ) → length E < 2 * p → lower (before E p) v ≡ lower E v
 unfolding lower
 lower-all E p v h = rw (arcs-all E p h)
+
+lower-rises : (E : List ℕ) (p v j : ℕ) → 1 ≤ p → p + j ≤ length E / 2 + 1 → length (lower (before E p) v) ≤ length (lower (before E (p + j)) v)
+lower-rises E p v zero l h = let e : p + 0 ≡ p = omega arith in rw e (omega arith)
+lower-rises E p v (suc j) l h =
+    let e : p + suc j ≡ p + j + 1 = omega arith in
+    let r = lower-rises E p v j l (omega arith) in
+    let k : Edge E (p + j) = omega arith in
+    rw (e, lower-more E (p + j) v k, length-append) (omega arith)
+
+-- the edges before p count at most what all do
+pub lower-within : (E : List ℕ) (p v : ℕ) → 1 ≤ p → p ≤ length E / 2 + 1 → length (lower (before E p) v) ≤ length (lower E v)
+lower-within E p v l h =
+    let e : p + (length E / 2 + 1 - p) ≡ length E / 2 + 1 = omega arith in
+    rw (e, lower-all E (length E / 2 + 1) v (omega arith)) at (lower-rises E p v (length E / 2 + 1 - p) l (omega arith))

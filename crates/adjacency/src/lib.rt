@@ -1,1 +1,130 @@
-// CAM, 0A and A0.
+// CAM, 0A and A0: a skeleton by the neighbours that its vertices have among the lower numbers.
+//
+// What a call lends, and 15, are not looked at here. An edge list that is coded has been accepted by `skeleton::check`.
+use refusal::Check;
+ghost use mathlib.Core.Path.{_≡_};
+ghost use mathlib.Core.List.{List, [], _∷_};
+ghost use Prim.Native.Nat.{ℕ, _+_, _-_, _*_, _≤_, _<_};
+ghost use lib.ListN.{length};
+ghost use Rattle.laws.specs.Laid.{laidOver};
+ghost use Rattle.refusal.specs.Table.{Answers, Clear, row3};
+ghost use Rattle.code.specs.Limits.{size, valence};
+ghost use Rattle.adjacency.specs.Adjacency.{Physical, row14, cam, camEdges, zeroA, factorial, zeroCam, zeroMost, row4, row5-cam, row6-cam, madeRows, camRows, zeroRows};
+ghost use Rattle.adjacency.specs.Entries.{Entries};
+ghost use Rattle.adjacency.specs.Made.{camFront};
+ghost use Rattle.adjacency.specs.Parts.{Numbered, Gives, Only};
+
+// The lower neighbour that the edge from a to b gives to v, or 0.
+fn down(a: usize, b: usize, v: usize) -> usize
+    requires { ⌜ (1 ≤ a) × (1 ≤ b) ⌝ }
+    ensures { λ r. ⌜ Gives a b v r ⌝ }
+{
+    if a == v {
+        if b < v {
+            return b;
+        }
+        return 0;
+    }
+    if b == v {
+        if a < v {
+            return a;
+        }
+    }
+    0
+}
+
+// The only lower neighbour of v, or 0.
+fn only(edges: &[u8], v: usize) -> usize
+    requires { ⌜ Numbered (now edges) ⌝ }
+    ensures { λ r. ⌜ Only (now (edges .entry)) v r ⌝ }
+{
+    let m = edges.len() / 2;
+    let mut w: usize = 0;
+    let mut p: usize = 1;
+    while p <= m {
+        let u = down(skeleton::one(edges, p), skeleton::other(edges, p), v);
+        p += 1;
+        if u != 0 {
+            if w != 0 {
+                return 0;
+            }
+            w = u;
+        }
+    }
+    w
+}
+
+// 14: the numbering is physical.
+pub fn physical(n: usize, edges: &[u8]) -> Check
+    requires { ⌜ Numbered (now edges) × (n ≤ size) ⌝ }
+    ensures { λ r. ⌜ Answers (row14 n (now (edges .entry)) ∷ []) r ⌝ }
+{
+    let mut v: usize = 2;
+    while v <= n {
+        if only(edges, v) == 0 {
+            return Check::Refuse(14, v);
+        }
+        v += 1;
+    }
+    Check::Passed
+}
+
+// The CAM of a physical numbering.
+pub fn write_cam(n: usize, edges: &[u8], out: &mut [u8])
+    requires { ⌜ Numbered (now edges) × Physical n (now edges) ⌝ }
+    requires { ⌜ (n ≤ size) × (n ≤ length (now out) + 1) ⌝ }
+    ensures { λ _. ⌜ now (out .exit) ≡ laidOver (cam n (now (edges .entry))) (now (out .entry)) ⌝ }
+{
+    let mut i: usize = 1;
+    while i < n {
+        out[i - 1] = only(edges, i + 1) as u8;
+        i += 1;
+    }
+}
+
+// 3 and 5 of a CAM.
+fn cam_sizes(n: usize, cam: &[u8]) -> Check
+    ensures { λ r. ⌜ Answers (row3 size n ∷ row5-cam n (now (cam .entry)) ∷ []) r ⌝ }
+{
+    if n == 0 {
+        return Check::Refuse(3, 0);
+    }
+    if 64 < n {
+        return Check::Refuse(3, 0);
+    }
+    if cam.len() != n - 1 {
+        return Check::Refuse(5, 0);
+    }
+    Check::Passed
+}
+
+// 6 of a CAM.
+fn cam_entries(cam: &[u8]) -> Check
+    ensures { λ r. ⌜ Answers (row6-cam (now (cam .entry)) ∷ []) r ⌝ }
+{
+    let mut i: usize = 1;
+    while i <= cam.len() {
+        let x = cam[i - 1] as usize;
+        if x == 0 {
+            return Check::Refuse(6, i);
+        }
+        if i < x {
+            return Check::Refuse(6, i);
+        }
+        i += 1;
+    }
+    Check::Passed
+}
+
+// The edges that a CAM makes.
+pub fn cam_edges(cam: &[u8], out: &mut [u8])
+    requires { ⌜ (length (now cam) < size) × (2 * length (now cam) ≤ length (now out)) ⌝ }
+    ensures { λ _. ⌜ now (out .exit) ≡ laidOver (camEdges (now (cam .entry))) (now (out .entry)) ⌝ }
+{
+    let mut i: usize = 0;
+    while i < cam.len() {
+        out[2 * i] = cam[i];
+        out[2 * i + 1] = (i + 2) as u8;
+        i += 1;
+    }
+}

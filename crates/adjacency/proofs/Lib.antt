@@ -1,0 +1,4 @@
+-- Laws that the proofs of several functions cite. Assumes nothing.
+mod Search
+mod Writing
+mod Sizes
