@@ -2,3 +2,5 @@
 mod Search
 mod Writing
 mod Sizes
+mod Mixing
+mod Behind

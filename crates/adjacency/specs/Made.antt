@@ -109,3 +109,6 @@ cam-accepted most R N c = (there, back)
         let m = clear-right (edgeFront most N (camEdges c)) (madeRows R (camEdges c)) k in
         let three = clear-left (row3 most N ∷ []) _ k in
         clear-both (clear-both three (clear-both (clear-one (λ p a. a .1 (h .0))) (entries-clear (h .1)))) m
+
+pub few : {most : ℕ} (N : ℕ) (c : List ℕ) → Clear (camFront most N c) → length c < most
+few N c k = omega (arith, long N c k, at-least k, at-most k)

@@ -128,3 +128,97 @@ pub fn cam_edges(cam: &[u8], out: &mut [u8])
         i += 1;
     }
 }
+
+// 7, 8 and 9 of the edges that a CAM makes, behind its 3, 5 and 6.
+fn made(n: usize, cam: &[u8]) -> Check
+    requires { ⌜ Clear (camFront size n (now cam)) ⌝ }
+    ensures { λ r. ⌜ Answers (madeRows valence (camEdges (now (cam .entry)))) r ⌝ }
+{
+    let mut edges = [0u8; 126];
+    let m = 2 * cam.len();
+    cam_edges(cam, &mut edges[..m]);
+    skeleton::check(64, n, &edges[..m], 1)
+}
+
+// Every refusal of a CAM.
+pub fn cam_check(n: usize, cam: &[u8]) -> Check
+    ensures { λ r. ⌜ Answers (camRows size valence n (now (cam .entry))) r ⌝ }
+{
+    if let Check::Refuse(k, p) = cam_sizes(n, cam) {
+        return Check::Refuse(k, p);
+    }
+    if let Check::Refuse(k, p) = cam_entries(cam) {
+        return Check::Refuse(k, p);
+    }
+    made(n, cam)
+}
+
+// The 0A of a CAM.
+pub fn zero_a(cam: &[u8]) -> u64
+    requires { ⌜ Entries 1 (now cam) × (length (now cam) < zeroMost) ⌝ }
+    ensures { λ r. ⌜ r ≡ zeroA (now (cam .entry)) ⌝ }
+{
+    let mut x: u64 = 0;
+    let mut i: usize = 1;
+    while i < cam.len() {
+        x = x * (i as u64 + 1) + (cam[i] as u64 - 1);
+        i += 1;
+    }
+    x
+}
+
+fn factorial(k: usize) -> u64
+    requires { ⌜ k < zeroMost ⌝ }
+    ensures { λ r. ⌜ r ≡ factorial k ⌝ }
+{
+    let mut f: u64 = 1;
+    let mut i: usize = 0;
+    while i < k {
+        i += 1;
+        f = i as u64 * f;
+    }
+    f
+}
+
+// The CAM of a 0A. What is left of x holds the entries before i; entry i is a digit in the base i.
+pub fn zero_cam(n: usize, x: u64, out: &mut [u8])
+    requires { ⌜ (1 ≤ n) × (n ≤ zeroMost) × (n ≤ length (now out) + 1) ⌝ }
+    ensures { λ _. ⌜ now (out .exit) ≡ laidOver (zeroCam n x) (now (out .entry)) ⌝ }
+{
+    let mut v = x;
+    let mut i: usize = n;
+    while 1 < i {
+        i -= 1;
+        let b = i as u64;
+        out[i - 1] = (v % b) as u8 + 1;
+        v /= b;
+    }
+}
+
+// 3 and 4 of a 0A.
+fn zero_sizes(n: usize, x: u64) -> Check
+    ensures { λ r. ⌜ Answers (row3 zeroMost n ∷ row4 (factorial (n - 1)) x ∷ []) r ⌝ }
+{
+    if n == 0 {
+        return Check::Refuse(3, 0);
+    }
+    if 21 < n {
+        return Check::Refuse(3, 0);
+    }
+    if factorial(n - 1) <= x {
+        return Check::Refuse(4, 0);
+    }
+    Check::Passed
+}
+
+// Every refusal of a 0A.
+pub fn zero_check(n: usize, x: u64) -> Check
+    ensures { λ r. ⌜ Answers (zeroRows zeroMost valence n x) r ⌝ }
+{
+    if let Check::Refuse(k, p) = zero_sizes(n, x) {
+        return Check::Refuse(k, p);
+    }
+    let mut cam = [0u8; 20];
+    zero_cam(n, x, &mut cam[..n - 1]);
+    made(n, &cam[..n - 1])
+}
