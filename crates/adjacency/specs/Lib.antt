@@ -12,3 +12,6 @@ pub mod Reorder
 pub mod Coded
 pub mod Theorems
 pub mod Parts
+pub mod Ascend
+pub mod Sorted
+pub mod Apart

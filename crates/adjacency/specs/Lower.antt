@@ -1,12 +1,12 @@
 -- Lower neighbours, one edge at a time: from the front of a list, and behind the edges before p. Assumes nothing.
-use mathlib.Core.Path.{_≡_, refl, ap, _∙_}
-use mathlib.Core.Logic.{ite}
-use mathlib.Core.List.{List, [], _∷_, _++_, filter, filter-append}
+use mathlib.Core.Path.{_≡_, refl, ap, ap₂, sym, _∙_}
+use mathlib.Core.Logic.{ite, ⊎-elim}
+use mathlib.Core.List.{List, [], _∷_, _++_, filter, filter-append, List·Memᴰ, List·Memᴰ·head, List·Memᴰ·tail, List·Memᴰ·not-nil, List·Memᴰ·cases-cons}
 use Prim.Native.Nat.{ℕ, zero, suc, _+_, _-_, _*_, _/_, _≤_, _<_}
 use native.Mathlib.Decide.{ℕ-discrete, decLt}
 use native.Mathlib.Omega.{arith}
 use lib.ListN.{length, length-append}
-use Rattle.tree.specs.Skeleton.{arcs, neighbours}
+use Rattle.tree.specs.Skeleton.{Arc, arcs, neighbours}
 use Rattle.skeleton.specs.Edges.{Edge, one, other, before}
 use Rattle.skeleton.specs.Prefix.{arcs-more, arcs-all, arcs-none, neighbours-hit, neighbours-miss, neighbours-nil, neighbours-append}
 use Rattle.adjacency.specs.Adjacency.{lower}
@@ -63,6 +63,28 @@ lower-pass a b v E p q = first (ℕ-discrete a v)
     first : Dec (a ≡ v) → under v (neighbours ((a, b) ∷ (b, a) ∷ arcs E) v) ≡ under v (neighbours (arcs E) v)
     first (yes e) = rw (neighbours-hit a b v ((b, a) ∷ arcs E) e) (under-miss v b (neighbours ((b, a) ∷ arcs E) v) (p e) ∙ second (ℕ-discrete b v))
     first (no n) = rw (neighbours-miss a b v ((b, a) ∷ arcs E) n) (second (ℕ-discrete b v))
+
+-- a lower neighbour is a neighbour
+neighbour-arc : (A : List Arc) (v w : ℕ) → List·Memᴰ w (neighbours A v) → List·Memᴰ (v, w) A
+neighbour-arc [] v w m = absurd (List·Memᴰ·not-nil (rw (neighbours-nil v) at m))
+neighbour-arc (x ∷ A) v w m = step (ℕ-discrete (x .0) v) (neighbour-arc A v w)
+  where
+    step : Dec (x .0 ≡ v) → (List·Memᴰ w (neighbours A v) → List·Memᴰ (v, w) A) → List·Memᴰ (v, w) (x ∷ A)
+    step (yes e) rest =
+        ⊎-elim (λ z. List·Memᴰ·head (ap₂ (λ a b. (a, b)) (sym e) z)) (λ t. List·Memᴰ·tail (rest t)) (List·Memᴰ·cases-cons (rw (neighbours-hit (x .0) (x .1) v A e) at m))
+    step (no n) rest = List·Memᴰ·tail (rest (rw (neighbours-miss (x .0) (x .1) v A n) at m))
+
+under-in : (v w : ℕ) (l : List ℕ) → List·Memᴰ w (under v l) → List·Memᴰ w l
+under-in v w [] m = m
+under-in v w (x ∷ l) m = step (decLt x v) (under-in v w l)
+  where
+    step : Dec (x < v) → (List·Memᴰ w (under v l) → List·Memᴰ w l) → List·Memᴰ w (x ∷ l)
+    step (yes h) rest = ⊎-elim (λ z. List·Memᴰ·head z) (λ t. List·Memᴰ·tail (rest t)) (List·Memᴰ·cases-cons (rw (under-hit v x l h) at m))
+    step (no h) rest = List·Memᴰ·tail (rest (rw (under-miss v x l (omega arith)) at m))
+
+pub lower-arc : (E : List ℕ) (v w : ℕ) → List·Memᴰ w (lower E v) → List·Memᴰ (v, w) (arcs E)
+unfolding lower
+lower-arc E v w m = neighbour-arc (arcs E) v w (under-in v w (neighbours (arcs E) v) m)
 
 -- ---- the edges before p
 

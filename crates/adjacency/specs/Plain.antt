@@ -18,6 +18,13 @@ Fair N E p = (Outside N (one E p) → ⊥) × (Outside N (other E p) → ⊥) ×
 within : (N v : ℕ) → (Outside N v → ⊥) → (1 ≤ v) × (v ≤ N)
 within N v h = let low : v ≡ 0 → ⊥ = λ e. h (inl e) in let high : N < v → ⊥ = λ l. h (inr l) in (omega arith, omega arith)
 
+-- an edge in a list that has one more in front
+pub next-one : (p : ℕ) → 1 ≤ p → 2 * (suc p - 1) ≡ suc (suc (2 * (p - 1)))
+next-one p h = omega arith
+
+pub next-other : (p : ℕ) → 1 ≤ p → 2 * (suc p - 1) + 1 ≡ suc (suc (2 * (p - 1) + 1))
+next-other p h = omega arith
+
 plain-from : (N : ℕ) (E : List ℕ) → ((p : ℕ) → Edge E p → Fair N E p) → Plain N E
 plain-from N [] h = none
 plain-from N (a ∷ []) h = odd
@@ -26,10 +33,7 @@ plain-from N (a ∷ b ∷ E) h =
     more (within N a (f .0)) (within N b (f .1)) (f .2) (plain-from N E (λ p k. next p k (h (suc p) (omega (arith, k .0, k .1)))))
   where
     next : (p : ℕ) → Edge E p → Fair N (a ∷ b ∷ E) (suc p) → Fair N E p
-    next p k f =
-        let e : 2 * (suc p - 1) ≡ suc (suc (2 * (p - 1))) = omega (arith, k .0) in
-        let g : 2 * (suc p - 1) + 1 ≡ suc (suc (2 * (p - 1) + 1)) = omega (arith, k .0) in
-        rw (g, e) at f
+    next p k f = rw (next-other p (k .0), next-one p (k .0)) at f
 
 pub plain : {most R N : ℕ} {E : List ℕ} → IsSkeleton most R N E → Plain N E
 plain {most} {R} {N} {E} s =
