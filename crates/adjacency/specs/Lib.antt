@@ -15,3 +15,6 @@ pub mod Parts
 pub mod Ascend
 pub mod Sorted
 pub mod Apart
+pub mod Power
+pub mod Taken
+pub mod TheoremsA

@@ -2,7 +2,7 @@
 use mathlib.Core.Path.{_≡_}
 use mathlib.Core.Logic.{inl, inr}
 use mathlib.Core.List.{List, [], _∷_}
-use Prim.Native.Nat.{ℕ, suc, _+_, _-_, _*_, _≤_, _<_}
+use Prim.Native.Nat.{ℕ, zero, suc, _+_, _-_, _*_, _≤_, _<_}
 use native.Mathlib.Omega.{arith}
 use Rattle.refusal.specs.Table.{Clear, Outside}
 use Rattle.refusal.specs.Laws.{never, others}
@@ -10,6 +10,7 @@ use Rattle.tree.specs.Skeleton.{IsSkeleton}
 use Rattle.skeleton.specs.Edges.{Edge, one, other, edgeRows}
 use Rattle.skeleton.specs.Theorems.{accepted}
 use Rattle.adjacency.specs.Columns.{Plain, none, odd, more}
+use Rattle.adjacency.specs.Parts.{Numbered}
 
 -- what 6 and 7 leave of an edge
 abbrev Fair : ℕ → List ℕ → ℕ → Type 0
@@ -40,3 +41,17 @@ plain {most} {R} {N} {E} s =
     let c = accepted most R N E 1 .1 (s, (omega arith, omega (arith, s .tree .edges))) in
     let six = others (others c) in
     plain-from N E (λ p k. (λ o. never six p (inr (k, inl o)), λ o. never six p (inr (k, inr o)), λ e. never (others six) p (k, e)))
+
+-- the ends of edge p
+pub plain-at : {N : ℕ} {E : List ℕ} → Plain N E → (p : ℕ) → Edge E p → ((1 ≤ one E p) × (one E p ≤ N)) × ((1 ≤ other E p) × (other E p ≤ N))
+plain-at none p h = absurd (let n : ⊥ = omega (arith, h .0, h .1) in n)
+plain-at odd p h = absurd (let n : ⊥ = omega (arith, h .0, h .1) in n)
+plain-at (more a b d k) zero h = absurd (let n : ⊥ = omega (arith, h .0) in n)
+plain-at (more a b d k) (suc zero) h = (a, b)
+plain-at (more a b d k) (suc (suc p)) h =
+    let l : 1 ≤ suc p = omega arith in
+    rw (next-other (suc p) l, next-one (suc p) l) (plain-at k (suc p) (omega (arith, h .1)))
+
+-- so the ends are from 1 up
+pub numbered : {most R N : ℕ} {E : List ℕ} → IsSkeleton most R N E → Numbered E
+numbered s = record { ends = λ p h. let r = plain-at (plain s) p h in (r .0 .0, r .1 .0) }

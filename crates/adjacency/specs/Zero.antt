@@ -67,11 +67,11 @@ less-suc : (ds : List ℕ) → less (map suc ds) ≡ ds
 less-suc [] = refl
 less-suc (d ∷ ds) = ap₂ (λ y l. y ∷ l) (let e : suc d - 1 ≡ d = omega arith in e) (less-suc ds)
 
-length-map : (f : ℕ → ℕ) (l : List ℕ) → length (map f l) ≡ length l
+pub length-map : (f : ℕ → ℕ) (l : List ℕ) → length (map f l) ≡ length l
 length-map f [] = refl
 length-map f (x ∷ l) = ap suc (length-map f l)
 
-digits-length : (bs : List ℕ) (x : ℕ) → length (digits bs x) ≡ length bs
+pub digits-length : (bs : List ℕ) (x : ℕ) → length (digits bs x) ≡ length bs
 unfolding digits
 digits-length [] x = refl
 digits-length (b ∷ bs) x = ap suc (digits-length bs x)
