@@ -4,3 +4,5 @@ mod Writing
 mod Sizes
 mod Mixing
 mod Behind
+mod Summing
+mod Filling

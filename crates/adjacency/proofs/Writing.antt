@@ -5,7 +5,7 @@ use Prim.Native.Nat.{ℕ, zero, suc, _+_, _-_, _*_, _≤_, _<_}
 use native.Mathlib.Omega.{arith}
 use native.Mathlib.Numerals.{add-one}
 use lib.ListN.{length, getD, take, drop, set, length-append, length-drop}
-use lib.Seq.{drop-cons, set-append-seam, drop-length, length-take-le}
+use lib.Seq.{drop-cons, set-append-seam, drop-length, drop-drop, take-append-seam, drop-append-seam, length-take-le}
 use Rattle.laws.specs.Laid.{laidOver}
 use Rattle.adjacency.specs.Adjacency.{from, lower, entry, entryEdges}
 use Rattle.adjacency.specs.Coded.{map-from-length}
@@ -21,9 +21,20 @@ laid-more c old m x e h =
     let l : length c < length old = omega arith in
     rw (← e, drop-cons old (length c) 0 l, set-append-seam, length-append, add-one, append-assoc)
 
+pub laid-two : (c old : List ℕ) (m x y : ℕ) → length c ≡ m → m + 1 < length old → set (set (laidOver c old) m x) (m + 1) y ≡ laidOver (c ++ (x ∷ y ∷ [])) old
+laid-two c old m x y e h =
+    let l : length (c ++ (x ∷ [])) ≡ m + 1 = rw length-append (omega arith) in
+    rw (laid-more c old m x e (omega arith), laid-more (c ++ (x ∷ [])) old (m + 1) y l h, append-assoc)
+
 pub laid-length : (c old : List ℕ) → length c ≤ length old → length (laidOver c old) ≡ length old
 unfolding laidOver
 laid-length c old h = rw (length-append, length-drop) (omega arith)
+
+-- c behind a
+pub laid-join : (a c old : List ℕ) (k : ℕ) → k ≡ length a → take k (laidOver a old) ++ laidOver c (drop k (laidOver a old)) ≡ laidOver (a ++ c) old
+unfolding laidOver
+laid-join a c old k e =
+    rw (e, take-append-seam, drop-append-seam, length-append, drop-drop) (sym (append-assoc a c _))
 
 -- where the whole output is written
 pub laid-all : (c old : List ℕ) → length c ≡ length old → laidOver c old ≡ c
@@ -67,8 +78,5 @@ pub edges-more :
 edges-more c out old i h k e =
     let A = entryEdges 1 (take i c) in
     let l : length A ≡ 2 * i = made-length 1 (take i c) ∙ ap (λ n. 2 * n) (length-take-le i c (omega arith)) in
-    let one = laid-more A old (2 * i) (getD c i 0) l (omega arith) in
-    let m : length (A ++ (getD c i 0 ∷ [])) ≡ 2 * i + 1 = rw length-append (omega arith) in
-    let two = laid-more (A ++ (getD c i 0 ∷ [])) old (2 * i + 1) (i + 2) m (omega arith) in
     let z : 1 + i + 1 ≡ i + 2 = omega arith in
-    rw (e, one, two, entries-more 1 i c h, z, append-assoc)
+    rw (e, entries-more 1 i c h, z) (laid-two A old (2 * i) (getD c i 0) (i + 2) l (omega arith))

@@ -53,10 +53,10 @@ part-here r s =
 
 -- ---- the rows of the number
 
-put-none : {b : ℕ} (r : ℕ) (l : List ℕ) → b ≡ 0 → put b r l ≡ l
+pub put-none : {b : ℕ} (r : ℕ) (l : List ℕ) → b ≡ 0 → put b r l ≡ l
 put-none r l e = rw e
 
-put-one : {b : ℕ} (r : ℕ) (l : List ℕ) → b ≡ 1 → put b r l ≡ r ∷ l
+pub put-one : {b : ℕ} (r : ℕ) (l : List ℕ) → b ≡ 1 → put b r l ≡ r ∷ l
 put-one r l e = rw e
 
 rows-part : (r k : ℕ) (S : List ℕ) → Asc (r + k) r S → rows r k (part r S) ≡ S

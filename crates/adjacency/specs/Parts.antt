@@ -2,8 +2,10 @@
 use mathlib.Core.Path.{_≡_}
 use mathlib.Core.List.{List, [], _∷_}
 use Prim.Native.Nat.{ℕ, zero, suc, _≤_}
+use lib.ListN.{length}
+use Rattle.laws.specs.Laid.{laidOver}
 use Rattle.skeleton.specs.Edges.{Edge, one, other}
-use Rattle.adjacency.specs.Adjacency.{lower, OneLower}
+use Rattle.adjacency.specs.Adjacency.{lower, OneLower, rows, tied}
 
 -- every end of every edge is from 1 up
 pub record Numbered (E : List ℕ) : Type 0 where
@@ -24,3 +26,8 @@ pub record Only (E : List ℕ) (v w : ℕ) : Type 0 where
   pub is : 1 ≤ w → lower E v ≡ w ∷ []
   pub none : w ≡ 0 → OneLower E v → ⊥
   pub small : w ≤ v
+
+-- the edges of column i are written from the start, and n is their number of bytes
+pub record Column (i b : ℕ) (old : List ℕ) (n : ℕ) (new : List ℕ) : Type 0 where
+  pub count : n ≡ length (tied (suc i) (rows 1 i b))
+  pub lies : new ≡ laidOver (tied (suc i) (rows 1 i b)) old

@@ -64,7 +64,7 @@ product-powers N = product-pows 1 (N - 1) ∙ ap (λ k. 2 ^ k) (sum-rows N)
 
 -- ---- the ones
 
-tied-length : (v : ℕ) (rs : List ℕ) → length (tied v rs) ≡ 2 * length rs
+pub tied-length : (v : ℕ) (rs : List ℕ) → length (tied v rs) ≡ 2 * length rs
 unfolding tied
 tied-length v [] = refl
 tied-length v (r ∷ rs) = let e = tied-length v rs in omega arith

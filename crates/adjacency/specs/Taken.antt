@@ -49,7 +49,7 @@ module _ {most R N : ℕ} {E : List ℕ} (s : IsSkeleton most R N E) where
   column-lt : (i : ℕ) → bin E i < 2 ^ i
   column-lt i = let (S, o) = sorted i in rw (bits-perm (o .same)) (bits-lt i S (o .asc))
 
-  columns-below : (i n : ℕ) → Below (pows i n) (map (bin E) (from i n))
+  pub columns-below : (i n : ℕ) → Below (pows i n) (map (bin E) (from i n))
   unfolding from
   columns-below i zero = Below.none
   columns-below i (suc n) = Below.more (column-lt i) (columns-below (suc i) n)

@@ -7,11 +7,11 @@ use native.Mathlib.Decide.{ℕ-discrete}
 use native.Mathlib.Omega.{arith}
 use lib.Count.{ones}
 use lib.ListN.{length}
-use Rattle.refusal.specs.Table.{Clear, Outside, row3}
+use Rattle.refusal.specs.Table.{Row, Clear, Outside, row3}
 use Rattle.refusal.specs.Laws.{clear-one, clear-both, clear-left, clear-right, never, others, at-most, at-least}
 use Rattle.laws.specs.Perms.{perm-length}
 use Rattle.tree.specs.Skeleton.{arcs, IsSkeleton}
-use Rattle.skeleton.specs.Edges.{row5, row6}
+use Rattle.skeleton.specs.Edges.{row6}
 use Rattle.skeleton.specs.Theorems.{accepted}
 use Rattle.adjacency.specs.Adjacency.{aZero, aEdges, row4, row5-ones, madeRows, aRows}
 use Rattle.adjacency.specs.Plain.{plain-at}
@@ -19,20 +19,26 @@ use Rattle.adjacency.specs.Made.{edgeFront}
 use Rattle.adjacency.specs.Reorder.{reordered}
 use Rattle.adjacency.specs.Taken as Taken
 
--- behind 3, 4 and 5 of an A0, the edge list's 3, 5 and 6 have nothing to say
-pub a-front : (most N x : ℕ) → Clear (row3 most N ∷ row4 (2 ^ (N * (N - 1) / 2)) x ∷ row5-ones N x ∷ []) → Clear (edgeFront most N (aEdges N x))
-a-front most N x k = clear-both (clear-left (row3 most N ∷ []) _ k) (clear-both five six)
-  where
-    small : x < 2 ^ (N * (N - 1) / 2)
-    small = let n : 2 ^ (N * (N - 1) / 2) ≤ x → ⊥ = λ l. never (others k) 0 (refl, l) in omega arith
+-- 3, 4 and 5 of an A0
+abbrev pub aFront : ℕ → ℕ → ℕ → List Row
+aFront most N x = row3 most N ∷ row4 (2 ^ (N * (N - 1) / 2)) x ∷ row5-ones N x ∷ []
 
+-- where they are clear, it makes N-1 edges
+pub a-long : (most N x : ℕ) → Clear (aFront most N x) → length (aEdges N x) ≡ 2 * (N - 1)
+a-long most N x k =
+    let n : 2 ^ (N * (N - 1) / 2) ≤ x → ⊥ = λ l. never (others k) 0 (refl, l) in
+    let e = Taken.a-ones N x (omega arith) in
+    let c = count (ℕ-discrete (ones x) (N - 1)) in
+    omega arith
+  where
     count : Dec (ones x ≡ N - 1) → ones x ≡ N - 1
     count (yes e) = e
     count (no n) = absurd (never (others (others k)) 0 (refl, n))
 
-    five : Clear (row5 N (aEdges N x) ∷ [])
-    five = clear-one (λ p a. let e = Taken.a-ones N x small in let c = count (ℕ-discrete (ones x) (N - 1)) in let n : length (aEdges N x) ≡ 2 * (N - 1) = omega arith in a .1 n)
-
+-- and the edge list's 3, 5 and 6 have nothing to say
+pub a-front : (most N x : ℕ) → Clear (aFront most N x) → Clear (edgeFront most N (aEdges N x))
+a-front most N x k = clear-both (clear-left (row3 most N ∷ []) _ k) (clear-both (clear-one (λ p a. a .1 (a-long most N x k))) six)
+  where
     within : (v : ℕ) → (1 ≤ v) × (v ≤ N) → Outside N v → ⊥
     within v h o = ⊎-elim (λ e. let n : ⊥ = omega (arith, h .0) in n) (λ l. let n : ⊥ = omega (arith, h .1) in n) o
 
@@ -48,7 +54,7 @@ a-accepted most R N x = (there, back)
     there : Clear (aRows most R N x) → (x < 2 ^ (N * (N - 1) / 2)) × IsSkeleton most R N (aEdges N x)
     there k =
         let n : 2 ^ (N * (N - 1) / 2) ≤ x → ⊥ = λ l. never (others k) 0 (refl, l) in
-        let f = a-front most N x (clear-left (row3 most N ∷ row4 (2 ^ (N * (N - 1) / 2)) x ∷ row5-ones N x ∷ []) (madeRows R (aEdges N x)) k) in
+        let f = a-front most N x (clear-left (aFront most N x) (madeRows R (aEdges N x)) k) in
         (omega arith, accepted most R N (aEdges N x) 1 .0 (clear-both f (others (others (others k)))) .0)
 
     back : (x < 2 ^ (N * (N - 1) / 2)) × IsSkeleton most R N (aEdges N x) → Clear (aRows most R N x)

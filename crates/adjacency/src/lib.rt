@@ -4,15 +4,16 @@
 use refusal::Check;
 ghost use mathlib.Core.Path.{_≡_};
 ghost use mathlib.Core.List.{List, [], _∷_};
-ghost use Prim.Native.Nat.{ℕ, _+_, _-_, _*_, _≤_, _<_};
+ghost use Prim.Native.Nat.{ℕ, _+_, _-_, _*_, _/_, _^_, _≤_, _<_};
 ghost use lib.ListN.{length};
 ghost use Rattle.laws.specs.Laid.{laidOver};
 ghost use Rattle.refusal.specs.Table.{Answers, Clear, row3};
 ghost use Rattle.code.specs.Limits.{size, valence};
-ghost use Rattle.adjacency.specs.Adjacency.{Physical, row14, cam, camEdges, zeroA, factorial, zeroCam, zeroMost, row4, row5-cam, row6-cam, madeRows, camRows, zeroRows};
+ghost use Rattle.tree.specs.Skeleton.{IsSkeleton};
+ghost use Rattle.adjacency.specs.Adjacency.{lower, Physical, row14, cam, camEdges, zeroA, factorial, zeroCam, zeroMost, row4, row5-cam, row6-cam, madeRows, camRows, zeroRows, bits, aZero, rows, aEdges, aMost, row5-ones, aRows};
 ghost use Rattle.adjacency.specs.Entries.{Entries};
 ghost use Rattle.adjacency.specs.Made.{camFront};
-ghost use Rattle.adjacency.specs.Parts.{Numbered, Gives, Only};
+ghost use Rattle.adjacency.specs.Parts.{Numbered, Gives, Only, Column};
 
 // The lower neighbour that the edge from a to b gives to v, or 0.
 fn down(a: usize, b: usize, v: usize) -> usize
@@ -221,4 +222,105 @@ pub fn zero_check(n: usize, x: u64) -> Check
     let mut cam = [0u8; 20];
     zero_cam(n, x, &mut cam[..n - 1]);
     made(n, &cam[..n - 1])
+}
+
+// BIN of vertex v: bit r - 1 for each lower neighbour r.
+fn bin(edges: &[u8], v: usize) -> u64
+    requires { ⌜ Numbered (now edges) × (v ≤ aMost) × (length (now edges) < 2 * aMost) ⌝ }
+    ensures { λ r. ⌜ r ≡ bits (lower (now (edges .entry)) v) ⌝ }
+{
+    let m = edges.len() / 2;
+    let mut b: u64 = 0;
+    let mut p: usize = 1;
+    while p <= m {
+        let u = down(skeleton::one(edges, p), skeleton::other(edges, p), v);
+        p += 1;
+        if u != 0 {
+            b += 1u64 << (u - 1);
+        }
+    }
+    b
+}
+
+// The A0 of a skeleton.
+pub fn a_zero(n: usize, edges: &[u8]) -> u64
+    requires { ⌜ IsSkeleton aMost valence n (now edges) ⌝ }
+    ensures { λ r. ⌜ r ≡ aZero n (now (edges .entry)) ⌝ }
+{
+    let mut x: u64 = 0;
+    let mut i: usize = 1;
+    while i < n {
+        x = (x << i) + bin(edges, i + 1);
+        i += 1;
+    }
+    x
+}
+
+// The edges of column i, rows ascending, and how many bytes they are.
+fn column(i: usize, b: u64, out: &mut [u8]) -> usize
+    requires { ⌜ (i < aMost) × (2 * length (rows 1 i b) ≤ length (now out)) ⌝ }
+    ensures { λ r. ⌜ Column i b (now (out .entry)) r (now (out .exit)) ⌝ }
+{
+    let mut v = b;
+    let mut k: usize = 0;
+    let mut r: usize = 1;
+    while r <= i {
+        let bit = v % 2;
+        let row = r;
+        v /= 2;
+        r += 1;
+        if bit == 1 {
+            out[k] = row as u8;
+            out[k + 1] = (i + 1) as u8;
+            k += 2;
+        }
+    }
+    k
+}
+
+// The edges that an A0 makes, by column.
+pub fn a_edges(n: usize, x: u64, out: &mut [u8])
+    requires { ⌜ (1 ≤ n) × (n ≤ aMost) × (length (aEdges n x) ≤ length (now out)) ⌝ }
+    ensures { λ _. ⌜ now (out .exit) ≡ laidOver (aEdges n x) (now (out .entry)) ⌝ }
+{
+    let mut s = n * (n - 1) / 2;
+    let mut k: usize = 0;
+    let mut i: usize = 1;
+    while i < n {
+        s -= i;
+        let b = (x >> s) % (1u64 << i);
+        k += column(i, b, &mut out[k..]);
+        i += 1;
+    }
+}
+
+// 3, 4 and 5 of an A0.
+fn a_sizes(n: usize, x: u64) -> Check
+    ensures { λ r. ⌜ Answers (row3 aMost n ∷ row4 (2 ^ (n * (n - 1) / 2)) x ∷ row5-ones n x ∷ []) r ⌝ }
+{
+    if n == 0 {
+        return Check::Refuse(3, 0);
+    }
+    if 11 < n {
+        return Check::Refuse(3, 0);
+    }
+    if (1u64 << (n * (n - 1) / 2)) <= x {
+        return Check::Refuse(4, 0);
+    }
+    if u64::count_ones(x) as usize != n - 1 {
+        return Check::Refuse(5, 0);
+    }
+    Check::Passed
+}
+
+// Every refusal of an A0.
+pub fn a_check(n: usize, x: u64) -> Check
+    ensures { λ r. ⌜ Answers (aRows aMost valence n x) r ⌝ }
+{
+    if let Check::Refuse(k, p) = a_sizes(n, x) {
+        return Check::Refuse(k, p);
+    }
+    let mut edges = [0u8; 20];
+    a_edges(n, x, &mut edges[..2 * (n - 1)]);
+    skeleton::check(11, n, &edges[..2 * (n - 1)], 1)
 }
