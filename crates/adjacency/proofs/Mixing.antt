@@ -1,6 +1,6 @@
 -- 0A, one entry at a time: forwards from a CAM, and backwards to one. Assumes nothing.
-use mathlib.Core.Path.{_≡_, refl, ap, ap₂, sym, _∙_}
-use mathlib.Core.List.{List, [], _∷_, _++_, append-assoc, map}
+use mathlib.Core.Path.{_≡_, refl, ap, sym}
+use mathlib.Core.List.{List, _∷_, _++_, append-assoc, map}
 use Prim.Native.Nat.{ℕ, zero, suc, _+_, _-_, _*_, _/_, _%_, _^_, _≤_, _<_}
 use native.Mathlib.Nat.{suc-mul, mod-one, lt-of-le-of-lt}
 use native.Mathlib.Omega.{arith}
@@ -9,7 +9,7 @@ use lib.Dec.{lit<}
 use lib.ListN.{length, getD, take, drop, set, length-set, length-drop, take-append-drop}
 use lib.Seq.{drop-cons, take-suc, set-at, length-take-le}
 use Rattle.laws.specs.Laid.{laidOver}
-use Rattle.adjacency.specs.Mixed.{mixed, left, digits, Below, mixed-le}
+use Rattle.adjacency.specs.Mixed.{mixed, left, digits, mixed-le}
 use Rattle.adjacency.specs.Adjacency.{from, zeroA, factorial, zeroCam}
 use Rattle.adjacency.specs.Entries.{Entries, none, more}
 use Rattle.adjacency.specs.Zero.{less, below-entries, zero-range, zero-length}

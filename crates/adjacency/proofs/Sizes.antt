@@ -1,9 +1,9 @@
 -- The answers of a test of 3 and one of 4 or 5 behind it. Assumes nothing.
 use mathlib.Core.Path.{_≡_, refl}
 use mathlib.Core.Logic.{⊎-elim}
-use mathlib.Core.List.{List, [], _∷_}
+use mathlib.Core.List.{[], _∷_}
 use mathlib.Core.Bool.{true}
-use Prim.Native.Nat.{ℕ, _≤_, _<_}
+use Prim.Native.Nat.{ℕ, _≤_}
 use native.Mathlib.Omega.{arith}
 use Rattle.refusal.specs.declared.Check.the-variants.{Passed, Refuse}
 use Rattle.refusal.specs.Table.{Row, Clear, Answers, passes, fails, Outside, row3}

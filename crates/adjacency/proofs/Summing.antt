@@ -1,8 +1,8 @@
 -- BIN, one edge at a time, and A0, one column at a time. Assumes nothing.
 use mathlib.Core.Path.{_≡_, refl, ap, sym, _∙_}
 use mathlib.Core.List.{List, [], _∷_, _++_, append-nil, map}
-use Prim.Native.Nat.{ℕ, zero, suc, _+_, _-_, _*_, _/_, _%_, _^_, _≤_, _<_}
-use native.Mathlib.Nat.{mul-le-mul, lt-of-lt-of-le, mod-eq-of-lt, one-mul, add-zero}
+use Prim.Native.Nat.{ℕ, suc, _+_, _-_, _*_, _/_, _%_, _^_, _≤_, _<_}
+use native.Mathlib.Nat.{mul-le-mul, lt-of-lt-of-le, mod-eq-of-lt, one-mul}
 use native.Mathlib.Omega.{arith}
 use native.Mathlib.Numerals.{add-one}
 use lib.Pow.{pow-mono, pow-lt}
@@ -15,7 +15,7 @@ use Rattle.adjacency.specs.Adjacency.{from, lower, bits, bin, powers, aZ
 use Rattle.adjacency.specs.Lower.{lower-none, lower-all}
 use Rattle.adjacency.specs.Power.{pows}
 use Rattle.adjacency.specs.Taken.{columns-below, a-range}
-use Rattle.adjacency.specs.Parts.{found, Gives}
+use Rattle.adjacency.specs.Parts.{Gives}
 use Rattle.adjacency.proofs.Search.{found-some, lower-next}
 
 -- ---- the machine's 2^k

@@ -12,7 +12,7 @@ use lib.ListN.{length, getD, drop}
 use Rattle.refusal.specs.Table.{Row, Outside, row3, row15}
 use Rattle.code.specs.Code.{sum}
 use Rattle.tree.specs.Skeleton.{arcs, neighbours}
-use Rattle.skeleton.specs.Edges.{row6, row7, row8, row9, edgeRows}
+use Rattle.skeleton.specs.Edges.{row7, row8, row9}
 use Rattle.adjacency.specs.Mixed.{mixed, digits}
 
 -- n numbers from i up

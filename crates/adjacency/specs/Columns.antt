@@ -2,16 +2,14 @@
 --
 -- In order: columns; one more row in a column; the list itself, one edge at a time; columns of one row each, which are a CAM's.
 -- Assumes nothing.
-use mathlib.Core.Path.{_≡_, refl, ap, ap₂, sym, _∙_}
-use mathlib.Core.Logic.{_⊎_, inl, inr, ⊎-elim}
+use mathlib.Core.Path.{_≡_, refl, ap, ap₂, sym}
 use mathlib.Core.List.{List, [], _∷_, _++_, map, List·Permᴰ, List·Permᴰ·nil, List·Permᴰ·cons, List·Permᴰ·swap, List·Permᴰ·trans, Permᴰ·refl, Permᴰ·symm, Permᴰ·append-left}
-use Prim.Native.Nat.{ℕ, zero, suc, _+_, _-_, _*_, _/_, _≤_, _<_}
+use Prim.Native.Nat.{ℕ, zero, suc, _+_, _-_, _≤_, _<_}
 use native.Mathlib.Decide.{ℕ-discrete, decLt}
 use native.Mathlib.Omega.{arith}
 use lib.ListN.{length, getD}
 use Rattle.laws.specs.Perms.{front}
-use Rattle.tree.specs.Skeleton.{Arc, arcs}
-use Rattle.skeleton.specs.Edges.{Edge, one, other}
+use Rattle.tree.specs.Skeleton.{arcs}
 use Rattle.adjacency.specs.Adjacency.{from, lower, Physical, entry, cam, entryEdges, camEdges, tied}
 use Rattle.adjacency.specs.Lower.{lower-nil, lower-odd, lower-one, lower-other, lower-pass}
 

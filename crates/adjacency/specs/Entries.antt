@@ -1,6 +1,6 @@
 -- A CAM whose every entry is from 1 to its number: the lower neighbours in the edges that it makes. So they make a physical numbering,
 -- and its CAM is the one that made them. Assumes nothing.
-use mathlib.Core.Path.{_≡_, refl, ap, ap₂, sym, _∙_}
+use mathlib.Core.Path.{_≡_, refl, ap, ap₂, _∙_}
 use mathlib.Core.Logic.{inl, inr}
 use mathlib.Core.List.{List, [], _∷_, map}
 use Prim.Native.Nat.{ℕ, zero, suc, _+_, _-_, _≤_, _<_}

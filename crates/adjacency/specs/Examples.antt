@@ -1,6 +1,6 @@
 -- The definitions, run on document 01's own figures: CAM (1,2,2,3,1,6) with N = 7, and its numbering by code. Assumes nothing.
 use mathlib.Core.Path.{_≡_, refl}
-use mathlib.Core.List.{List, [], _∷_, map}
+use mathlib.Core.List.{List, [], _∷_}
 use Prim.Native.Nat.{ℕ}
 use native.Mathlib.Decide.{ℕ-discrete, decLt}
 use Rattle.code.specs.Code.{sum, edgesFrom, decode}
@@ -47,6 +47,11 @@ from-zeroA = refl
 in-order : camEdges given ≡ 1 ∷ 2 ∷ 2 ∷ 3 ∷ 2 ∷ 4 ∷ 3 ∷ 5 ∷ 1 ∷ 6 ∷ 6 ∷ 7 ∷ []
 unfolding entryEdges
 in-order = refl
+
+-- two rows in one column, ascending
+two-rows : aEdges 3 3 ≡ 1 ∷ 3 ∷ 2 ∷ 3 ∷ []
+unfolding from digits left powers rows tied columns aEdges
+two-rows = refl
 
 from-aZero : aEdges 7 1646688 ≡ camEdges given
 unfolding from entryEdges digits left powers rows tied columns aEdges

@@ -18,3 +18,4 @@ pub mod Apart
 pub mod Power
 pub mod Taken
 pub mod TheoremsA
+pub mod ByCode

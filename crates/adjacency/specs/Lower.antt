@@ -1,5 +1,5 @@
 -- Lower neighbours, one edge at a time: from the front of a list, and behind the edges before p. Assumes nothing.
-use mathlib.Core.Path.{_≡_, refl, ap, ap₂, sym, _∙_}
+use mathlib.Core.Path.{_≡_, refl, ap₂, sym, _∙_}
 use mathlib.Core.Logic.{ite, ⊎-elim}
 use mathlib.Core.List.{List, [], _∷_, _++_, filter, filter-append, List·Memᴰ, List·Memᴰ·head, List·Memᴰ·tail, List·Memᴰ·not-nil, List·Memᴰ·cases-cons}
 use Prim.Native.Nat.{ℕ, zero, suc, _+_, _-_, _*_, _/_, _≤_, _<_}

@@ -1,16 +1,16 @@
 -- The edges that a CAM makes, by number, and what is refused of them: behind 3, 5 and 6 of the CAM, the edge list's 3, 5 and 6 have
 -- nothing to say. Assumes nothing.
-use mathlib.Core.Path.{_≡_, refl, ap, sym, _∙_}
-use mathlib.Core.Logic.{inl, inr, ⊎-elim, _↔_}
-use mathlib.Core.List.{List, [], _∷_, _++_}
-use Prim.Native.Nat.{ℕ, zero, suc, _+_, _-_, _*_, _/_, _≤_, _<_}
+use mathlib.Core.Path.{_≡_, refl}
+use mathlib.Core.Logic.{⊎-elim, _↔_}
+use mathlib.Core.List.{List, [], _∷_}
+use Prim.Native.Nat.{ℕ, zero, suc, _+_, _-_, _*_, _≤_, _<_}
 use native.Mathlib.Decide.{ℕ-discrete}
 use native.Mathlib.Omega.{arith}
 use lib.ListN.{length, getD}
-use Rattle.refusal.specs.Table.{Row, Clear, Outside, row3}
+use Rattle.refusal.specs.Table.{Row, Clear, row3}
 use Rattle.refusal.specs.Laws.{clear-one, clear-both, clear-left, clear-right, never, others, at-most, at-least}
 use Rattle.tree.specs.Skeleton.{IsSkeleton}
-use Rattle.skeleton.specs.Edges.{Edge, one, other, row5, row6, edgeRows}
+use Rattle.skeleton.specs.Edges.{Edge, one, other, row5, row6}
 use Rattle.skeleton.specs.Theorems.{accepted}
 use Rattle.adjacency.specs.Adjacency.{entryEdges, camEdges, row5-cam, row6-cam, madeRows, camRows}
 use Rattle.adjacency.specs.Entries.{Entries, none, more, entries-of}

@@ -4,10 +4,10 @@ use mathlib.Core.Logic.{inl, inr}
 use mathlib.Core.List.{List, [], _∷_}
 use Prim.Native.Nat.{ℕ, zero, suc, _+_, _-_, _*_, _≤_, _<_}
 use native.Mathlib.Omega.{arith}
-use Rattle.refusal.specs.Table.{Clear, Outside}
+use Rattle.refusal.specs.Table.{Outside}
 use Rattle.refusal.specs.Laws.{never, others}
 use Rattle.tree.specs.Skeleton.{IsSkeleton}
-use Rattle.skeleton.specs.Edges.{Edge, one, other, edgeRows}
+use Rattle.skeleton.specs.Edges.{Edge, one, other}
 use Rattle.skeleton.specs.Theorems.{accepted}
 use Rattle.adjacency.specs.Columns.{Plain, none, odd, more}
 use Rattle.adjacency.specs.Parts.{Numbered}

@@ -1,14 +1,14 @@
 -- A0's bases 2, 4, .., and what its digits, the columns, are worth: their range, and a one for each row. Assumes nothing.
-use mathlib.Core.Path.{_≡_, refl, ap, ap₂, sym, _∙_}
-use mathlib.Core.List.{List, [], _∷_, _++_, map}
-use Prim.Native.Nat.{ℕ, zero, suc, _+_, _-_, _*_, _/_, _%_, _^_, _≤_, _<_}
+use mathlib.Core.Path.{_≡_, refl, ap, sym, _∙_}
+use mathlib.Core.List.{List, [], _∷_, map}
+use Prim.Native.Nat.{ℕ, zero, suc, _+_, _-_, _*_, _/_, _^_, _<_}
 use native.Mathlib.Nat.{suc-mul, mul-comm}
 use native.Mathlib.Omega.{arith}
 use lib.Count.{ones, ones-cat}
 use lib.Pow.{pow-pos, pow-add}
 use lib.ListN.{length, getD, length-append}
 use Rattle.code.specs.Code.{sum}
-use Rattle.adjacency.specs.Mixed.{mixed, digits, product, Below, Positive}
+use Rattle.adjacency.specs.Mixed.{mixed, product, Below, Positive}
 use Rattle.adjacency.specs.Adjacency.{from, powers, rows, tied, columns}
 use Rattle.adjacency.specs.Ascend.{rows-ones}
 

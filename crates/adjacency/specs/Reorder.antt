@@ -1,12 +1,12 @@
 -- The same arcs in another order are the same skeleton. Assumes nothing.
-use mathlib.Core.Path.{_≡_, refl, sym, _∙_}
+use mathlib.Core.Path.{_≡_, refl}
 use mathlib.Core.Logic.{⊎-elim}
 use mathlib.Core.List.{List, [], _∷_, List·Memᴰ, List·Memᴰ·head, List·Memᴰ·tail, List·Memᴰ·not-nil, List·Memᴰ·cases-cons, List·Permᴰ, Permᴰ·symm}
-use Prim.Native.Nat.{ℕ, zero, suc, _+_, _-_, _*_, _≤_}
+use Prim.Native.Nat.{ℕ, _-_, _*_}
 use native.Mathlib.Omega.{arith}
 use lib.ListN.{length}
 use Rattle.laws.specs.Perms.{perm-in, perm-length}
-use Rattle.tree.specs.Skeleton.{Arc, arcs, degree, Walk, here, along, IsTree, Degrees, IsSkeleton}
+use Rattle.tree.specs.Skeleton.{Arc, arcs, degree, Walk, here, along, Degrees, IsSkeleton}
 use Rattle.tree.specs.Codes.{neighbours-perm}
 use Rattle.tree.specs.Walks.{arc-end}
 

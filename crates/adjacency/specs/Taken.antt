@@ -1,15 +1,15 @@
 -- The edges of an A0, column by column: the lower neighbours in them, and that a skeleton's A0 gives its edges. Assumes nothing.
-use mathlib.Core.Path.{_≡_, refl, ap, ap₂, sym, _∙_}
+use mathlib.Core.Path.{_≡_, refl, ap, _∙_}
 use mathlib.Core.List.{List, [], _∷_, _++_, append-nil, map, List·Permᴰ, List·Permᴰ·nil, List·Permᴰ·cons, List·Permᴰ·swap, List·Permᴰ·trans, Permᴰ·refl, Permᴰ·append-left, Permᴰ·append-right}
-use Prim.Native.Nat.{ℕ, zero, suc, _+_, _-_, _*_, _/_, _%_, _^_, _≤_, _<_}
+use Prim.Native.Nat.{ℕ, zero, suc, _+_, _-_, _*_, _/_, _^_, _≤_, _<_}
 use native.Mathlib.Nat.{one-mul}
 use native.Mathlib.Omega.{arith}
 use lib.Count.{ones}
 use lib.ListN.{length, getD}
 use Rattle.laws.specs.Perms.{front}
 use Rattle.tree.specs.Skeleton.{arcs, IsSkeleton}
-use Rattle.adjacency.specs.Mixed.{mixed, digits, product, Below, digits-mixed, digits-below, mixed-lt, from-digits}
-use Rattle.adjacency.specs.Adjacency.{from, lower, bits, bin, powers, aZero, rows, tied, columns, aEdges}
+use Rattle.adjacency.specs.Mixed.{mixed, digits, Below, digits-mixed, digits-below, mixed-lt, from-digits}
+use Rattle.adjacency.specs.Adjacency.{from, lower, bin, powers, aZero, rows, tied, columns, aEdges}
 use Rattle.adjacency.specs.Lower.{lower-nil, lower-one, lower-pass}
 use Rattle.adjacency.specs.Entries.{map-from}
 use Rattle.adjacency.specs.Columns.{byColumn, arcs-tied, Plain, none, more, by-column}

@@ -2,14 +2,13 @@
 use mathlib.Core.Path.{_≡_, refl, ap, sym, _∙_}
 use mathlib.Core.Logic.{_↔_}
 use mathlib.Core.List.{List, [], _∷_, List·Permᴰ}
-use Prim.Native.Nat.{ℕ, zero, suc, _+_, _-_, _*_, _≤_, _<_}
+use Prim.Native.Nat.{ℕ, suc, _-_, _≤_, _<_}
 use native.Mathlib.Omega.{arith}
 use lib.ListN.{length}
 use Rattle.refusal.specs.Table.{Clear, row3}
-use Rattle.refusal.specs.Laws.{clear-one, clear-both, clear-left, never, others, at-least}
-use Rattle.laws.specs.Perms.{perm-length}
+use Rattle.refusal.specs.Laws.{clear-one, clear-both, clear-left, never, others}
 use Rattle.tree.specs.Skeleton.{arcs, IsSkeleton}
-use Rattle.adjacency.specs.Adjacency.{Physical, cam, camEdges, zeroA, factorial, zeroCam, row4, madeRows, camRows, zeroRows}
+use Rattle.adjacency.specs.Adjacency.{Physical, cam, camEdges, zeroA, factorial, zeroCam, camRows, zeroRows}
 use Rattle.adjacency.specs.Entries.{Entries, cam-again, cam-physical}
 use Rattle.adjacency.specs.Columns.{cam-edges}
 use Rattle.adjacency.specs.Plain.{plain}

@@ -1,14 +1,14 @@
 -- A0 there and back. Each theorem stands under a plain sentence. Those of CAM and 0A are in `Theorems`. Assumes nothing.
-use mathlib.Core.Path.{_≡_, refl, ap, sym, _∙_}
+use mathlib.Core.Path.{_≡_, refl}
 use mathlib.Core.Logic.{_↔_, ⊎-elim}
 use mathlib.Core.List.{List, [], _∷_, List·Permᴰ, List·Permᴰ·trans, Permᴰ·symm}
-use Prim.Native.Nat.{ℕ, zero, suc, _+_, _-_, _*_, _/_, _^_, _≤_, _<_}
+use Prim.Native.Nat.{ℕ, _-_, _*_, _/_, _^_, _≤_, _<_}
 use native.Mathlib.Decide.{ℕ-discrete}
 use native.Mathlib.Omega.{arith}
 use lib.Count.{ones}
 use lib.ListN.{length}
 use Rattle.refusal.specs.Table.{Row, Clear, Outside, row3}
-use Rattle.refusal.specs.Laws.{clear-one, clear-both, clear-left, clear-right, never, others, at-most, at-least}
+use Rattle.refusal.specs.Laws.{clear-one, clear-both, clear-left, never, others, at-least}
 use Rattle.laws.specs.Perms.{perm-length}
 use Rattle.tree.specs.Skeleton.{arcs, IsSkeleton}
 use Rattle.skeleton.specs.Edges.{row6}

@@ -4,7 +4,7 @@ use mathlib.Core.List.{List, [], _∷_, map}
 use Prim.Native.Nat.{ℕ, zero, suc, _+_, _-_, _*_, _≤_, _<_}
 use native.Mathlib.Nat.{mul-one, one-mul, mul-assoc, mul-comm}
 use native.Mathlib.Omega.{arith}
-use lib.ListN.{length, drop}
+use lib.ListN.{length}
 use Rattle.adjacency.specs.Mixed.{mixed, digits, product, Below, Positive, digits-mixed, digits-below, mixed-lt, from-digits}
 use Rattle.adjacency.specs.Adjacency.{from, zeroA, factorial, zeroCam}
 use Rattle.adjacency.specs.Entries.{Entries, none, more}

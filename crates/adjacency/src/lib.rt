@@ -159,9 +159,10 @@ pub fn zero_a(cam: &[u8]) -> u64
     requires { ⌜ Entries 1 (now cam) × (length (now cam) < zeroMost) ⌝ }
     ensures { λ r. ⌜ r ≡ zeroA (now (cam .entry)) ⌝ }
 {
+    let m = cam.len();
     let mut x: u64 = 0;
     let mut i: usize = 1;
-    while i < cam.len() {
+    while i < m {
         x = x * (i as u64 + 1) + (cam[i] as u64 - 1);
         i += 1;
     }

@@ -1,6 +1,6 @@
--- `adjacency::a_check` meets its contract. Assumes nothing.
+-- `adjacency::a_check` meets its contract: a check that refuses answers for the whole table, and behind it the edges that are made are checked as an edge list. Assumes nothing.
 use mathlib.Core.Path.{_≡_, refl, sym, ap, _∙_}
-use Prim.Native.Nat.{ℕ, _-_, _*_, _≤_}
+use Prim.Native.Nat.{_-_, _*_, _≤_}
 use lib.ListN.{length}
 use Rattle.refusal.specs.Table.{Clear}
 use Rattle.refusal.specs.Laws.{stops, goes-on, was-clear, at-least, at-most}

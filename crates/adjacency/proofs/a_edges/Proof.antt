@@ -1,11 +1,9 @@
--- `adjacency::a_edges` meets its contract. Assumes nothing.
-use mathlib.Core.Path.{_≡_, refl, sym, ap, _∙_}
-use Prim.Native.Nat.{_+_, _-_, _<_}
+-- `adjacency::a_edges` meets its contract. The loop's invariant: the columns before i are written, and s bits hold those from i on. Assumes nothing.
+use Prim.Native.Nat.{_-_, _<_}
 use lib.Pow.{pow-pos}
 use Rattle.adjacency.proofs.Summing.{rows-few, shift-one}
 use Rattle.adjacency.proofs.Filling.{Taking, taking-none, taking-shift, taking-within, taking-room, taking-count, taking-more, taking-all}
 use native.Mathlib.Omega.{arith}
-use borrow.Author.Needs.{needs}
 use Rattle.adjacency.proofs.a_edges.Statement.{statement}
 use Rattle.adjacency.proofs.a_edges.Tie as tie
 

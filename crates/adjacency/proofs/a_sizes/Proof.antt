@@ -1,11 +1,11 @@
--- `adjacency::a_sizes` meets its contract. Assumes nothing.
-use mathlib.Core.Path.{_≡_, refl, sym, ap, _∙_}
+-- `adjacency::a_sizes` meets its contract: 3 is tested before 4, so that the range fits a word, and 4 before 5. Assumes nothing.
+use mathlib.Core.Path.{_≡_, refl}
 use mathlib.Core.Logic.{inl, inr}
 use Prim.Native.Nat.{ℕ, _-_, _*_, _/_, _^_, _≤_, _<_, _%_}
 use lib.Count.{ones-le}
 use Rattle.refusal.specs.Table.{Row, Answers, passes, fails, row3}
 use Rattle.refusal.specs.declared.Check.the-variants.{Passed}
-use mathlib.Core.List.{List, [], _∷_}
+use mathlib.Core.List.{[], _∷_}
 use Rattle.refusal.specs.Laws.{stops, goes-on, clear-one, first-place}
 use Rattle.adjacency.specs.Adjacency.{aMost, row4}
 use Rattle.adjacency.proofs.Sizes.{three, next, fine}
@@ -41,7 +41,7 @@ sub-if3 : tie.Need-sub-if3
 sub-if3 c = search needs
 
 mul-if3 : tie.Need-mul-if3
-mul-if3 c = let a = c .before .before .args in omega (arith, few c)
+mul-if3 c = omega (arith, few c)
 
 shl-if3 : tie.Need-shl-if3
 shl-if3 c = omega (arith, few c)

@@ -1,10 +1,8 @@
--- `adjacency::a_zero` meets its contract. Assumes nothing.
-use mathlib.Core.Path.{_≡_, refl, sym, ap, _∙_}
-use Prim.Native.Nat.{_+_, _-_}
+-- `adjacency::a_zero` meets its contract. The loop's invariant: x is what the columns before i make. Assumes nothing.
+use Prim.Native.Nat.{_-_}
 use Rattle.adjacency.specs.Plain.{numbered}
 use Rattle.adjacency.proofs.Summing.{Rated, rated-none, rated-next, rated-all}
 use native.Mathlib.Omega.{arith}
-use borrow.Author.Needs.{needs}
 use Rattle.adjacency.proofs.a_zero.Statement.{statement}
 use Rattle.adjacency.proofs.a_zero.Tie as tie
 

@@ -1,10 +1,8 @@
--- `adjacency::bin` meets its contract. Assumes nothing.
-use mathlib.Core.Path.{_≡_, refl, sym, ap, _∙_}
+-- `adjacency::bin` meets its contract. The loop's invariant: b is what the edges before p give. Assumes nothing.
 use Prim.Native.Nat.{_+_, _-_, _/_, _≤_, _<_}
 use lib.ListN.{length}
 use Rattle.adjacency.proofs.Summing.{Summed, summed-none, summed-miss, summed-hit, summed-all, shift-one, power-small}
 use native.Mathlib.Omega.{arith}
-use borrow.Author.Needs.{needs}
 use Rattle.adjacency.proofs.bin.Statement.{statement}
 use Rattle.adjacency.proofs.bin.Tie as tie
 

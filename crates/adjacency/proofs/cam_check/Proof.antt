@@ -1,7 +1,6 @@
--- `adjacency::cam_check` meets its contract. Assumes nothing.
-use mathlib.Core.Path.{_≡_, refl, sym, ap, _∙_}
+-- `adjacency::cam_check` meets its contract: a check that refuses answers for the whole table, and behind one that passes the rest does. Assumes nothing.
+use mathlib.Core.Path.{refl}
 use Rattle.refusal.specs.Laws.{stops, goes-on, was-clear, clear-both}
-use native.Mathlib.Omega.{arith}
 use borrow.Author.Needs.{needs}
 use Rattle.adjacency.proofs.cam_check.Statement.{statement}
 use Rattle.adjacency.proofs.cam_check.Tie as tie

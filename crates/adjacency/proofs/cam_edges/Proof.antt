@@ -1,5 +1,5 @@
--- `adjacency::cam_edges` meets its contract. Assumes nothing.
-use mathlib.Core.Path.{_≡_, refl, sym, ap, _∙_}
+-- `adjacency::cam_edges` meets its contract. The loop's invariant: the edges of the first i entries are written. Assumes nothing.
+use mathlib.Core.Path.{_≡_, refl, sym}
 use Prim.Native.Nat.{_-_, _≤_}
 use lib.ListN.{length, length-set, take}
 use lib.Seq.{take-all}
@@ -7,7 +7,6 @@ use Rattle.laws.specs.Laid.{laidOver}
 use Rattle.adjacency.specs.Adjacency.{entryEdges}
 use Rattle.adjacency.proofs.Writing.{edges-more, laid-none}
 use native.Mathlib.Omega.{arith}
-use borrow.Author.Needs.{needs}
 use Rattle.adjacency.proofs.cam_edges.Statement.{statement}
 use Rattle.adjacency.proofs.cam_edges.Tie as tie
 

@@ -1,5 +1,4 @@
--- `adjacency::cam_entries` meets its contract. Assumes nothing.
-use mathlib.Core.Path.{_≡_, refl, sym, ap, _∙_}
+-- `adjacency::cam_entries` meets its contract. The loop's invariant: 6 applies at no entry before i. Assumes nothing.
 use mathlib.Core.Logic.{inl, inr, ⊎-elim}
 use Prim.Native.Nat.{ℕ, _+_, _-_, _≤_, _<_}
 use lib.ListN.{length}
@@ -8,7 +7,6 @@ use Rattle.refusal.specs.Table.{passes, fails}
 use Rattle.refusal.specs.Laws.{clear-one, first-place}
 use Rattle.adjacency.specs.Adjacency.{row6-cam}
 use native.Mathlib.Omega.{arith}
-use borrow.Author.Needs.{needs}
 use Rattle.adjacency.proofs.cam_entries.Statement.{statement}
 use Rattle.adjacency.proofs.cam_entries.Tie as tie
 

@@ -1,5 +1,5 @@
--- `adjacency::cam_sizes` meets its contract. Assumes nothing.
-use mathlib.Core.Path.{_≡_, refl, sym, ap, _∙_}
+-- `adjacency::cam_sizes` meets its contract: 3 is tested before 5, so that N - 1 is a number. Assumes nothing.
+use mathlib.Core.Path.{refl}
 use mathlib.Core.Logic.{inl, inr}
 use Rattle.adjacency.specs.Adjacency.{row5-cam}
 use Rattle.adjacency.proofs.Sizes.{three, next, fine}

@@ -1,10 +1,8 @@
--- `adjacency::column` meets its contract. Assumes nothing.
-use mathlib.Core.Path.{_≡_, refl, sym, ap, _∙_}
-use Prim.Native.Nat.{_+_, _-_, _≤_, _<_}
+-- `adjacency::column` meets its contract. The loop's invariant: the rows below r are written, and v holds the bits from r on. Assumes nothing.
+use Prim.Native.Nat.{_+_, _-_, _<_}
 use lib.ListN.{length, length-set}
 use Rattle.adjacency.proofs.Filling.{Filling, filling-none, filling-zero, filling-one, filling-room, filling-all}
 use native.Mathlib.Omega.{arith}
-use borrow.Author.Needs.{needs}
 use Rattle.adjacency.proofs.column.Statement.{statement}
 use Rattle.adjacency.proofs.column.Tie as tie
 

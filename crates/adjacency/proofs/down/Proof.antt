@@ -1,5 +1,4 @@
 -- `adjacency::down` meets its contract. Assumes nothing.
-use mathlib.Core.Path.{sym}
 use native.Mathlib.Omega.{arith}
 use Rattle.adjacency.proofs.Search.{down-one, down-other, down-none}
 use Rattle.adjacency.proofs.down.Statement.{statement}

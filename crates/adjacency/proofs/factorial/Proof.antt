@@ -1,10 +1,9 @@
--- `adjacency::factorial` meets its contract. Assumes nothing.
-use mathlib.Core.Path.{_≡_, refl, sym, ap, _∙_}
+-- `adjacency::factorial` meets its contract. The loop's invariant: f is the factorial of i. Assumes nothing.
+use mathlib.Core.Path.{_≡_, refl}
 use Prim.Native.Nat.{_+_, _-_, _≤_, _<_}
 use Rattle.adjacency.specs.Adjacency.{factorial}
 use Rattle.adjacency.proofs.Mixing.{factorial-fits, factorial-more}
 use native.Mathlib.Omega.{arith}
-use borrow.Author.Needs.{needs}
 use Rattle.adjacency.proofs.factorial.Statement.{statement}
 use Rattle.adjacency.proofs.factorial.Tie as tie
 

@@ -1,5 +1,5 @@
--- `adjacency::made` meets its contract. Assumes nothing.
-use mathlib.Core.Path.{_≡_, refl, sym, ap, _∙_}
+-- `adjacency::made` meets its contract: the edges are written and checked as an edge list, whose 3, 5 and 6 have nothing to say. Assumes nothing.
+use mathlib.Core.Path.{_≡_, sym, ap, _∙_}
 use Prim.Native.Nat.{_*_, _≤_}
 use lib.ListN.{length}
 use Rattle.adjacency.specs.Made.{few, edgeFront, front-cam, made-length}

@@ -1,5 +1,5 @@
--- `adjacency::write_cam` meets its contract. Assumes nothing.
-use mathlib.Core.Path.{_≡_, refl, sym, ap, _∙_}
+-- `adjacency::write_cam` meets its contract. The loop's invariant: the entries before i are written. Assumes nothing.
+use mathlib.Core.Path.{_≡_, refl, sym}
 use mathlib.Core.List.{map}
 use Prim.Native.Nat.{_+_, _-_, _≤_}
 use Rattle.laws.specs.Laid.{laidOver}
@@ -7,7 +7,6 @@ use Rattle.adjacency.specs.Adjacency.{from, entry, cam}
 use lib.ListN.{length, length-set}
 use Rattle.adjacency.proofs.Writing.{cam-more, laid-none}
 use native.Mathlib.Omega.{arith}
-use borrow.Author.Needs.{needs}
 use Rattle.adjacency.proofs.write_cam.Statement.{statement}
 use Rattle.adjacency.proofs.write_cam.Tie as tie
 

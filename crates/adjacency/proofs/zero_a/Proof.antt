@@ -1,19 +1,17 @@
--- `adjacency::zero_a` meets its contract. Assumes nothing.
-use mathlib.Core.Path.{_≡_, refl, sym, ap, _∙_}
-use Prim.Native.Nat.{ℕ, _+_, _-_, _*_, _^_, _≤_, _<_}
-use lib.ListN.{length, getD}
+-- `adjacency::zero_a` meets its contract. The loop's invariant: x is what the entries up to i make. Assumes nothing.
+use Prim.Native.Nat.{_-_}
+use lib.ListN.{length}
 use Rattle.adjacency.specs.Made.{entry-at}
 use Rattle.adjacency.proofs.Mixing.{Ranked, ranked-none, ranked-more, ranked-fits, ranked-all}
 use native.Mathlib.Omega.{arith}
-use borrow.Author.Needs.{needs}
 use Rattle.adjacency.proofs.zero_a.Statement.{statement}
 use Rattle.adjacency.proofs.zero_a.Tie as tie
 
 abbrev Inv-loop : tie.InvT-loop
-Inv-loop cam x₀ i₀ x i = Ranked cam i x
+Inv-loop cam m x₀ i₀ x i = Ranked cam i x
 
 abbrev μ-loop : tie.MeasureT-loop
-μ-loop cam x₀ i₀ x i = length cam - i
+μ-loop cam m x₀ i₀ x i = length cam - i
 
 loop-holds : tie.Need-loop-holds Inv-loop μ-loop
 loop-holds c = ranked-none _

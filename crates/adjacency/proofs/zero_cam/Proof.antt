@@ -1,10 +1,8 @@
--- `adjacency::zero_cam` meets its contract. Assumes nothing.
-use mathlib.Core.Path.{_≡_, refl, sym, ap, _∙_}
-use Prim.Native.Nat.{_-_, _%_, _≤_, _<_}
+-- `adjacency::zero_cam` meets its contract. The loop's invariant: the entries from i on are written, and v is what is left. Assumes nothing.
+use Prim.Native.Nat.{_-_, _<_}
 use native.Mathlib.Nat.{mod-lt}
 use Rattle.adjacency.proofs.Mixing.{Unranked, unranked-none, unranked-more, unranked-all}
 use native.Mathlib.Omega.{arith}
-use borrow.Author.Needs.{needs}
 use Rattle.adjacency.proofs.zero_cam.Statement.{statement}
 use Rattle.adjacency.proofs.zero_cam.Tie as tie
 

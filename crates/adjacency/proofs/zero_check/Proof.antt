@@ -1,13 +1,13 @@
--- `adjacency::zero_check` meets its contract. Assumes nothing.
+-- `adjacency::zero_check` meets its contract: a check that refuses answers for the whole table, and behind it the CAM is written and its edges checked. Assumes nothing.
 use mathlib.Core.Path.{_≡_, refl, sym, ap, _∙_}
 use Rattle.refusal.specs.Laws.{stops, goes-on, was-clear, clear-one, clear-both, at-least, at-most}
-use mathlib.Core.List.{List, [], _∷_, _++_}
+use mathlib.Core.List.{[], _∷_, _++_}
 use Prim.Native.Nat.{ℕ, _-_, _≤_}
 use lib.ListN.{length, take, drop, replicate}
 use Rattle.refusal.specs.Table.{Clear, row3}
 use Rattle.adjacency.specs.Adjacency.{zeroMost, row4, factorial, zeroCam}
 use Rattle.adjacency.specs.Zero.{zero-length, zero-entries}
-use Rattle.adjacency.specs.Made.{camFront, entries-clear}
+use Rattle.adjacency.specs.Made.{entries-clear}
 use Rattle.adjacency.proofs.Sizes.{right}
 use Rattle.adjacency.proofs.Behind.{front-length, array-length, front-is, front-laid}
 use native.Mathlib.Omega.{arith}

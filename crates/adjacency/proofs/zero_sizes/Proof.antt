@@ -1,5 +1,5 @@
--- `adjacency::zero_sizes` meets its contract. Assumes nothing.
-use mathlib.Core.Path.{_≡_, refl, sym, ap, _∙_}
+-- `adjacency::zero_sizes` meets its contract: 3 is tested before 4, so that the factorial fits a word. Assumes nothing.
+use mathlib.Core.Path.{refl}
 use mathlib.Core.Logic.{inl, inr}
 use Prim.Native.Nat.{_-_}
 use Rattle.adjacency.specs.Adjacency.{row4, factorial}
