@@ -24,14 +24,14 @@ fn wide(x: u8) -> usize
 }
 
 // The ends of edge p.
-fn one(edges: &[u8], p: usize) -> usize
+pub fn one(edges: &[u8], p: usize) -> usize
     requires { ⌜ Edge (now edges) p ⌝ }
     ensures { λ r. ⌜ (r ≡ one (now (edges .entry)) p) × (r < 256) ⌝ }
 {
     wide(edges[2 * (p - 1)])
 }
 
-fn other(edges: &[u8], p: usize) -> usize
+pub fn other(edges: &[u8], p: usize) -> usize
     requires { ⌜ Edge (now edges) p ⌝ }
     ensures { λ r. ⌜ (r ≡ other (now (edges .entry)) p) × (r < 256) ⌝ }
 {
