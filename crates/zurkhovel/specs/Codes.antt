@@ -9,7 +9,9 @@ use Prim.Native.Nat.{ℕ}
 use Rattle.refusal.specs.Table.{Outcome, Answered, Gives}
 use Rattle.code.specs.Limits.{size, valence}
 use Rattle.code.specs.Code.{codeRows, decode}
+use Rattle.tree.specs.Skeleton.{rooted}
 use Rattle.skeleton.specs.Edges.{edgeRows}
+use Rattle.form.specs.Form.{formRows}
 
 -- a right rooted code: nothing is written
 abbrev pub CheckCode : List ℕ → Outcome ℕ → Type 0
@@ -22,3 +24,15 @@ DecodeCode c old new o = Gives (codeRows size valence c) (λ E. E ≡ decode c) 
 -- N vertices, the edge list E and the root r: nothing is written
 abbrev pub CheckEdges : ℕ → List ℕ → ℕ → Outcome ℕ → Type 0
 CheckEdges N E r o = Answered (edgeRows size valence N E r) (λ n. n ≡ 0) o
+
+-- the rooted code at the vertex r of the skeleton with N vertices and the edges E
+abbrev pub RootedCode : ℕ → List ℕ → ℕ → List ℕ → List ℕ → Outcome ℕ → Type 0
+RootedCode N E r old new o = Gives (edgeRows size valence N E r) (λ c. c ≡ rooted N E r) old new o
+
+-- its N-tuple code, or its centred code; no root is named
+abbrev pub FormCode : (ℕ → List ℕ → List ℕ → Type 0) → ℕ → List ℕ → List ℕ → List ℕ → Outcome ℕ → Type 0
+FormCode form N E old new o = Gives (edgeRows size valence N E 1) (form N E) old new o
+
+-- the edges of a code of either form
+abbrev pub DecodeForm : (ℕ → List ℕ → List ℕ → Type 0) → List ℕ → List ℕ → List ℕ → Outcome ℕ → Type 0
+DecodeForm form c old new o = Gives (formRows form size valence c) (λ E. E ≡ decode c) old new o

@@ -1,0 +1,35 @@
+-- `zurkhovel::codes::centred_code` keeps its promise. Assumes nothing.
+use mathlib.Core.Path.{refl}
+use Prim.Native.Nat.{ℕ}
+use mathlib.Core.List.{List}
+use denote.Ref.{now}
+use borrow.Author.Needs.{needs}
+use Rattle.refusal.specs.Table.{Clear}
+use Rattle.refusal.specs.Laws.{was-clear, was-lowest, refused-first}
+use Rattle.code.specs.Limits.{size, valence}
+use Rattle.skeleton.specs.Edges.{edgeRows}
+use Rattle.form.specs.Form.{centred}
+use Rattle.form.specs.Forms.{centred-form}
+use Rattle.zurkhovel.proofs.Coded.{skeleton-of, form-short, form-given}
+use Rattle.zurkhovel.proofs.codes.centred_code.Statement.{statement}
+use Rattle.zurkhovel.proofs.codes.centred_code.Tie as tie
+
+abbrev start : tie.After-enum-told → tie.Start
+start c = c .before .before .before .before .before
+
+-- what is known behind the check
+clear : (c : tie.After-enum-told) → Clear (edgeRows size valence (start c .args .n) (now (start c .args .edges)) 1)
+clear c = was-clear (c .before .before .check .ensures) (c .enum-told .given .1)
+
+pub centred-code-spec : {M : Type 1} → statement M
+centred-code-spec =
+    tie.close
+    (tie.spec
+    (λ c κs. search needs)
+    (λ c. search needs)
+    (λ c. refused-first refl (was-lowest (c .before .before .before .check .ensures) (c .before .k .given .1)) refl)
+    (λ c. search needs)
+    (λ c. let d = c .before in form-short (start d .args .n) (now (start d .args .edges)) 1 (clear d) centred centred-form (c .if1 .taken) refl)
+    (λ c κs. let d = c .before .before in (skeleton-of (start d .args .n) (now (start d .args .edges)) 1 (clear d), c .before .if1 .left))
+    (λ c. search needs)
+    (λ c. let d = c .before .before .before .before .before in form-given (start d .args .n) (now (start d .args .edges)) 1 (clear d) centred centred-form (c .before .before .before .before .if1 .left) (c .before .before .centred .ensures)))
