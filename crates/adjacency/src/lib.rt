@@ -262,13 +262,11 @@ fn column(i: usize, b: u64, out: &mut [u8]) -> usize
     requires { ⌜ (i < aMost) × (2 * length (rows 1 i b) ≤ length (now out)) ⌝ }
     ensures { λ r. ⌜ Column i b (now (out .entry)) r (now (out .exit)) ⌝ }
 {
-    let mut v = b;
     let mut k: usize = 0;
     let mut r: usize = 1;
     while r <= i {
-        let bit = v % 2;
+        let bit = (b >> (r - 1)) % 2;
         let row = r;
-        v /= 2;
         r += 1;
         if bit == 1 {
             out[k] = row as u8;
