@@ -2,7 +2,8 @@
 use mathlib.Core.Path.{_≡_, refl, ap, sym, _∙_}
 use mathlib.Core.List.{List, [], _∷_, _++_, append-assoc, append-nil}
 use Prim.Native.Nat.{ℕ, suc, _+_, _-_, _*_, _/_, _%_, _^_, _≤_, _<_}
-use native.Mathlib.Nat.{div-div-eq-div-mul, mul-comm}
+use native.Mathlib.Nat.{div-div-eq-div-mul, div-one, mul-comm}
+use lib.Pow.{shr-shr}
 use native.Mathlib.Omega.{arith}
 use native.Mathlib.Numerals.{add-one}
 use lib.Seq.{take-all}
@@ -24,38 +25,41 @@ unfolding tied
 tied-more v r [] = refl
 tied-more v r (x ∷ rs) = ap (λ l. x ∷ v ∷ l) (tied-more v r rs)
 
--- the rows below r are written, and v holds the bits from r on
-pub record Filling (i b : ℕ) (old : List ℕ) (r v k : ℕ) (out : List ℕ) : Type 0 where
+-- the rows below r are written
+pub record Filling (i b : ℕ) (old : List ℕ) (r k : ℕ) (out : List ℕ) : Type 0 where
   pub done : List ℕ
   pub low : 1 ≤ r
   pub high : r ≤ i + 1
-  pub rest : rows 1 i b ≡ done ++ rows r (i + 1 - r) v
+  pub rest : rows 1 i b ≡ done ++ rows r (i + 1 - r) (b / 2 ^ (r - 1))
   pub count : k ≡ 2 * length done
   pub long : length out ≡ length old
   pub lies : out ≡ laidOver (tied (suc i) done) old
 
-pub filling-none : (i b : ℕ) (old : List ℕ) → Filling i b old 1 b 0 old
+pub filling-none : (i b : ℕ) (old : List ℕ) → Filling i b old 1 0 old
 unfolding tied
 filling-none i b old =
     record {
       done = [];
       low = omega arith;
       high = omega arith;
-      rest = let e : i + 1 - 1 ≡ i = omega arith in rw e refl;
+      rest = let e : i + 1 - 1 ≡ i = omega arith in rw (e, div-one b) refl;
       count = refl;
       long = refl;
       lies = sym (laid-none old);
     }
 
-module _ {i b : ℕ} {old : List ℕ} {r v k : ℕ} {out : List ℕ} (f : Filling i b old r v k out) (h : r ≤ i) where
+module _ {i b : ℕ} {old : List ℕ} {r k : ℕ} {out : List ℕ} (f : Filling i b old r k out) (h : r ≤ i) where
   -- one bit less
-  shorter : rows r (i + 1 - r) v ≡ put (v % 2) r (rows (r + 1) (i + 1 - (r + 1)) (v / 2))
+  shorter : rows r (i + 1 - r) (b / 2 ^ (r - 1)) ≡ put (b / 2 ^ (r - 1) % 2) r (rows (r + 1) (i + 1 - (r + 1)) (b / 2 ^ (r + 1 - 1)))
   unfolding rows
-  shorter = let e : i + 1 - r ≡ suc (i + 1 - (r + 1)) = omega arith in rw (e, add-one r)
+  shorter =
+      let e : i + 1 - r ≡ suc (i + 1 - (r + 1)) = omega arith in
+      let l : r + 1 - 1 ≡ r - 1 + 1 = omega (arith, f .low) in
+      rw (l, ← shr-shr b (r - 1) 1, e, add-one r)
 
-  pub filling-zero : (v % 2 ≡ 1 → ⊥) → Filling i b old (r + 1) (v / 2) k out
+  pub filling-zero : (b / 2 ^ (r - 1) % 2 ≡ 1 → ⊥) → Filling i b old (r + 1) k out
   filling-zero n =
-      let z : v % 2 ≡ 0 = omega arith in
+      let z : b / 2 ^ (r - 1) % 2 ≡ 0 = omega arith in
       record {
         done = f .done;
         low = omega arith;
@@ -66,14 +70,14 @@ module _ {i b : ℕ} {old : List ℕ} {r v k : ℕ} {out : List ℕ} (f : Fillin
         lies = f .lies;
       }
 
-  module _ (room : 2 * length (rows 1 i b) ≤ length old) (o : v % 2 ≡ 1) where
-    split : rows 1 i b ≡ (f .done ++ (r ∷ [])) ++ rows (r + 1) (i + 1 - (r + 1)) (v / 2)
+  module _ (room : 2 * length (rows 1 i b) ≤ length old) (o : b / 2 ^ (r - 1) % 2 ≡ 1) where
+    split : rows 1 i b ≡ (f .done ++ (r ∷ [])) ++ rows (r + 1) (i + 1 - (r + 1)) (b / 2 ^ (r + 1 - 1))
     split = f .rest ∙ ap (λ l. f .done ++ l) (shorter ∙ put-one r _ o) ∙ sym (append-assoc (f .done) (r ∷ []) _)
 
     pub filling-room : k + 1 < length old
     filling-room = let e = ap length split ∙ length-append (f .done ++ (r ∷ [])) _ in let d = length-append (f .done) (r ∷ []) in omega (arith, f .count)
 
-    pub filling-one : Filling i b old (r + 1) (v / 2) (k + 2) (set (set out k r) (k + 1) (i + 1))
+    pub filling-one : Filling i b old (r + 1) (k + 2) (set (set out k r) (k + 1) (i + 1))
     filling-one =
         let l : length (tied (suc i) (f .done)) ≡ k = tied-length (suc i) (f .done) ∙ sym (f .count) in
         record {
@@ -86,7 +90,7 @@ module _ {i b : ℕ} {old : List ℕ} {r v k : ℕ} {out : List ℕ} (f : Fillin
           lies = rw (f .lies, add-one i) (laid-two (tied (suc i) (f .done)) old k r (suc i) l filling-room ∙ ap (λ c. laidOver c old) (sym (tied-more (suc i) r (f .done))));
         }
 
-pub filling-all : {i b : ℕ} {old : List ℕ} {r v k : ℕ} {out : List ℕ} → Filling i b old r v k out → i < r → Column i b old k out
+pub filling-all : {i b : ℕ} {old : List ℕ} {r k : ℕ} {out : List ℕ} → Filling i b old r k out → i < r → Column i b old k out
 unfolding rows
 filling-all {i} {b} {r = r} f h =
     let e : i + 1 - r ≡ 0 = omega arith in

@@ -1,15 +1,15 @@
 -- Document 01: "A numbering by code is always physical". What a digit code decodes to is what its list of parents, as a CAM, makes.
 -- Assumes nothing.
-use mathlib.Core.Path.{_≡_, refl, ap, sym, _∙_}
+use mathlib.Core.Path.{_≡_, refl, ap}
 use mathlib.Core.Logic.{⊎-elim}
 use mathlib.Core.List.{List, [], _∷_, _++_, List·Memᴰ, List·Memᴰ·head, List·Memᴰ·tail, List·Memᴰ·not-nil, List·Memᴰ·cases-cons, List·Memᴰ·append-cases}
-use Prim.Native.Nat.{ℕ, zero, suc, _+_, _-_, _*_, _≤_, _<_}
+use Prim.Native.Nat.{ℕ, zero, suc, _-_, _≤_}
 use native.Mathlib.Omega.{arith}
 use lib.ListN.{length, replicate}
 use Rattle.code.specs.Code.{edgesFrom, decode}
 use Rattle.code.specs.Ends.{Ends}
 use Rattle.tree.specs.Theorems.{decoded-tree}
-use Rattle.adjacency.specs.Adjacency.{Physical, entryEdges, camEdges}
+use Rattle.adjacency.specs.Adjacency.{Physical, entryEdges}
 use Rattle.adjacency.specs.Entries.{Entries, none, more, cam-physical}
 use Rattle.adjacency.specs.Made.{made-length}
 

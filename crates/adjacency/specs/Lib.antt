@@ -10,12 +10,13 @@ pub mod Zero
 pub mod Made
 pub mod Reorder
 pub mod Coded
-pub mod Theorems
 pub mod Parts
 pub mod Ascend
 pub mod Sorted
 pub mod Apart
 pub mod Power
 pub mod Taken
-pub mod TheoremsA
+pub mod Listed
+pub mod Accepted
+pub mod Theorems
 pub mod ByCode

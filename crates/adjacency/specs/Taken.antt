@@ -80,7 +80,7 @@ lower-other F u n Asc.none = refl
 lower-other {v = v} F u n (Asc.more {x = x} {S} a b s) =
     lower-pass x v u (tied v S ++ F) (λ e. omega arith) (λ e. absurd (n e)) ∙ lower-other F u n s
 
-row-asc : (i b : ℕ) → Asc (suc i) 1 (rows 1 i b)
+pub row-asc : (i b : ℕ) → Asc (suc i) 1 (rows 1 i b)
 row-asc i b = let e : 1 + i ≡ suc i = omega arith in rw e at (rows-asc 1 i b)
 
 lower-low : (i : ℕ) (bs : List ℕ) (v : ℕ) → v ≤ i → lower (columns i bs) v ≡ []

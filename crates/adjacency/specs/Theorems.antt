@@ -1,37 +1,23 @@
--- CAM and 0A there and back. Each theorem stands under a plain sentence. Those of A0 are in `TheoremsA`. Assumes nothing.
-use mathlib.Core.Path.{_≡_, refl, ap, sym, _∙_}
-use mathlib.Core.Logic.{_↔_}
-use mathlib.Core.List.{List, [], _∷_, List·Permᴰ}
-use Prim.Native.Nat.{ℕ, suc, _-_, _≤_, _<_}
+-- CAM, 0A and A0 there and back. Each theorem stands under a plain sentence. A skeleton decoded has the same arcs, in another order. Assumes nothing.
+use mathlib.Core.Path.{_≡_, ap, sym, _∙_}
+use mathlib.Core.List.{List, List·Permᴰ, List·Permᴰ·trans, Permᴰ·symm}
+use Prim.Native.Nat.{ℕ, suc, _-_, _*_, _/_, _^_, _<_}
 use native.Mathlib.Omega.{arith}
 use lib.ListN.{length}
-use Rattle.refusal.specs.Table.{Clear, row3}
-use Rattle.refusal.specs.Laws.{clear-one, clear-both, clear-left, never, others}
+use Rattle.refusal.specs.Table.{Clear}
+use Rattle.laws.specs.Perms.{perm-length}
 use Rattle.tree.specs.Skeleton.{arcs, IsSkeleton}
-use Rattle.adjacency.specs.Adjacency.{Physical, cam, camEdges, zeroA, factorial, zeroCam, camRows, zeroRows}
+use Rattle.adjacency.specs.Adjacency.{aZero, aEdges, aRows, Physical, cam, camEdges, zeroA, factorial, zeroCam, camRows, zeroRows}
 use Rattle.adjacency.specs.Entries.{Entries, cam-again, cam-physical}
 use Rattle.adjacency.specs.Columns.{cam-edges}
 use Rattle.adjacency.specs.Plain.{plain}
 use Rattle.adjacency.specs.Coded.{cam-entries, cam-length}
-use Rattle.adjacency.specs.Made.{made-length, entries-clear, cam-accepted}
+use Rattle.adjacency.specs.Made.{made-length, cam-accepted}
 use Rattle.adjacency.specs.Reorder.{reordered}
+use Rattle.adjacency.specs.Accepted.{zero-accepted, a-accepted, arcs-length}
+use Rattle.adjacency.specs.Listed.{Listed, cam-listed, a-listed}
 use Rattle.adjacency.specs.Zero as Zero
-
--- a 0A is accepted just where it is in its range and the CAM that it stands for is accepted
-pub zero-accepted : (most R N x : ℕ) → Clear (zeroRows most R N x) ↔ ((x < factorial (N - 1)) × Clear (camRows most R N (zeroCam N x)))
-zero-accepted most R N x = (there, back)
-  where
-    there : Clear (zeroRows most R N x) → (x < factorial (N - 1)) × Clear (camRows most R N (zeroCam N x))
-    there k =
-        let small : factorial (N - 1) ≤ x → ⊥ = λ l. never (others k) 0 (refl, l) in
-        let three = clear-left (row3 most N ∷ []) _ k in
-        let r = cam-accepted most R N (zeroCam N x) in
-        (omega arith, clear-both three (clear-both (clear-one (λ p a. a .1 (Zero.zero-length N x))) (clear-both (entries-clear (Zero.zero-entries N x)) (others (others k)))))
-
-    back : (x < factorial (N - 1)) × Clear (camRows most R N (zeroCam N x)) → Clear (zeroRows most R N x)
-    back h =
-        let three = clear-left (row3 most N ∷ []) _ (h .1) in
-        clear-both three (clear-both (clear-one (λ p a. let n : ⊥ = omega (arith, a .1, h .0) in n)) (others (others (others (h .1)))))
+use Rattle.adjacency.specs.Taken as Taken
 
 -- a skeleton in a physical numbering
 module _ (most R N : ℕ) (E : List ℕ) (s : IsSkeleton most R N E) (h : Physical N E) where
@@ -73,6 +59,16 @@ zero-code most R N x k =
     let (s, p, e) = cam-code most R N (zeroCam N x) m in
     (s, p, ap zeroA e ∙ Zero.zero-back N x l)
 
+-- the edges are (lower, higher) pairs in order of the higher, then of the lower
+pub cam-order : (most R N : ℕ) (c : List ℕ) → Clear (camRows most R N c) → Listed 0 0 (camEdges c)
+cam-order most R N c k = let (e, i, s) = cam-accepted most R N c .0 k in cam-listed c i
+
+pub zero-order : (N x : ℕ) → Listed 0 0 (camEdges (zeroCam N x))
+zero-order N x = cam-listed (zeroCam N x) (Zero.zero-entries N x)
+
+pub a-order : (N x : ℕ) → Listed 0 0 (aEdges N x)
+a-order = a-listed
+
 -- 0A is one-to-one from the lists of N-1 entries 1 <= CAM(i) <= i onto 0 to (N-1)!-1
 pub zero-range : (c : List ℕ) → Entries 1 c → zeroA c < factorial (length c)
 zero-range = Zero.zero-range
@@ -82,3 +78,30 @@ zero-one c d h k l e = sym (Zero.zero-again c h) ∙ (rw (l, e) (Zero.zero-again
 
 pub zero-onto : (N x : ℕ) → x < factorial (N - 1) → Entries 1 (zeroCam N x) × (length (zeroCam N x) ≡ N - 1) × (zeroA (zeroCam N x) ≡ x)
 zero-onto N x h = (Zero.zero-entries N x, Zero.zero-length N x, Zero.zero-back N x h)
+
+-- a skeleton, in any numbering
+module _ (most R N : ℕ) (E : List ℕ) (s : IsSkeleton most R N E) where
+  -- its A0 decodes to its edges, each as (lower, higher), in order of the higher and then of the lower
+  pub a-decode : List·Permᴰ (arcs E) (arcs (aEdges N (aZero N E)))
+  a-decode = Taken.a-edges s
+
+  -- and is not refused
+  pub a-read : Clear (aRows most R N (aZero N E))
+  a-read =
+      let l = Taken.a-range s in
+      let o = Taken.a-ones N (aZero N E) l in
+      let p = perm-length a-decode in
+      let e : length (aEdges N (aZero N E)) ≡ length E = omega (arith, arcs-length E, arcs-length (aEdges N (aZero N E)), s .tree .edges) in
+      a-accepted most R N (aZero N E) .1 (l, reordered e a-decode s)
+
+-- an accepted A0 makes a skeleton whose A0 it is
+pub a-code : (most R N x : ℕ) → Clear (aRows most R N x) → IsSkeleton most R N (aEdges N x) × (aZero N (aEdges N x) ≡ x)
+a-code most R N x k = let (l, s) = a-accepted most R N x .0 k in (s, Taken.a-back N x l)
+
+-- A0 is one-to-one onto 0 to 2^(N(N-1)/2)-1, for any edges (lower, higher) by column: each number of the range is the A0 of the edges that it makes
+pub a-onto : (N x : ℕ) → x < 2 ^ (N * (N - 1) / 2) → aZero N (aEdges N x) ≡ x
+a-onto = Taken.a-back
+
+-- and skeletons with one A0 have the same edges
+pub a-one : (most R N : ℕ) (E F : List ℕ) → IsSkeleton most R N E → IsSkeleton most R N F → aZero N E ≡ aZero N F → List·Permᴰ (arcs E) (arcs F)
+a-one most R N E F s t e = List·Permᴰ·trans (rw e at (a-decode most R N E s)) (Permᴰ·symm (a-decode most R N F t))

@@ -2,6 +2,14 @@
 //
 // What a call lends, and 15, are not looked at here. An edge list that is coded has been accepted by `skeleton::check`.
 use refusal::Check;
+
+// The vertices that a form takes at most: a CAM, a 0A and an A0.
+const SIZE: usize = 64;
+
+const ZERO_SIZE: usize = 21;
+
+const A_SIZE: usize = 11;
+
 ghost use mathlib.Core.Path.{_≡_};
 ghost use mathlib.Core.List.{List, [], _∷_};
 ghost use Prim.Native.Nat.{ℕ, _+_, _-_, _*_, _/_, _^_, _≤_, _<_};
@@ -90,7 +98,7 @@ fn cam_sizes(n: usize, cam: &[u8]) -> Check
     if n == 0 {
         return Check::Refuse(3, 0);
     }
-    if 64 < n {
+    if SIZE < n {
         return Check::Refuse(3, 0);
     }
     if cam.len() != n - 1 {
@@ -138,7 +146,7 @@ fn made(n: usize, cam: &[u8]) -> Check
     let mut edges = [0u8; 126];
     let m = 2 * cam.len();
     cam_edges(cam, &mut edges[..m]);
-    skeleton::check(64, n, &edges[..m], 1)
+    skeleton::check(SIZE, n, &edges[..m], 1)
 }
 
 // Every refusal of a CAM.
@@ -204,7 +212,7 @@ fn zero_sizes(n: usize, x: u64) -> Check
     if n == 0 {
         return Check::Refuse(3, 0);
     }
-    if 21 < n {
+    if ZERO_SIZE < n {
         return Check::Refuse(3, 0);
     }
     if factorial(n - 1) <= x {
@@ -262,13 +270,11 @@ fn column(i: usize, b: u64, out: &mut [u8]) -> usize
     requires { ⌜ (i < aMost) × (2 * length (rows 1 i b) ≤ length (now out)) ⌝ }
     ensures { λ r. ⌜ Column i b (now (out .entry)) r (now (out .exit)) ⌝ }
 {
-    let mut v = b;
     let mut k: usize = 0;
     let mut r: usize = 1;
     while r <= i {
-        let bit = v % 2;
+        let bit = (b >> (r - 1)) % 2;
         let row = r;
-        v /= 2;
         r += 1;
         if bit == 1 {
             out[k] = row as u8;
@@ -302,7 +308,7 @@ fn a_sizes(n: usize, x: u64) -> Check
     if n == 0 {
         return Check::Refuse(3, 0);
     }
-    if 11 < n {
+    if A_SIZE < n {
         return Check::Refuse(3, 0);
     }
     if (1u64 << (n * (n - 1) / 2)) <= x {
@@ -323,5 +329,5 @@ pub fn a_check(n: usize, x: u64) -> Check
     }
     let mut edges = [0u8; 20];
     a_edges(n, x, &mut edges[..2 * (n - 1)]);
-    skeleton::check(11, n, &edges[..2 * (n - 1)], 1)
+    skeleton::check(A_SIZE, n, &edges[..2 * (n - 1)], 1)
 }

@@ -7,7 +7,7 @@ use Rattle.refusal.specs.Laws.{stops, goes-on, was-clear, at-least, at-most}
 use Rattle.code.specs.Limits.{valence}
 use Rattle.adjacency.specs.Adjacency.{aMost, aEdges, madeRows}
 use Rattle.adjacency.specs.Made.{edgeFront}
-use Rattle.adjacency.specs.TheoremsA.{aFront, a-long, a-front}
+use Rattle.adjacency.specs.Accepted.{aFront, a-long, a-front}
 use Rattle.adjacency.proofs.Behind.{front-length, array-length, front-is, front-laid, behind}
 use native.Mathlib.Omega.{arith}
 use borrow.Author.Needs.{needs}

@@ -1,4 +1,4 @@
--- `adjacency::column` meets its contract. The loop's invariant: the rows below r are written, and v holds the bits from r on. Assumes nothing.
+-- `adjacency::column` meets its contract. The loop's invariant: the rows below r are written. Assumes nothing.
 use Prim.Native.Nat.{_+_, _-_, _<_}
 use lib.ListN.{length, length-set}
 use Rattle.adjacency.proofs.Filling.{Filling, filling-none, filling-zero, filling-one, filling-room, filling-all}
@@ -7,17 +7,23 @@ use Rattle.adjacency.proofs.column.Statement.{statement}
 use Rattle.adjacency.proofs.column.Tie as tie
 
 abbrev Inv-loop : tie.InvT-loop
-Inv-loop i b out₀ v₀ k₀ r₀ out v k r = Filling i b out₀ r v k out
+Inv-loop i b out₀ k₀ r₀ out k r = Filling i b out₀ r k out
 
 abbrev μ-loop : tie.MeasureT-loop
-μ-loop i b out₀ v₀ k₀ r₀ out v k r = i + 1 - r
+μ-loop i b out₀ k₀ r₀ out k r = i + 1 - r
 
 -- a one that is read has room
 room : (c : tie.Then1 Inv-loop μ-loop) → c .before .before .loop .k + 1 < length (c .before .before .before .args .out .now)
-room c = filling-room (c .before .before .loop .inv) (omega arith) (c .before .before .before .pre .1) (omega arith)
+room c = filling-room (c .before .before .loop .inv) (omega arith) (c .before .before .before .pre .1) (c .if1 .taken)
 
 loop-holds : tie.Need-loop-holds Inv-loop μ-loop
 loop-holds c = filling-none _ _ _
+
+sub-bit : tie.Need-sub-bit Inv-loop μ-loop
+sub-bit c = omega arith
+
+shr-bit : tie.Need-shr-bit Inv-loop μ-loop
+shr-bit c = omega arith
 
 add-r : tie.Need-add-r Inv-loop μ-loop
 add-r c = omega arith
@@ -49,7 +55,7 @@ loop-less c = omega arith
 loop-again : tie.Need-loop-again Inv-loop μ-loop
 loop-again c =
     let l = c .before .before in
-    filling-one (l .loop .inv) (omega arith) (l .before .pre .1) (omega arith)
+    filling-one (l .loop .inv) (omega arith) (l .before .pre .1) (c .if1 .taken)
 
 loop-less-2 : tie.Need-loop-less-2 Inv-loop μ-loop
 loop-less-2 c = omega arith
@@ -70,6 +76,8 @@ column-spec =
     Inv-loop
     μ-loop
     loop-holds
+    sub-bit
+    shr-bit
     add-r
     cast-out
     slice-write-out

@@ -1,7 +1,7 @@
--- A0 there and back. Each theorem stands under a plain sentence. Those of CAM and 0A are in `Theorems`. Assumes nothing.
+-- What an accepted 0A and an accepted A0 are. What an accepted CAM is, is in `Made`. Assumes nothing.
 use mathlib.Core.Path.{_≡_, refl}
 use mathlib.Core.Logic.{_↔_, ⊎-elim}
-use mathlib.Core.List.{List, [], _∷_, List·Permᴰ, List·Permᴰ·trans, Permᴰ·symm}
+use mathlib.Core.List.{List, [], _∷_}
 use Prim.Native.Nat.{ℕ, _-_, _*_, _/_, _^_, _≤_, _<_}
 use native.Mathlib.Decide.{ℕ-discrete}
 use native.Mathlib.Omega.{arith}
@@ -9,15 +9,33 @@ use lib.Count.{ones}
 use lib.ListN.{length}
 use Rattle.refusal.specs.Table.{Row, Clear, Outside, row3}
 use Rattle.refusal.specs.Laws.{clear-one, clear-both, clear-left, never, others, at-least}
-use Rattle.laws.specs.Perms.{perm-length}
 use Rattle.tree.specs.Skeleton.{arcs, IsSkeleton}
 use Rattle.skeleton.specs.Edges.{row6}
 use Rattle.skeleton.specs.Theorems.{accepted}
-use Rattle.adjacency.specs.Adjacency.{aZero, aEdges, row4, row5-ones, madeRows, aRows}
+use Rattle.adjacency.specs.Adjacency.{factorial, zeroCam, aEdges, row4, row5-ones, madeRows, camRows, zeroRows, aRows}
 use Rattle.adjacency.specs.Plain.{plain-at}
-use Rattle.adjacency.specs.Made.{edgeFront}
-use Rattle.adjacency.specs.Reorder.{reordered}
+use Rattle.adjacency.specs.Made.{entries-clear, edgeFront}
+use Rattle.adjacency.specs.Zero as Zero
 use Rattle.adjacency.specs.Taken as Taken
+
+-- ---- 0A
+
+-- a 0A is accepted just where it is in its range and the CAM that it stands for is accepted
+pub zero-accepted : (most R N x : ℕ) → Clear (zeroRows most R N x) ↔ ((x < factorial (N - 1)) × Clear (camRows most R N (zeroCam N x)))
+zero-accepted most R N x = (there, back)
+  where
+    there : Clear (zeroRows most R N x) → (x < factorial (N - 1)) × Clear (camRows most R N (zeroCam N x))
+    there k =
+        let small : factorial (N - 1) ≤ x → ⊥ = λ l. never (others k) 0 (refl, l) in
+        let three = clear-left (row3 most N ∷ []) _ k in
+        (omega arith, clear-both three (clear-both (clear-one (λ p a. a .1 (Zero.zero-length N x))) (clear-both (entries-clear (Zero.zero-entries N x)) (others (others k)))))
+
+    back : (x < factorial (N - 1)) × Clear (camRows most R N (zeroCam N x)) → Clear (zeroRows most R N x)
+    back h =
+        let three = clear-left (row3 most N ∷ []) _ (h .1) in
+        clear-both three (clear-both (clear-one (λ p a. let n : ⊥ = omega (arith, a .1, h .0) in n)) (others (others (others (h .1)))))
+
+-- ---- A0
 
 -- 3, 4 and 5 of an A0
 abbrev pub aFront : ℕ → ℕ → ℕ → List Row
@@ -64,35 +82,8 @@ a-accepted most R N x = (there, back)
         clear-both (clear-left (row3 most N ∷ []) _ k)
         (clear-both (clear-one (λ p a. let n : ⊥ = omega (arith, a .1) in n)) (clear-both (clear-one (λ p a. a .1 e)) (others (others (others k)))))
 
-arcs-length : (F : List ℕ) → length (arcs F) ≡ 2 * (length F / 2)
+pub arcs-length : (F : List ℕ) → length (arcs F) ≡ 2 * (length F / 2)
 unfolding arcs
 arcs-length [] = refl
 arcs-length (a ∷ []) = refl
 arcs-length (a ∷ b ∷ F) = let e = arcs-length F in omega arith
-
--- a skeleton, in any numbering
-module _ (most R N : ℕ) (E : List ℕ) (s : IsSkeleton most R N E) where
-  -- its A0 decodes to its edges, each as (lower, higher), in order of the higher and then of the lower
-  pub a-decode : List·Permᴰ (arcs E) (arcs (aEdges N (aZero N E)))
-  a-decode = Taken.a-edges s
-
-  -- and is not refused
-  pub a-read : Clear (aRows most R N (aZero N E))
-  a-read =
-      let l = Taken.a-range s in
-      let o = Taken.a-ones N (aZero N E) l in
-      let p = perm-length a-decode in
-      let e : length (aEdges N (aZero N E)) ≡ length E = omega (arith, arcs-length E, arcs-length (aEdges N (aZero N E)), s .tree .edges) in
-      a-accepted most R N (aZero N E) .1 (l, reordered e a-decode s)
-
--- an accepted A0 makes a skeleton whose A0 it is
-pub a-code : (most R N x : ℕ) → Clear (aRows most R N x) → IsSkeleton most R N (aEdges N x) × (aZero N (aEdges N x) ≡ x)
-a-code most R N x k = let (l, s) = a-accepted most R N x .0 k in (s, Taken.a-back N x l)
-
--- A0 is one-to-one onto 0 to 2^(N(N-1)/2)-1, for any edges (lower, higher) by column: each number of the range is the A0 of the edges that it makes
-pub a-onto : (N x : ℕ) → x < 2 ^ (N * (N - 1) / 2) → aZero N (aEdges N x) ≡ x
-a-onto = Taken.a-back
-
--- and skeletons with one A0 have the same edges
-pub a-one : (most R N : ℕ) (E F : List ℕ) → IsSkeleton most R N E → IsSkeleton most R N F → aZero N E ≡ aZero N F → List·Permᴰ (arcs E) (arcs F)
-a-one most R N E F s t e = List·Permᴰ·trans (rw e at (a-decode most R N E s)) (Permᴰ·symm (a-decode most R N F t))
