@@ -6,7 +6,7 @@ use Prim.Native.Nat.{ℕ, suc, _-_, _<_}
 use native.Mathlib.Omega.{arith}
 use lib.ListN.{length, getD, drop}
 use Rattle.laws.specs.Order.{_≽_}
-use Rattle.laws.specs.Part.{part}
+use Rattle.laws.specs.Part.{part, part-length}
 use Rattle.laws.specs.Sorting.{refl≽}
 use Rattle.code.specs.Code.{codes}
 use Rattle.code.specs.Search.{Known}
@@ -44,6 +44,13 @@ module _ {c ends deep : List ℕ} {u v : ℕ} (k : Known c ends 0) (d : Deep c d
 
   pub depths-differ : (getD deep u 0 ≡ getD deep v 0 → ⊥) → Tells c (suc u) (suc v) false
   depths-differ n = different (λ h. n (sym (depth-is u in-u) ∙ h .0 ∙ depth-is v in-v))
+
+  pub lengths-differ : (getD ends u 0 - u ≡ getD ends v 0 - v → ⊥) → Tells c (suc u) (suc v) false
+  lengths-differ n =
+      different (λ h. n (sym (long u in-u) ∙ ap length (sym (subtree-is u in-u) ∙ h .1 ∙ subtree-is v in-v) ∙ long v in-v))
+    where
+      long : (i : ℕ) → i < length c → length (part i (getD ends i 0) c) ≡ getD ends i 0 - i
+      long i h = part-length i (getD ends i 0) c (k .ending i (omega arith) h .within)
 
   -- by what the comparer says of the two parts
   module _ {o : Order} (said : o ≡ lex (part u (getD ends u 0) c) (part v (getD ends v 0) c)) where

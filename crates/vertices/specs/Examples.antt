@@ -14,3 +14,13 @@ deep = refl
 equal : classes (2 ∷ 2 ∷ 0 ∷ 0 ∷ 1 ∷ 0 ∷ []) ≡ 1 ∷ 2 ∷ 3 ∷ 3 ∷ 4 ∷ 3 ∷ []
 unfolding classes numbering classOf greatest alike? same? depths depthsFrom codes flatten ℕ-discrete
 equal = refl
+
+-- neopentane: its four ends as one class
+ends : classes (4 ∷ 0 ∷ 0 ∷ 0 ∷ 0 ∷ []) ≡ 1 ∷ 2 ∷ 2 ∷ 2 ∷ 2 ∷ []
+unfolding classes numbering classOf greatest alike? same? depths depthsFrom codes flatten ℕ-discrete
+ends = refl
+
+-- butane: equal subtree codes at different depths are two classes
+chain : classes (2 ∷ 1 ∷ 0 ∷ 0 ∷ []) ≡ 1 ∷ 2 ∷ 3 ∷ 4 ∷ []
+unfolding classes numbering classOf greatest alike? same? depths depthsFrom codes flatten ℕ-discrete
+chain = refl

@@ -2,6 +2,7 @@
 pub mod Numbering
 pub mod Appearance
 pub mod Vertices
+pub mod Depths
 pub mod Search
 pub mod Theorems
 pub mod Examples

@@ -35,7 +35,7 @@ fn depths_of(code: &[u8], deep: &mut [u8])
     }
 }
 
-// Whether the vertices of digits u and v have equal depth and equal subtree code.
+// Whether the vertices of digits u and v have equal depth and equal subtree code. Codes of different lengths are told apart unread.
 fn alike(code: &[u8], ends: &[u8], deep: &[u8], u: usize, v: usize) -> bool
     requires { ⌜ Known (now code) (now ends) 0 ⌝ }
     requires { ⌜ Deep (now code) (now deep) ⌝ }
@@ -50,6 +50,9 @@ fn alike(code: &[u8], ends: &[u8], deep: &[u8], u: usize, v: usize) -> bool
     }
     let a = ends[u] as usize;
     let b = ends[v] as usize;
+    if a - u != b - v {
+        return false;
+    }
     match compare(&code[u..a], &code[v..b]) {
         Order::Less => false,
         Order::Equal => true,

@@ -5,7 +5,7 @@ use denote.Ref.{now}
 use lib.ListN.{length, getD}
 use borrow.Author.Needs.{needs}
 use Rattle.code.specs.Parts.{Ending}
-use Rattle.vertices.proofs.Telling.{depths-differ, codes-differ, codes-agree, less-apart, greater-apart}
+use Rattle.vertices.proofs.Telling.{depths-differ, lengths-differ, codes-differ, codes-agree, less-apart, greater-apart}
 use Rattle.vertices.proofs.alike.Statement.{statement}
 use Rattle.vertices.proofs.alike.Tie as tie
 
@@ -35,19 +35,23 @@ alike-spec =
     (λ c. search needs)
     (λ c. omega (arith, c .shared-slice-known7 .given (start (c .before .before) .args .v)))
     (λ c. omega (arith, ending-u (c .before .before) .after))
-    (λ c. omega (arith, ending-u (c .before .before) .after))
-    (λ c. ending-u (c .before .before) .within)
-    (λ c. omega (arith, ending-v (c .before .before .before) .after))
-    (λ c. omega (arith, ending-v (c .before .before .before) .after))
-    (λ c. ending-v (c .before .before .before) .within)
+    (λ c. omega (arith, ending-v (c .before .before) .after))
+    (λ c. let s = start (c .before .before .before) in
+    lengths-differ (s .pre .0) (s .pre .1 .0) (s .pre .1 .1 .0) (s .pre .1 .1 .1) (c .if2 .taken))
+    (λ c. omega (arith, ending-u (c .before .before .before) .after))
+    (λ c. omega (arith, ending-u (c .before .before .before) .after))
+    (λ c. ending-u (c .before .before .before) .within)
+    (λ c. omega (arith, ending-v (c .before .before .before .before) .after))
+    (λ c. omega (arith, ending-v (c .before .before .before .before) .after))
+    (λ c. ending-v (c .before .before .before .before) .within)
     (λ c κs. search needs)
     (λ c. search needs)
     (λ c. search needs)
     (λ c. search needs)
-    (λ c. let s = start (c .before .before .before .before .before .before .before) in
+    (λ c. let s = start (c .before .before .before .before .before .before .before .before) in
     codes-differ (s .pre .0) (s .pre .1 .0) (s .pre .1 .1 .0) (s .pre .1 .1 .1) (c .before .before .compare .ensures) (less-apart (c .enum-told .given .1)))
-    (λ c. let e = c .before .before .before .before .before .before .before in
+    (λ c. let e = c .before .before .before .before .before .before .before .before in
     let s = start e in
     codes-agree (s .pre .0) (s .pre .1 .0) (s .pre .1 .1 .0) (s .pre .1 .1 .1) (c .before .before .compare .ensures) (e .if1 .left) (c .enum-told2 .given .1))
-    (λ c. let s = start (c .before .before .before .before .before .before .before) in
+    (λ c. let s = start (c .before .before .before .before .before .before .before .before) in
     codes-differ (s .pre .0) (s .pre .1 .0) (s .pre .1 .1 .0) (s .pre .1 .1 .1) (c .before .before .compare .ensures) (greater-apart (c .enum-told3 .given .1))))
