@@ -29,10 +29,10 @@ pub extern "C" fn zk_compare(a: &[u8], b: &[u8]) -> u32 {
 
 #[no_mangle]
 pub extern "C" fn zk_check_code(code: &[u8], place: &mut u64) -> u32 {
-    handed(zurkhovel::check_code(code), place)
+    handed(zurkhovel::codes::check_code(code), place)
 }
 
 #[no_mangle]
 pub extern "C" fn zk_decode_code(code: &[u8], out: &mut [u8], place: &mut u64) -> u32 {
-    handed(zurkhovel::decode_code(code, out), place)
+    handed(zurkhovel::codes::decode_code(code, out), place)
 }

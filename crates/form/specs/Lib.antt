@@ -1,2 +1,9 @@
 -- The forms of a code: N-tuple and centred. Assumes nothing.
 pub mod Form
+pub mod One
+pub mod Carried
+pub mod Forms
+pub mod Accepted
+pub mod Theorems
+pub mod Computed
+pub mod Figures

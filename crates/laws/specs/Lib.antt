@@ -2,6 +2,7 @@
 pub mod Order
 pub mod Sorting
 pub mod Laid
+pub mod Laying
 pub mod Perms
 pub mod Once
 pub mod Places

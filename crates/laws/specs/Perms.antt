@@ -30,7 +30,7 @@ module _ {A : Type 0} where
   front (a ∷ x) y z = List·Permᴰ·trans (List·Permᴰ·cons refl (front x y z)) (Permᴰ·symm (Permᴰ·middle a y (x ++ z)))
 
 -- whether a number is in a list
-pub decIn : (v : ℕ) (l : List ℕ) → Dec (List·Memᴰ v l)
+unfoldable pub decIn : (v : ℕ) (l : List ℕ) → Dec (List·Memᴰ v l)
 decIn v [] = no List·Memᴰ·not-nil
 decIn v (x ∷ l) = step (ℕ-discrete v x) (decIn v l)
   where

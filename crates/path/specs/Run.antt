@@ -11,12 +11,12 @@ use Rattle.laws.specs.Perms.{decIn}
 use Rattle.laws.specs.Once.{upTo, in-upTo, upTo-in}
 use Rattle.tree.specs.Skeleton.{Arc, arcs, IsTree}
 use Rattle.path.specs.Path.{IsLongest, Middles, SameMiddles, IsCentre}
-use Rattle.path.specs.Peel.{Two, Left, start, round, rounds, inmost}
+use Rattle.path.specs.Peel.{Two, Peels, Left, start, round, rounds, inmost}
 use Rattle.path.specs.Centre.{done, all-alike}
 
 module _ {X : Type 0} {P : X → Type 0} (d : (x : X) → Dec (P x)) where
   -- one of a list with P, if there is one
-  seek : (l : List X) → Dec ((x : X) × List·Memᴰ x l × P x)
+  unfoldable pub seek : (l : List X) → Dec ((x : X) × List·Memᴰ x l × P x)
   seek [] = no (λ s. List·Memᴰ·not-nil (s .1))
   seek (x ∷ l) = step (d x) (seek l)
     where
@@ -26,13 +26,13 @@ module _ {X : Type 0} {P : X → Type 0} (d : (x : X) → Dec (P x)) where
       step (no n) (no m) = no (λ s. ⊎-elim (λ e. n (rw (← e) (s .2))) (λ i. m (s .0, i, s .2)) (List·Memᴰ·cases-cons (s .1)))
 
   -- those of a list with P
-  record Sifted (l : List X) : Type 0 where
-    kept : List X
-    old : (x : X) → List·Memᴰ x kept → List·Memᴰ x l
-    has : (x : X) → List·Memᴰ x kept → P x
-    all : (x : X) → List·Memᴰ x l → P x → List·Memᴰ x kept
+  pub record Sifted (l : List X) : Type 0 where
+    pub kept : List X
+    pub old : (x : X) → List·Memᴰ x kept → List·Memᴰ x l
+    pub has : (x : X) → List·Memᴰ x kept → P x
+    pub all : (x : X) → List·Memᴰ x l → P x → List·Memᴰ x kept
 
-  sift : (l : List X) → Sifted l
+  unfoldable pub sift : (l : List X) → Sifted l
   sift [] = record { kept = []; old = λ x m. m; has = λ x m. absurd (List·Memᴰ·not-nil m); all = λ x m h. m }
   sift (y ∷ l) = step (d y) (sift l)
     where
@@ -51,14 +51,14 @@ module _ {X : Type 0} {P : X → Type 0} (d : (x : X) → Dec (P x)) where
       }
 
 -- the vertices of a list, as a predicate
-abbrev In : List ℕ → ℕ → Type 0
+abbrev pub In : List ℕ → ℕ → Type 0
 In l v = List·Memᴰ v l
 
 -- an arc from v to one of l
 abbrev Leads : List ℕ → ℕ → Arc → Type 0
 Leads l v e = (e .0 ≡ v) × In l (e .1)
 
-decTwo : (E l : List ℕ) (v : ℕ) → Dec (Two E (In l) v)
+unfoldable pub decTwo : (E l : List ℕ) (v : ℕ) → Dec (Two E (In l) v)
 decTwo E l v = step (seek (λ e. Dec·and (leads e) (seek (λ f. Dec·and (leads f) (Dec·not (ℕ-discrete (e .1) (f .1)))) (arcs E))) (arcs E))
   where
     leads : (e : Arc) → Dec (Leads l v e)
@@ -81,6 +81,14 @@ decTwo E l v = step (seek (λ e. Dec·and (leads e) (seek (λ f. Dec·and (leads
           to-other = Memᴰ·cast (λ i. (sym (y .0 .0) i, f .1)) n;
         })
     step (no n) = no (λ d. n ((v, d .one), d .to-one, ((refl, d .one-in), ((v, d .other), d .to-other, ((refl, d .other-in), d .differ)))))
+
+-- the vertices that a round leaves of l
+unfoldable pub peel : List ℕ → List ℕ → List ℕ
+peel E l = sift (decTwo E l) l .kept
+
+pub peel-is : (E l : List ℕ) → Peels E (In l) (In (peel E l))
+unfolding peel
+peel-is E l = let s : Sifted (decTwo E l) l = sift (decTwo E l) l in record { old = s .old; two = s .has; all = s .all }
 
 data Size (l : List ℕ) : Type 0 where
   few : (u v : ℕ) → In l u → In l v → ((w : ℕ) → In l w → (w ≡ u) ⊎ (w ≡ v)) → Size l
@@ -124,8 +132,7 @@ module _ (N : ℕ) (E : List ℕ) (t : IsTree N E) where
       }
       step (many u w x a b c d e g) r =
           let (y, j, two) = inmost N E t (In l) k f u w x a b c d e g in
-          let s : Sifted (decTwo E l) l = sift (decTwo E l) l in
-          r (s .kept) (round N E t (In l) (In (s .kept)) k f (record { old = s .old; two = s .has; all = s .all })) y (s .all y j two) (omega arith)
+          r (peel E l) (round N E t (In l) (In (peel E l)) k f (peel-is E l)) y (peel-is E l .all y j two) (omega arith)
 
   found : Found N E
   found = run N 0 (upTo N) (start N E (In (upTo N)) (in-upTo N) (upTo-in N)) 1 (upTo-in N 1 (omega arith) (omega (arith, t .edges))) (omega arith)

@@ -3,6 +3,8 @@
 -- Assumes nothing.
 use Prim.Native.Nat.{ℕ}
 use Rattle.refusal.specs.Table.{Outcome, gives, refuses}
+use Rattle.refusal.specs.declared.Check.{Check}
+use Rattle.refusal.specs.declared.Check.the-variants.{Passed, Refuse}
 use Rattle.refusal.specs.declared.Answer.{Answer}
 use Rattle.refusal.specs.declared.Answer.the-variants.{Done, Refused}
 
@@ -10,3 +12,8 @@ use Rattle.refusal.specs.declared.Answer.the-variants.{Done, Refused}
 abbrev pub told : Answer → Outcome ℕ
 told (Done n) = gives n
 told (Refused k p) = refuses k p
+
+-- `Passed`: nothing applies and nothing is written; `Refuse k p`: number k at place p
+abbrev pub checked : Check → Outcome ℕ
+checked Passed = gives 0
+checked (Refuse k p) = refuses k p

@@ -5,7 +5,7 @@
 -- in `Laws`. Assumes nothing.
 use mathlib.Core.Path.{_≡_}
 use mathlib.Core.Logic.{_⊎_}
-use mathlib.Core.List.{List, [], _∷_}
+use mathlib.Core.List.{List, [], _∷_, _++_}
 use Prim.Native.Nat.{ℕ, _≤_, _<_}
 use lib.ListN.{length}
 use Rattle.laws.specs.Laid.{laidOver}
@@ -68,3 +68,11 @@ row3 most n = record { number = 3; applies = λ p. (p ≡ 0) × Outside most n }
 -- 15: the lent output, of the length `lent`, is too short; the place is the length needed
 abbrev pub row15 : ℕ → ℕ → Row
 row15 need lent = record { number = 15; applies = λ p. (p ≡ need) × (lent < need) }
+
+-- 15 of a call that writes: a right result is longer than what was lent; the place is its length
+abbrev pub short : (List ℕ → Type 0) → ℕ → Row
+short Right lent = record { number = 15; applies = λ p. (c : List ℕ) × Right c × row15 (length c) lent .applies p }
+
+-- the promise of a call that writes a right result into what was lent, where no row of rs applies and it has room
+pub record Gives (rs : List Row) (Right : List ℕ → Type 0) (old new : List ℕ) (o : Outcome ℕ) : Type 0 where
+  pub promise : Promise (rs ++ (short Right (length old) ∷ [])) (Writes Right old) old new o

@@ -1,5 +1,8 @@
 // What a call answers. The meaning of each case, and of "the lowest number, then its first place", is in specs/Table.antt.
 
+ghost use mathlib.Core.Path.{_≡_};
+ghost use Rattle.refusal.specs.Outcome.{told, checked};
+
 // Of a call that writes a result into a lent output, or only looks at its input.
 pub enum Answer {
     // Done: so many bytes are written at the start of the lent output (0 where none is lent).
@@ -12,4 +15,14 @@ pub enum Answer {
 pub enum Check {
     Passed,
     Refuse(u8, usize),
+}
+
+// What a call answers that only checks.
+pub fn handed(check: Check) -> Answer
+    ensures { λ r. ⌜ told r ≡ checked check ⌝ }
+{
+    match check {
+        Check::Passed => Answer::Done(0),
+        Check::Refuse(k, p) => Answer::Refused(k, p),
+    }
 }

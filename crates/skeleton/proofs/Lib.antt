@@ -1,4 +1,5 @@
 -- Laws that the proofs of several functions cite. Assumes nothing.
-mod Relabel
+mod Tests
+mod Heads
 mod Tally
 mod Neighbours

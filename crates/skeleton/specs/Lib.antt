@@ -7,4 +7,5 @@ pub mod Parts
 pub mod Count
 pub mod Joins
 pub mod Bridge
+pub mod Tables
 pub mod Theorems

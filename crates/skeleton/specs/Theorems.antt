@@ -1,12 +1,26 @@
--- What an accepted edge list is. Statements alone: the proofs are in `Bridge`. Assumes nothing.
+-- What an accepted edge list is, and that each promise allows one result. Statements alone: the proofs are in
+-- `Bridge` and `Tables`. Assumes nothing.
+use mathlib.Core.Path.{_≡_}
 use mathlib.Core.Logic.{_↔_}
 use mathlib.Core.List.{List}
 use Prim.Native.Nat.{ℕ, _≤_}
-use Rattle.refusal.specs.Table.{Clear}
+use Rattle.refusal.specs.declared.Check.{Check}
+use Rattle.refusal.specs.Table.{Clear, Answers}
+use Rattle.refusal.specs.Laws.{one-answer}
 use Rattle.tree.specs.Skeleton.{IsSkeleton}
 use Rattle.skeleton.specs.Edges.{edgeRows}
+use Rattle.skeleton.specs.Table.{IsTable}
 use Rattle.skeleton.specs.Bridge.{is-skeleton, is-clear}
+use Rattle.skeleton.specs.Tables.{one-table}
 
 -- No row refuses the list E with N and the root r just where E is a skeleton of N vertices and r is one of them.
 pub accepted : (most R N : ℕ) (E : List ℕ) (r : ℕ) → Clear (edgeRows most R N E r) ↔ (IsSkeleton most R N E × ((1 ≤ r) × (r ≤ N)))
 accepted most R N E r = (is-skeleton most R N E r, λ h. is-clear most R N E r (h .0) (h .1))
+
+-- The promise of `check` allows one answer.
+pub one-check : (most R N : ℕ) (E : List ℕ) (r : ℕ) (a b : Check) → Answers (edgeRows most R N E r) a → Answers (edgeRows most R N E r) b → a ≡ b
+one-check most R N E r a b h k = one-answer h k
+
+-- An edge list has one table of neighbours.
+pub one-filled : (N : ℕ) (E : List ℕ) (t u : List (List ℕ)) (d e : List ℕ) → IsTable N E t d → IsTable N E u e → (t ≡ u) × (d ≡ e)
+one-filled N E t u d e h k = one-table h k

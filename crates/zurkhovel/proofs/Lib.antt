@@ -1,2 +1,3 @@
 -- Laws that more than one proof of a public call cites. Assumes nothing.
 pub mod Decoded
+pub mod Counting

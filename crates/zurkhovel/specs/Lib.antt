@@ -1,3 +1,4 @@
 -- The promises of the public calls. Assumes nothing.
-pub mod Calls
+pub mod Codes
+pub mod Lines
 pub mod One

@@ -1,30 +1,4 @@
 // The front door: every public call of the library, and nothing else. Each takes any input, makes its own checks, and keeps the promise
-// that its `ensures` names; the promises stand in specs/Calls.antt.
-use refusal::Answer;
-use refusal::Check;
-ghost use Rattle.refusal.specs.Outcome.{told};
-ghost use Rattle.zurkhovel.specs.Calls.{CheckCode, DecodeCode};
-
-// Whether digits lent by themselves are a right rooted code.
-pub fn check_code(code: &[u8]) -> Answer
-    ensures { λ r. ⌜ CheckCode (now (code .entry)) (told r) ⌝ }
-{
-    if let Check::Refuse(k, p) = code::check(code) {
-        return Answer::Refused(k, p);
-    }
-    Answer::Done(0)
-}
-
-// The edges (parent, child), for child 2 to N, of a right rooted code.
-pub fn decode_code(code: &[u8], out: &mut [u8]) -> Answer
-    ensures { λ r. ⌜ DecodeCode (now (code .entry)) (now (out .entry)) (now (out .exit)) (told r) ⌝ }
-{
-    if let Check::Refuse(k, p) = code::check(code) {
-        return Answer::Refused(k, p);
-    }
-    let need = 2 * (code.len() - 1);
-    if out.len() < need {
-        return Answer::Refused(15, need);
-    }
-    Answer::Done(code::write_edges(code, out))
-}
+// that its `ensures` names; the promises stand in specs/, a file for each module here.
+pub mod codes;
+pub mod text;

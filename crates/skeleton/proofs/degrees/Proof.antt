@@ -1,10 +1,11 @@
 -- `skeleton::degrees` meets its contract. The loop's invariant: the edges before p are counted, and 9 applies at no place before p.
 -- Assumes nothing.
-use mathlib.Core.Logic.{inl, inr, ⊎-elim}
+use mathlib.Core.Logic.{inl, inr}
 use Prim.Native.Nat.{ℕ, _+_, _-_, _/_, _≤_, _<_}
 use native.Mathlib.Omega.{arith}
+use borrow.Author.Needs.{needs}
 use borrow.Author.Count.{below-more}
-use lib.ListN.{length}
+use lib.ListN.{length, getD}
 use Rattle.refusal.specs.Laws.{clear-one, first-place}
 use Rattle.refusal.specs.Table.{passes, fails}
 use Rattle.code.specs.Limits.{valence}
@@ -28,29 +29,32 @@ one-requires c κs = omega arith
 other-requires : tie.Need-other-requires Inv-loop μ-loop
 other-requires c κs = omega arith
 
-array-read-if1 : tie.Need-array-read-if1 Inv-loop μ-loop
-array-read-if1 c = omega arith
+array-read-full : tie.Need-array-read-full Inv-loop μ-loop
+array-read-full c = omega arith
+
+array-read-full-2 : tie.Need-array-read-full-2 Inv-loop μ-loop
+array-read-full-2 c = omega arith
+
+full-requires : tie.Need-full-requires Inv-loop μ-loop
+full-requires c κs = search needs
 
 returns : tie.Need-returns Inv-loop μ-loop
 returns c =
-    let i = c .before .before .before .before .loop .inv in
-    let e = tally-at (i .2) (c .before .before .one .ensures) in
-    fails (first-place ((omega arith, omega arith), inl (omega (arith, e))) (i .3))
-
-array-read-if2 : tie.Need-array-read-if2 Inv-loop μ-loop
-array-read-if2 c = omega arith
-
-returns-2 : tie.Need-returns-2 Inv-loop μ-loop
-returns-2 c =
-    let i = c .before .before .before .before .before .loop .inv in
-    let e = tally-at (i .2) (c .before .before .other .ensures) in
-    fails (first-place ((omega arith, omega arith), inr (omega (arith, e))) (i .3))
+    let o = c .before .before in
+    let i = o .before .before .before .loop .inv in
+    let e = tally-at (i .2) (o .before .one .ensures) in
+    let f = tally-at (i .2) (o .other .ensures) in
+    fails (first-place ((omega arith, omega arith), rw (e, f) at (c .before .full .ensures .right (c .if1 .taken))) (i .3))
 
 array-read-count : tie.Need-array-read-count Inv-loop μ-loop
 array-read-count c = omega arith
 
 add-count : tie.Need-add-count Inv-loop μ-loop
-add-count c = omega arith
+add-count c =
+    let o = c .before .before in
+    let l = o .before .before .before .loop in
+    let n : 4 ≤ getD (l .count) (o .before .one .result) 0 → ⊥ = λ k. c .before .full .ensures .wrong (c .if1 .left) (inl k) in
+    omega arith
 
 array-write-count : tie.Need-array-write-count Inv-loop μ-loop
 array-write-count c = omega arith
@@ -60,8 +64,10 @@ array-read-count-2 c = omega arith
 
 add-count-2 : tie.Need-add-count-2 Inv-loop μ-loop
 add-count-2 c =
-    let l = c .before .before .before .before .before .loop in
-    omega (arith, bump-small (l .count) (c .before .before .before .one .result) (c .before .before .other .result) (omega arith))
+    let o = c .before .before in
+    let l = o .before .before .before .loop in
+    let n : 4 ≤ getD (l .count) (o .other .result) 0 → ⊥ = λ k. c .before .full .ensures .wrong (c .if1 .left) (inr k) in
+    omega (arith, bump-small (l .count) (o .before .one .result) (o .other .result) (omega arith))
 
 array-write-count-2 : tie.Need-array-write-count-2 Inv-loop μ-loop
 array-write-count-2 c = omega arith
@@ -74,19 +80,20 @@ loop-less c = omega arith
 
 loop-again : tie.Need-loop-again Inv-loop μ-loop
 loop-again c =
-    let i = c .before .before .before .before .before .loop .inv in
-    let a = c .before .before .before .one .ensures in
-    let b = c .before .before .other .ensures in
+    let o = c .before .before in
+    let i = o .before .before .before .loop .inv in
+    let a = o .before .one .ensures in
+    let b = o .other .ensures in
     let e = tally-at (i .2) a in
     let f = tally-at (i .2) b in (
       omega arith,
       omega arith,
       tally-more _ _ (i .2) (omega arith) a b,
-      below-more _ _ (i .3) (λ h. ⊎-elim (λ k. let n : ⊥ = omega (arith, e) in n) (λ k. let n : ⊥ = omega (arith, f) in n) (h .1)),
+      below-more _ _ (i .3) (λ h. c .before .full .ensures .wrong (c .if1 .left) (rw (← e, ← f) at (h .1))),
     )
 
-returns-3 : tie.Need-returns-3 Inv-loop μ-loop
-returns-3 c = passes (clear-one (λ q a. c .before .loop .inv .3 q (omega (arith, a .0)) a))
+returns-2 : tie.Need-returns-2 Inv-loop μ-loop
+returns-2 c = passes (clear-one (λ q a. c .before .loop .inv .3 q (omega (arith, a .0)) a))
 
 pub degrees-spec : {M : Type 1} → statement M
 degrees-spec =
@@ -97,10 +104,10 @@ degrees-spec =
     loop-holds
     one-requires
     other-requires
-    array-read-if1
+    array-read-full
+    array-read-full-2
+    full-requires
     returns
-    array-read-if2
-    returns-2
     array-read-count
     add-count
     array-write-count
@@ -110,4 +117,4 @@ degrees-spec =
     add-p
     loop-less
     loop-again
-    returns-3)
+    returns-2)

@@ -1,10 +1,10 @@
 -- `skeleton::fill` meets its contract. The loop's invariant: the table is that of the edges before p. Assumes nothing.
-use Rattle.skeleton.specs.Prefix.{arcs-none}
 use Prim.Native.Nat.{_+_, _-_, _/_, _≤_}
 use native.Mathlib.Omega.{arith}
 use lib.ListN.{length}
 use Rattle.tree.specs.Skeleton.{arcs}
 use Rattle.skeleton.specs.Edges.{before}
+use Rattle.skeleton.specs.Prefix.{arcs-none}
 use Rattle.skeleton.proofs.Neighbours.{Holds, holds-none, room-first, room-second, after-first, after-second, is-table}
 use Rattle.skeleton.proofs.fill.Statement.{statement}
 use Rattle.skeleton.proofs.fill.Tie as tie
@@ -15,15 +15,10 @@ Inv-loop n edges rows₀ degs₀ m p₀ rows degs p = (1 ≤ p) × (p ≤ length
 abbrev μ-loop : tie.MeasureT-loop
 μ-loop n edges rows₀ degs₀ m p₀ rows degs p = length edges / 2 + 1 - p
 
-blank-requires : tie.Need-blank-requires Inv-loop μ-loop
-blank-requires c κs = let s = c .before .before .pre in (s .1 .degs, s .0 .few)
-
 loop-holds : tie.Need-loop-holds Inv-loop μ-loop
 loop-holds c =
     let s = c .before .before .before in
-    let h = s .pre .1 in
-    let b = c .blank .ensures in
-    (omega arith, omega arith, rw (arcs-none (s .args .edges .now)) (holds-none (record { rows = h .rows; wide = h .wide; degs = b .all }) b))
+    (omega arith, omega arith, rw (arcs-none (s .args .edges .now)) (holds-none _ (s .pre .few)))
 
 one-requires : tie.Need-one-requires Inv-loop μ-loop
 one-requires c κs = omega arith
@@ -35,7 +30,7 @@ add-requires : tie.Need-add-requires Inv-loop μ-loop
 add-requires c κs =
     let o = c .before .before in
     let l = o .before .before .before in
-    let s = l .before .before .before .before .pre .0 in
+    let s = l .before .before .before .before .pre in
     (l .loop .inv .2 .shaped, room-first _ _ s (omega arith) (o .before .one .ensures) (o .other .ensures) (l .loop .inv .2))
 
 add-requires-2 : tie.Need-add-requires-2 Inv-loop μ-loop
@@ -43,7 +38,7 @@ add-requires-2 c κs =
     let d = c .before .before in
     let o = d .before .before .before in
     let l = o .before .before .before in
-    let s = l .before .before .before .before .pre .0 in
+    let s = l .before .before .before .before .pre in
     let h = after-first _ _ s (omega arith) (o .before .one .ensures) (o .other .ensures) (l .loop .inv .2) (d .add .ensures) in
     (h .shaped, room-second _ _ s (omega arith) (o .before .one .ensures) (o .other .ensures) h)
 
@@ -58,7 +53,7 @@ loop-again c =
     let d = c .before .before .before in
     let o = d .before .before .before in
     let l = o .before .before .before in
-    let s = l .before .before .before .before .pre .0 in
+    let s = l .before .before .before .before .pre in
     let h = after-first _ _ s (omega arith) (o .before .one .ensures) (o .other .ensures) (l .loop .inv .2) (d .add .ensures) in
     (omega arith, omega arith, after-second _ _ s (omega arith) (o .before .one .ensures) (o .other .ensures) h (c .add2 .ensures))
 
@@ -71,7 +66,6 @@ fill-spec =
     (tie.spec
     Inv-loop
     μ-loop
-    blank-requires
     loop-holds
     one-requires
     other-requires

@@ -1,0 +1,123 @@
+-- `bits::pack` meets its contract. The loop's invariant is `Packing`. Assumes nothing.
+use Prim.Native.Nat.{_-_, _*_, _^_, _≤_}
+use native.Mathlib.Omega.{arith}
+use lib.Dec.{lit<, lit≤}
+use native.Mathlib.Nat.{mod-lt}
+use lib.ListN.{length, length-set}
+use lib.Pow.{mod-mod-pow}
+use Rattle.bits.specs.Packing.{Packing, pack-none, pack-room, pack-byte, pack-on, pack-out, pack-last, pack-done}
+use Rattle.bits.proofs.pack.Statement.{statement}
+use Rattle.bits.proofs.pack.Tie as tie
+
+abbrev Inv-loop : tie.InvT-loop
+Inv-loop code out₀ a₀ c₀ m₀ i₀ out a c m i = Packing code out₀ out i m c a
+
+abbrev μ-loop : tie.MeasureT-loop
+μ-loop code out₀ a₀ c₀ m₀ i₀ out a c m i = length code - i
+
+loop-holds : tie.Need-loop-holds Inv-loop μ-loop
+loop-holds c = pack-none (c .before .before .args .code .now) (c .before .before .args .out .now)
+
+digit-requires : tie.Need-digit-requires Inv-loop μ-loop
+digit-requires c κs = c .loop-test .taken
+
+append-requires : tie.Need-append-requires Inv-loop μ-loop
+append-requires c κs = let p = c .before .before .before .before .before .pre in rw (c .digit .ensures) (pack-room (c .before .before .loop .inv) (p .0) (lit≤ tt) (p .1) (c .before .loop-test .taken))
+
+small : (c : tie.After-append Inv-loop μ-loop) → c .before .digit .result ≤ 4
+small c = omega (arith, c .before .digit .ensures, c .before .before .before .before .before .before .pre .0 .small (c .before .before .before .loop .i))
+
+add-c : tie.Need-add-c Inv-loop μ-loop
+add-c c = omega (arith, small c)
+
+add-c-2 : tie.Need-add-c-2 Inv-loop μ-loop
+add-c-2 c = omega (arith, small c, c .before .before .before .loop .inv .few)
+
+add-i : tie.Need-add-i Inv-loop μ-loop
+add-i c = omega arith
+
+shr-out : tie.Need-shr-out Inv-loop μ-loop
+shr-out c = omega (arith, small (c .before), c .before .before .before .before .loop .inv .few)
+
+cast-out : tie.Need-cast-out Inv-loop μ-loop
+cast-out c = record { fits = mod-lt _ (lit< tt) }
+
+slice-write-out : tie.Need-slice-write-out Inv-loop μ-loop
+slice-write-out c = let p = c .before .before .before .before .before .before .before .pre in pack-byte (c .before .before .before .before .loop .inv) (p .0) (lit≤ tt) (p .1) (c .before .before .before .loop-test .taken) (rw (c .before .before .digit .ensures) at (c .if1 .taken))
+
+add-m : tie.Need-add-m Inv-loop μ-loop
+add-m c = omega (arith, slice-write-out c)
+
+loop-less : tie.Need-loop-less Inv-loop μ-loop
+loop-less c = omega arith
+
+loop-again : tie.Need-loop-again Inv-loop μ-loop
+loop-again c =
+    let p = c .before .before .before .before .before .before .before .pre in
+    let k = c .before .before .digit .ensures in
+    rw k
+    (pack-out (c .before .before .before .before .loop .inv) (p .0) (lit≤ tt) (p .1) (c .before .before .before .loop-test .taken) (c .before .append .result)
+    (rw k at (c .before .append .ensures)) (rw k at (c .if1 .taken)))
+
+loop-less-2 : tie.Need-loop-less-2 Inv-loop μ-loop
+loop-less-2 c = omega arith
+
+loop-again-2 : tie.Need-loop-again-2 Inv-loop μ-loop
+loop-again-2 c =
+    let p = c .before .before .before .before .before .before .before .pre in
+    let k = c .before .before .digit .ensures in
+    rw k
+    (pack-on (c .before .before .before .before .loop .inv) (p .0) (lit≤ tt) (p .1) (c .before .before .before .loop-test .taken) (c .before .append .result)
+    (rw k at (c .before .append .ensures)) (rw k at (c .if1 .left)))
+
+sub-out : tie.Need-sub-out Inv-loop μ-loop
+sub-out c = omega (arith, c .before .loop .inv .few)
+
+shl-out : tie.Need-shl-out Inv-loop μ-loop
+shl-out c = omega arith
+
+cast-out-2 : tie.Need-cast-out-2 Inv-loop μ-loop
+cast-out-2 c = record { fits = mod-lt _ (lit< tt) }
+
+slice-write-out-2 : tie.Need-slice-write-out-2 Inv-loop μ-loop
+slice-write-out-2 c = let p = c .before .before .before .before .pre in pack-last (c .before .loop .inv) (p .0) (lit≤ tt) (p .1) (c .loop-test .left)
+
+add-result : tie.Need-add-result Inv-loop μ-loop
+add-result c = omega (arith, slice-write-out-2 c)
+
+same-length : tie.Need-same-length Inv-loop μ-loop
+same-length c = simp length-set (c .before .loop .inv .size)
+
+returns : tie.Need-returns Inv-loop μ-loop
+returns c =
+    let p = c .before .before .before .before .pre in
+    let l = c .before .loop in
+    rw (mod-mod-pow (l .a * 2 ^ (8 - l .c)) 56 8) (pack-done (l .inv) (p .0) (lit≤ tt) (p .1) (c .loop-test .left))
+
+pub pack-spec : {M : Type 1} → statement M
+pack-spec =
+    tie.close
+    (tie.spec
+    Inv-loop
+    μ-loop
+    loop-holds
+    digit-requires
+    append-requires
+    add-c
+    add-c-2
+    add-i
+    shr-out
+    cast-out
+    slice-write-out
+    add-m
+    loop-less
+    loop-again
+    loop-less-2
+    loop-again-2
+    sub-out
+    shl-out
+    cast-out-2
+    slice-write-out-2
+    add-result
+    same-length
+    returns)

@@ -1,0 +1,101 @@
+-- The definitions, run on document 01's own figures. Assumes nothing.
+use mathlib.Core.Path.{_≡_, refl, ap}
+use mathlib.Core.Logic.{⊎-elim}
+use mathlib.Core.Bool.{Bool, true, false, true≢false}
+use mathlib.Core.List.{List, [], _∷_, _++_}
+use Prim.Native.Nat.{ℕ, zero, suc, _-_, _*_, _^_}
+use native.Mathlib.Omega.{arith}
+use lib.ListN.{length, getD}
+use Rattle.refusal.specs.Table.{Lowest, row3}
+use Rattle.refusal.specs.Laws.{clear-one, clear-both, lowest-back}
+use Rattle.code.specs.Limits.{valence}
+use Rattle.code.specs.Code as code
+use Rattle.code.specs.Ends.{ends-iff}
+use Rattle.bits.specs.Limits.{wholeSize}
+use Rattle.bits.specs.Bits.{bits, bit, word, bytes, digitsFrom, whole, fractionBits, Zeros, Nothing, row4, bitRows, wholeRows}
+use Rattle.bits.specs.Reading.{more-refused}
+
+-- x is the whole number of c
+abbrev Number : List ℕ → ℕ → Type 0
+Number c x = word (2 * length c - 1) x ≡ bits c
+
+-- the column "Whole number" of "Skeletons to hold it against"
+pub numbers :
+    Number (0 ∷ []) 0
+    × Number (1 ∷ 0 ∷ []) 4
+    × Number (2 ∷ 0 ∷ 0 ∷ []) 24
+    × Number (2 ∷ 1 ∷ 0 ∷ 0 ∷ []) 104
+    × Number (3 ∷ 0 ∷ 0 ∷ 0 ∷ []) 112
+    × Number (4 ∷ 0 ∷ 0 ∷ 0 ∷ 0 ∷ []) 480
+    × Number (2 ∷ 2 ∷ 0 ∷ 0 ∷ 1 ∷ 0 ∷ []) 1732
+    × Number (3 ∷ 1 ∷ 1 ∷ 0 ∷ 1 ∷ 0 ∷ 0 ∷ []) 7496
+    × Number (3 ∷ 2 ∷ 1 ∷ 0 ∷ 0 ∷ 1 ∷ 0 ∷ 0 ∷ []) 30344
+unfolding word bit bits
+numbers = (refl, refl, refl, refl, refl, refl, refl, refl, refl)
+
+-- 002's example: read from its whole number, packed into two bytes, and as the fraction 30344/32768 at 53 bits
+pub read-back : whole (word 15 30344) ≡ 3 ∷ 2 ∷ 1 ∷ 0 ∷ 0 ∷ 1 ∷ 0 ∷ 0 ∷ []
+unfolding word bit digitsFrom
+read-back = refl
+
+pub packed : bytes (237 ∷ 16 ∷ []) ≡ bits (3 ∷ 2 ∷ 1 ∷ 0 ∷ 0 ∷ 1 ∷ 0 ∷ 0 ∷ []) ++ (false ∷ [])
+unfolding word bit bits bytes
+packed = refl
+
+pub fraction : fractionBits (30344 * 2 ^ 38) false ≡ bits (3 ∷ 2 ∷ 1 ∷ 0 ∷ 0 ∷ 1 ∷ 0 ∷ 0 ∷ []) ++ word 38 0
+unfolding word bit bits fractionBits
+fraction = refl
+
+-- a lone vertex, and the code 10, have no digit above its cap
+none-over : (p : ℕ) → code.row10 valence (0 ∷ []) .applies p → ⊥
+none-over zero a = omega (arith, a .0)
+none-over (suc zero) a = omega (arith, a .2)
+none-over (suc (suc p)) a = omega (arith, a .1)
+
+none-over-10 : (p : ℕ) → code.row10 valence (1 ∷ 0 ∷ []) .applies p → ⊥
+none-over-10 zero a = omega (arith, a .0)
+none-over-10 (suc zero) a = omega (arith, a .2)
+none-over-10 (suc (suc zero)) a = omega (arith, a .2)
+none-over-10 (suc (suc (suc p))) a = omega (arith, a .1)
+
+-- "0.25 is refused 11 at 2, and so is 2^-60", which has 53 zero bits and a rest
+quarter : fractionBits (2 ^ 51) false ≡ bits (0 ∷ []) ++ (true ∷ word 51 0)
+unfolding word bit bits fractionBits
+quarter = refl
+
+pub refused-quarter : Lowest (bitRows valence Zeros (fractionBits (2 ^ 51) false)) 11 2
+refused-quarter =
+    rw quarter (more-refused valence Zeros (0 ∷ []) (true ∷ word 51 0) (ends-iff (0 ∷ []) .0 tt) none-over first-bit)
+  where
+    first-bit : Zeros (true ∷ word 51 0) → ⊥
+    first-bit z = true≢false (ap (λ (l : List Bool). getD l 0 false) z)
+
+small : fractionBits 0 true ≡ bits (0 ∷ []) ++ (word 52 0 ++ (true ∷ []))
+unfolding word bit bits fractionBits
+small = refl
+
+last-bit : Zeros (word 52 0 ++ (true ∷ [])) → ⊥
+unfolding word bit
+last-bit z = true≢false (ap (λ (l : List Bool). getD l 52 false) z)
+
+pub refused-small : Lowest (bitRows valence Zeros (fractionBits 0 true)) 11 2
+refused-small =
+    rw small (more-refused valence Zeros (0 ∷ []) (word 52 0 ++ (true ∷ [])) (ends-iff (0 ∷ []) .0 tt) none-over last-bit)
+
+-- "The whole number 16 with N = 3 is refused 11 at 3."
+sixteen : word 5 16 ≡ bits (1 ∷ 0 ∷ []) ++ (false ∷ false ∷ [])
+unfolding word bit bits
+sixteen = refl
+
+pub refused-sixteen : Lowest (wholeRows wholeSize valence 3 16) 11 3
+refused-sixteen =
+    lowest-back
+    (clear-both (clear-one {r = row3 32 3} in-range) (clear-one {r = row4 3 16} (λ p a. omega (arith, a .1))))
+    (rw sixteen
+    (more-refused valence Nothing (1 ∷ 0 ∷ []) (false ∷ false ∷ []) (ends-iff (1 ∷ 0 ∷ []) .0 tt) none-over-10 more))
+  where
+    in-range : (p : ℕ) → row3 32 3 .applies p → ⊥
+    in-range p a = ⊎-elim (λ h. omega (arith, h)) (λ h. omega (arith, h)) (a .1)
+
+    more : Nothing (false ∷ false ∷ []) → ⊥
+    more z = omega (arith, ap length z)

@@ -1,0 +1,299 @@
+// The bit forms of a rooted code: packed bytes, a whole number, the 53 bits of a fraction.
+ghost use mathlib.Core.Path.{_≡_};
+ghost use mathlib.Core.List.{[], _∷_};
+ghost use Prim.Native.Nat.{_+_, _-_, _*_, _/_, _^_, _<_, _≤_};
+ghost use lib.ListN.{length, getD, take, drop};
+ghost use Rattle.code.specs.Limits.{size, valence};
+ghost use Rattle.bits.specs.Bits.{bytes, word, fractionBits, Fill, Nothing, Zeros, row4, packedRows, wholeRows};
+ghost use Rattle.bits.specs.Words.{lead};
+ghost use Rattle.bits.specs.Digit.{Near};
+ghost use Rattle.bits.specs.Found.{Scanned};
+ghost use Rattle.bits.specs.Answered.{Reading};
+ghost use Rattle.bits.specs.Written.{Coded, Packs, Numbers};
+ghost use Rattle.bits.specs.Writing.{Room};
+ghost use Rattle.refusal.specs.Table.{Answers, Writes, row3};
+ghost use Rattle.bits.specs.Decided.{Ordered, Decision};
+ghost use Rattle.bits.specs.Limits.{packedBytes, wholeSize};
+ghost use Rattle.code.specs.Ends.{Ends};
+use refusal::Answer;
+use refusal::Check;
+
+// What a reader of digits came to.
+pub enum Found {
+    // The digit of this number is above its cap.
+    Over(usize),
+    // The bits give out behind so many whole digits.
+    Short(usize),
+    // The code ends with the digit of this number.
+    Ended(usize),
+}
+
+// The byte i of s, 0 past its end.
+fn byte(s: &[u8], i: usize) -> u8
+    ensures { λ r. ⌜ r ≡ getD (now (s .entry)) i 0 ⌝ }
+{
+    if i < s.len() { s[i] } else { 0 }
+}
+
+// The ones from a bit of packed bytes on: the leading zeros of the inverted word that begins there. Nine bits or more are looked at.
+fn digit_at(s: &[u8], bit: usize) -> usize
+    requires { ⌜ bit < 8 * length (now s) ⌝ }
+    ensures { λ r. ⌜ Near 9 r (drop bit (bytes (now (s .entry)))) ⌝ }
+{
+    let i = bit / 8;
+    let high = byte(s, i) as u16;
+    let low = byte(s, i + 1) as u16;
+    let w = (high * 256 + low) << (bit % 8);
+    u16::leading_zeros(!w) as usize
+}
+
+// The ones from a bit of the len lowest bits of x on.
+fn digit_in(x: u64, len: usize, bit: usize) -> usize
+    requires { ⌜ (bit < len) × (len ≤ 64) ⌝ }
+    ensures { λ r. ⌜ r ≡ lead (drop bit (word len x)) ⌝ }
+{
+    u64::leading_zeros(!(x << (64 - len + bit))) as usize
+}
+
+// The digits of a packed code, up to its end. The bits read are the digits and their sum, so the code has ended as soon as they are
+// fewer than two for each digit.
+pub fn digits(s: &[u8], out: &mut [u8]) -> Found
+    requires { ⌜ (length (now s) ≤ packedBytes) × (length (now out) ≡ size) ⌝ }
+    ensures { λ r. ⌜ Scanned valence (bytes (now (s .entry))) (now (out .exit)) r ⌝ }
+{
+    let m = 8 * s.len();
+    let mut n: usize = 0;
+    let mut b: usize = 0;
+    while b < m {
+        let k = digit_at(s, b);
+        if (code::top(n + 1) as usize) < k {
+            return Found::Over(n + 1);
+        }
+        if m <= b + k {
+            return Found::Short(n);
+        }
+        out[n] = k as u8;
+        n += 1;
+        b += k + 1;
+        if b < 2 * n {
+            return Found::Ended(n);
+        }
+    }
+    Found::Short(n)
+}
+
+// The digits of the len lowest bits of x, up to the code's end.
+pub fn word_digits(x: u64, len: usize, out: &mut [u8]) -> Found
+    requires { ⌜ (len ≤ 64) × (length (now out) ≡ size) ⌝ }
+    ensures { λ r. ⌜ Scanned valence (word len x) (now (out .exit)) r ⌝ }
+{
+    let mut n: usize = 0;
+    let mut b: usize = 0;
+    while b < len {
+        let k = digit_in(x, len, b);
+        if (code::top(n + 1) as usize) < k {
+            return Found::Over(n + 1);
+        }
+        if len <= b + k {
+            return Found::Short(n);
+        }
+        out[n] = k as u8;
+        n += 1;
+        b += k + 1;
+        if b < 2 * n {
+            return Found::Ended(n);
+        }
+    }
+    Found::Short(n)
+}
+
+// The digits of a packed code, with rows 10 to 12.
+pub fn packed(s: &[u8], out: &mut [u8]) -> Answer
+    requires { ⌜ (length (now s) ≤ packedBytes) × (length (now out) ≡ size) ⌝ }
+    ensures { λ r. ⌜ Reading valence Fill (bytes (now (s .entry))) (now (out .exit)) r ⌝ }
+{
+    match digits(s, out) {
+        Found::Over(p) => Answer::Refused(10, p),
+        Found::Short(n) => Answer::Refused(12, n),
+        Found::Ended(n) => {
+            if 2 * n + 7 <= 8 * s.len() {
+                return Answer::Refused(11, n + 1);
+            }
+            let last = s[s.len() - 1];
+            if last << ((2 * n - 1) % 8) == 0 {
+                return Answer::Done(n);
+            }
+            Answer::Refused(11, n + 1)
+        }
+    }
+}
+
+// The digits of a whole number with N = n beside it, with rows 10 to 12.
+pub fn number(n: usize, x: u64, out: &mut [u8]) -> Answer
+    requires { ⌜ (1 ≤ n) × ((n ≤ wholeSize) × (length (now out) ≡ size)) ⌝ }
+    ensures { λ r. ⌜ Reading valence Nothing (word (2 * n - 1) x) (now (out .exit)) r ⌝ }
+{
+    match word_digits(x, 2 * n - 1, out) {
+        Found::Over(p) => Answer::Refused(10, p),
+        Found::Short(e) => Answer::Refused(12, e),
+        Found::Ended(e) => {
+            if e < n {
+                return Answer::Refused(11, e + 1);
+            }
+            Answer::Done(e)
+        }
+    }
+}
+
+// The digits of the len lowest bits of x, behind which only zeros may follow, with rows 10 to 12.
+fn zeros_behind(x: u64, len: usize, out: &mut [u8]) -> Answer
+    requires { ⌜ (len ≤ 64) × (length (now out) ≡ size) ⌝ }
+    ensures { λ r. ⌜ Reading valence Zeros (word len x) (now (out .exit)) r ⌝ }
+{
+    match word_digits(x, len, out) {
+        Found::Over(p) => Answer::Refused(10, p),
+        Found::Short(n) => Answer::Refused(12, n),
+        Found::Ended(n) => {
+            if len < 2 * n {
+                return Answer::Done(n);
+            }
+            if x << (64 - len + (2 * n - 1)) == 0 {
+                return Answer::Done(n);
+            }
+            Answer::Refused(11, n + 1)
+        }
+    }
+}
+
+// The digits of the 53 bits of a fraction, with rows 10 to 12; `rest`: there is a rest other than zero behind them.
+pub fn fraction(x: u64, rest: bool, out: &mut [u8]) -> Answer
+    requires { ⌜ (x < 2 ^ 53) × (length (now out) ≡ size) ⌝ }
+    ensures { λ r. ⌜ Reading valence Zeros (fractionBits x rest) (now (out .exit)) r ⌝ }
+{
+    if rest {
+        return zeros_behind(2 * x + 1, 54, out);
+    }
+    zeros_behind(x, 53, out)
+}
+
+// 3: n is 0 or above most.
+fn sized(n: usize, most: usize) -> Check
+    ensures { λ r. ⌜ Answers (row3 most n ∷ []) r ⌝ }
+{
+    if n == 0 {
+        return Check::Refuse(3, 0);
+    }
+    if most < n {
+        return Check::Refuse(3, 0);
+    }
+    Check::Passed
+}
+
+// 13 of the first n digits, which end a code.
+pub fn siblings(digits: &[u8], n: usize) -> Answer
+    requires { ⌜ Ends 1 (take n (now digits)) ⌝ }
+    requires { ⌜ n ≤ size ⌝ }
+    requires { ⌜ length (now digits) ≡ size ⌝ }
+    ensures { λ r. ⌜ Ordered (take n (now (digits .entry))) n r ⌝ }
+{
+    match code::ordered(&digits[..n]) {
+        Check::Passed => Answer::Done(n),
+        Check::Refuse(k, p) => Answer::Refused(k, p),
+    }
+}
+
+// The right code in a packed code: rows 3 and 10 to 13.
+pub fn packed_code(s: &[u8], out: &mut [u8]) -> Answer
+    requires { ⌜ length (now out) ≡ size ⌝ }
+    ensures { λ r. ⌜ Decision (packedRows packedBytes valence (now (s .entry))) valence Fill (bytes (now (s .entry))) (now (out .exit)) r ⌝ }
+{
+    if let Check::Refuse(k, p) = sized(s.len(), 16) {
+        return Answer::Refused(k, p);
+    }
+    match packed(s, out) {
+        Answer::Refused(k, p) => Answer::Refused(k, p),
+        Answer::Done(n) => siblings(out, n),
+    }
+}
+
+// 4: x is outside the range of whole numbers with N = n.
+fn ranged(n: usize, x: u64) -> Check
+    requires { ⌜ (1 ≤ n) × (n ≤ wholeSize) ⌝ }
+    ensures { λ r. ⌜ Answers (row4 n x ∷ []) r ⌝ }
+{
+    if (1u64 << (2 * n - 1)) <= x {
+        return Check::Refuse(4, 0);
+    }
+    Check::Passed
+}
+
+// The right code in a whole number with N = n beside it: rows 3, 4 and 10 to 13.
+pub fn number_code(n: usize, x: u64, out: &mut [u8]) -> Answer
+    requires { ⌜ length (now out) ≡ size ⌝ }
+    ensures { λ r. ⌜ Decision (wholeRows wholeSize valence n x) valence Nothing (word (2 * n - 1) x) (now (out .exit)) r ⌝ }
+{
+    if let Check::Refuse(k, p) = sized(n, 32) {
+        return Answer::Refused(k, p);
+    }
+    if let Check::Refuse(k, p) = ranged(n, x) {
+        return Answer::Refused(k, p);
+    }
+    match number(n, x, out) {
+        Answer::Refused(k, p) => Answer::Refused(k, p),
+        Answer::Done(e) => siblings(out, e),
+    }
+}
+
+// x with the digit k, k ones and a zero, behind its bits.
+fn append(x: u64, k: u64) -> u64
+    requires { ⌜ Room k x ⌝ }
+    ensures { λ r. ⌜ r ≡ x * 2 ^ (k + 1) + (2 ^ (k + 1) - 2) ⌝ }
+{
+    (x << (k + 1)) + ((1u64 << (k + 1)) - 2)
+}
+
+// The digit i of a code.
+fn digit(code: &[u8], i: usize) -> u64
+    requires { ⌜ i < length (now code) ⌝ }
+    ensures { λ r. ⌜ r ≡ getD (now (code .entry)) i 0 ⌝ }
+{
+    code[i] as u64
+}
+
+// The whole number of a code.
+pub fn number_of(code: &[u8]) -> u64
+    requires { ⌜ Coded valence wholeSize (now code) ⌝ }
+    ensures { λ r. ⌜ Numbers (now (code .entry)) r ⌝ }
+{
+    let mut x: u64 = 0;
+    let mut i: usize = 0;
+    while i < code.len() {
+        x = append(x, digit(code, i));
+        i += 1;
+    }
+    x
+}
+
+// The packed form of a code, at the start of out; how many bytes it has. The c lowest bits of a are still to be written.
+pub fn pack(code: &[u8], out: &mut [u8]) -> usize
+    requires { ⌜ Coded valence size (now code) × ((2 * length (now code) + 6) / 8 ≤ length (now out)) ⌝ }
+    ensures { λ r. ⌜ Writes (Packs (now (code .entry))) (now (out .entry)) r (now (out .exit)) ⌝ }
+{
+    let mut a: u64 = 0;
+    let mut c: u64 = 0;
+    let mut m: usize = 0;
+    let mut i: usize = 0;
+    while i < code.len() {
+        let k = digit(code, i);
+        a = append(a % 256, k);
+        c += k + 1;
+        i += 1;
+        if 8 <= c {
+            c -= 8;
+            out[m] = ((a >> c) % 256) as u8;
+            m += 1;
+        }
+    }
+    out[m] = ((a << (8 - c)) % 256) as u8;
+    m + 1
+}

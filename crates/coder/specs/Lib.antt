@@ -1,0 +1,2 @@
+-- What the coder's contracts cite. Assumes nothing.
+pub mod Coded

@@ -1,0 +1,72 @@
+-- The theorems of the N-tuple code and the centred code, each under a plain sentence and proved by a name from elsewhere. Document 01's
+-- figures are in `Figures`. Assumes nothing.
+use mathlib.Core.Path.{_≡_}
+use mathlib.Core.Logic.{_↔_}
+use mathlib.Core.List.{List}
+use Prim.Native.Nat.{ℕ}
+use lib.ListN.{length}
+use Rattle.refusal.specs.Table.{Clear}
+use Rattle.code.specs.Code.{decode}
+use Rattle.code.specs.Ends.{Ends}
+use Rattle.code.specs.Right.{Right}
+use Rattle.tree.specs.Skeleton.{IsTree, IsSkeleton, Renumbering, IsRooted}
+use Rattle.form.specs.Form.{nTuple, centred, formRows}
+use Rattle.form.specs.Forms.{IsForm, n-tuple-form, centred-form, is-rooted, form-size, form-decoded, form-again, form-verdict, form-decided}
+use Rattle.form.specs.Accepted.{right-decoded, form-passes, form-exactly, form-itself}
+
+-- Every tree has exactly one N-tuple code; it is one of the tree's rooted codes, and other numbers do not change it.
+pub the-n-tuple : IsForm nTuple
+the-n-tuple = n-tuple-form
+
+-- Every tree has exactly one centred code; it is one of the tree's rooted codes, and other numbers do not change it.
+pub the-centred : IsForm centred
+the-centred = centred-form
+
+-- Two trees have the same centred code exactly when they are the same skeleton under other numbers, of equally many vertices.
+pub same-centred : (N P : ℕ) (E F c d : List ℕ) → IsTree N E → IsTree P F → centred N E c → centred P F d → (c ≡ d) ↔ ((N ≡ P) × Renumbering N E F)
+same-centred = form-verdict centred centred-form
+
+-- The N-tuple code tells skeletons apart as well.
+pub same-n-tuple : (N P : ℕ) (E F c d : List ℕ) → IsTree N E → IsTree P F → nTuple N E c → nTuple P F d → (c ≡ d) ↔ ((N ≡ P) × Renumbering N E F)
+same-n-tuple = form-verdict nTuple n-tuple-form
+
+-- A right rooted code decodes to a skeleton.
+pub decoded-skeleton : (most R : ℕ) (c : List ℕ) → Right most R c → IsSkeleton most R (length c) (decode c)
+decoded-skeleton = right-decoded
+
+-- of either form
+module _ (form : ℕ → List ℕ → List ℕ → Type 0) (f : IsForm form) where
+  -- the code c of a tree
+  module _ (N : ℕ) (E c : List ℕ) (t : IsTree N E) (x : form N E c) where
+    -- It is a rooted code.
+    pub rooted : IsRooted c
+    rooted = is-rooted form f N E c t x
+
+    -- It has a digit for each vertex.
+    pub size : length c ≡ N
+    size = form-size form f N E c t x
+
+    -- It decodes to the tree that was coded, under other numbers.
+    pub code-decode : Renumbering N E (decode c)
+    code-decode = form-decoded form f N E c t x
+
+    -- It is the code of what it decodes to.
+    pub again : form (length c) (decode c) c
+    again = form-again form f N E c t x
+
+  -- Whether a rooted code is of the form is decided.
+  pub decided : (c : List ℕ) → Ends 1 c → Dec (form (length c) (decode c) c)
+  decided = form-decided form f
+
+  module _ (most R : ℕ) (c : List ℕ) where
+    -- Digits are not refused exactly when they are a right rooted code and of the form.
+    pub passes : Clear (formRows form most R c) ↔ (Right most R c × form (length c) (decode c) c)
+    passes = form-passes form f most R c
+
+    -- Digits are not refused exactly when they are the code of a skeleton.
+    pub exactly : Clear (formRows form most R c) ↔ ((N : ℕ) × (E : List ℕ) × IsSkeleton most R N E × form N E c)
+    exactly = form-exactly form f most R c
+
+    -- Digits that are not refused, decoded and coded, are themselves.
+    pub decode-code : Clear (formRows form most R c) → (d : List ℕ) → form (length c) (decode c) d → d ≡ c
+    decode-code = form-itself form f most R c

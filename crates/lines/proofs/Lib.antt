@@ -1,0 +1,5 @@
+-- Laws that more than one proof of this crate cites. Assumes nothing.
+pub mod Forming
+pub mod Writing
+pub mod Locating
+pub mod Passing

@@ -1,0 +1,123 @@
+-- The rows that are looked at before a line's digits: which of them is the lowest, from what was found. Assumes nothing.
+use mathlib.Core.Path.{_≡_, refl, sym, subst, _∙_}
+use mathlib.Core.Logic.{⊎-elim}
+use mathlib.Core.Bool.{true}
+use mathlib.Core.List.{List, [], _∷_}
+use Prim.Native.Nat.{ℕ, zero, suc, _-_, _≤_}
+use native.Mathlib.Omega.{arith}
+use lib.ListN.{length, take, drop}
+use lib.Seq.{take-nil, length-take-le}
+use Rattle.laws.specs.Part.{part, part-length}
+use Rattle.refusal.specs.Table.{Row, Lowest, Outside}
+use Rattle.refusal.specs.Laws.{under, clear-one, first-place, lowest-front, lowest-back}
+use Rattle.lines.specs.declared.Opening.{Opening}
+use Rattle.lines.specs.declared.Opening.the-variants.{At, Nothing}
+use Rattle.lines.specs.declared.Span.{Span}
+use Rattle.lines.specs.declared.Span.the-variants.{Digits, Refused}
+use Rattle.lines.specs.Line.{Free, Cut, Formed, Shaped, row1, row2, row3, row5, frontRows}
+use Rattle.lines.specs.Form.{UpTo, Figures, values, Forms, formed, unformed, Stands, Located, stands, refused}
+use Rattle.lines.specs.Cuts.{not-free, cut-once}
+use Rattle.lines.specs.Answered.{where-is, shaped-fed}
+use Rattle.lines.specs.Taking.{length-values, unfed, fed-cut}
+
+-- the first row applies at 0
+here : {r : Row} (rs : List Row) → r .applies 0 → under (r ∷ []) rs ≡ true → Lowest (r ∷ rs) (r .number) 0
+here {r} rs h t = lowest-front {xs = r ∷ []} rs t (first-place h (λ q l a. absurd (omega arith)))
+
+-- or it does not apply
+after : {r : Row} {rs : List Row} {k p : ℕ} → ((q : ℕ) → r .applies q → ⊥) → Lowest rs k p → Lowest (r ∷ rs) k p
+after {r} f l = lowest-back {xs = r ∷ []} (clear-one f) l
+
+module _ (most : ℕ) {t : List ℕ} where
+  lowest-1 : Free 10 t → Lowest (frontRows most t) 1 0
+  lowest-1 f = here {r = row1 t} (row2 t ∷ row3 most t ∷ row5 t ∷ []) (refl, f) refl
+
+  lowest-2 : {b rest : List ℕ} → Cut 10 t b rest → ((n : ℕ) (ds : List ℕ) → Formed b n ds → ⊥) → Lowest (frontRows most t) 2 0
+  lowest-2 {b} {rest} c h =
+      after {r = row1 t} (λ q f. not-free 10 b rest (rw (c .parts) at (f .1)))
+      (here {r = row2 t} (row3 most t ∷ row5 t ∷ [])
+      (refl, λ n ds s. h n ds (rw (cut-once 10 t (s .text) (s .rest) b rest (s .feed) c .0) at (s .formed))) refl)
+
+  module _ {n : ℕ} {ds : List ℕ} (s : Shaped t n ds) where
+    formed-on : {k p : ℕ} → Lowest (row3 most t ∷ row5 t ∷ []) k p → Lowest (frontRows most t) k p
+    formed-on l = after {r = row1 t} (λ q f. shaped-fed s (f .1)) (after {r = row2 t} (λ q f. f .1 n ds s) l)
+
+    lowest-3 : Outside most n → Lowest (frontRows most t) 3 0
+    lowest-3 o =
+        formed-on (here {r = row3 most t} (row5 t ∷ []) (refl, record { count = n; digits = ds; shape = s; holds = o }) refl)
+
+    lowest-5 : (Outside most n → ⊥) → (length ds ≡ n → ⊥) → Lowest (frontRows most t) 5 0
+    lowest-5 i e =
+        formed-on
+        (after {r = row3 most t} (λ q f. i (where-is (λ m es. Outside most m) s (f .1)))
+        (here {r = row5 t} [] (refl, record { count = n; digits = ds; shape = s; holds = e }) refl))
+
+-- ---- what was found
+
+pub drop-take : (s e : ℕ) (l : List ℕ) → drop s (take e l) ≡ part s e l
+drop-take zero e l = let q : e - 0 ≡ e = omega arith in rw q
+drop-take (suc s) zero l = let q : 0 - suc s ≡ 0 = omega arith in rw q
+drop-take (suc s) (suc e) [] = sym (take-nil (suc e - suc s))
+drop-take (suc s) (suc e) (a ∷ l) = let q : suc e - suc s ≡ e - s = omega arith in rw q (drop-take s e l)
+
+-- the first line ends at e, and its form is found: the count n, and the digits from s on
+pub record Found (t : List ℕ) (e n s : ℕ) : Type 0 where
+  pub ordered : s ≤ e
+  pub within : e ≤ length t
+  pub figures : Figures (part s e t)
+  pub shape : Shaped t n (values (part s e t))
+
+module _ {t : List ℕ} {e : ℕ} (u : UpTo t e) where
+  pub no-feed : (most : ℕ) → e ≡ length t → Lowest (frontRows most t) 1 0
+  no-feed most q = lowest-1 most {t = t} (unfed u q)
+
+  pub no-form : (most : ℕ) {o : Opening} → (e ≡ length t → ⊥) → Forms (take e t) o → o ≡ Nothing → Lowest (frontRows most t) 2 0
+  no-form most n (formed l f h) q = let z : _≡_ {A = ℕ} 0 1 = cc in absurd (let n : ⊥ = omega arith in n)
+  no-form most n (unformed h) q = lowest-2 most (fed-cut u n) h
+
+  pub found : {o : Opening} {n s : ℕ} → (e ≡ length t → ⊥) → Forms (take e t) o → o ≡ At n s → Found t e n s
+  found {n = n} {s} d (formed {n = m} {s = r} l f h) q =
+      let p : m ≡ n = cc in
+      let w : r ≡ s = cc in
+      let k = length-take-le e t (u .within) in
+      let v = drop-take r e t in
+      rw (← p, ← w)
+      (record {
+        ordered = omega arith;
+        within = u .within;
+        figures = rw (← v) f;
+        shape = record { text = take e t; rest = drop (suc e) t; feed = fed-cut u d; formed = rw (← v) h };
+      })
+  found d (unformed h) q = let z : _≡_ {A = ℕ} 0 1 = cc in absurd (let n : ⊥ = omega arith in n)
+
+module _ (most : ℕ) {t : List ℕ} {e n s : ℕ} (f : Found t e n s) where
+  pub not-sized : Outside most n → Lowest (frontRows most t) 3 0
+  not-sized o = lowest-3 most (f .shape) o
+
+  as-many : length (values (part s e t)) ≡ e - s
+  as-many = length-values (part s e t) ∙ part-length s e t (f .within)
+
+  pub not-as-many : (n ≡ 0 → ⊥) → n ≤ most → (e - s ≡ n → ⊥) → Lowest (frontRows most t) 5 0
+  not-as-many a b c =
+      lowest-5 most (f .shape) (λ o. ⊎-elim (λ z. a z) (λ l. let x : ⊥ = omega arith in x) o) (λ q. c (sym as-many ∙ q))
+
+  pub standing : (n ≡ 0 → ⊥) → n ≤ most → e - s ≡ n → Stands most t s e
+  standing a b c =
+      record {
+        ordered = f .ordered;
+        within = f .within;
+        figures = f .figures;
+        shape = subst (λ (m : ℕ). Shaped t m (values (part s e t))) (sym c) (f .shape);
+        some = omega arith;
+        few = omega arith;
+      }
+
+-- ---- what a caller learns
+
+pub located : {most : ℕ} {t : List ℕ} {o : Span} {s e : ℕ} → Located most t o → o ≡ Digits s e → Stands most t s e
+located {s = s} {e} (stands {s = a} {e = b} h) q = let p : a ≡ s = cc in let r : b ≡ e = cc in rw (← p, ← r) h
+located (refused l) q = let z : _≡_ {A = ℕ} 0 1 = cc in absurd (let n : ⊥ = omega arith in n)
+
+pub unlocated : {most : ℕ} {t : List ℕ} {o : Span} {k : ℕ} → Located most t o → o ≡ Refused k → Lowest (frontRows most t) k 0
+unlocated (stands h) q = let z : _≡_ {A = ℕ} 0 1 = cc in absurd (let n : ⊥ = omega arith in n)
+unlocated {k = k} (refused {k = j} l) q = let p : j ≡ k = cc in rw (← p) l

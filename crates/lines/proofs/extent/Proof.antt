@@ -1,0 +1,16 @@
+-- `lines::extent` meets its contract. Assumes nothing.
+use native.Mathlib.Omega.{arith}
+use borrow.Author.Needs.{needs}
+use lib.ListN.{length}
+use Rattle.lines.proofs.Writing.{length-short, length-long, length-line}
+use Rattle.lines.proofs.extent.Statement.{statement}
+use Rattle.lines.proofs.extent.Tie as tie
+
+pub extent-spec : {M : Type 1} → statement M
+extent-spec =
+    tie.close
+    (tie.spec
+    (λ c. search needs)
+    (λ c d e. omega (arith, length-line d, length-short (length d) (omega arith)))
+    (λ c. search needs)
+    (λ c d e. omega (arith, length-line d, length-long (length d) (omega arith))))

@@ -1,0 +1,80 @@
+-- The form of a line, as the code finds it and writes it: what its functions promise, in the words of `Line`. Assumes nothing.
+use mathlib.Core.Path.{_≡_}
+use mathlib.Core.Bool.{Bool, true, false}
+use mathlib.Core.List.{List, _∷_, _++_, map}
+use Prim.Native.Nat.{ℕ, _+_, _-_, _≤_, _<_}
+use lib.ListN.{length, getD, take, drop}
+use Rattle.laws.specs.Laid.{laidOver}
+use Rattle.laws.specs.Part.{part}
+use Rattle.refusal.specs.Table.{Lowest}
+use Rattle.lines.specs.declared.Opening.{Opening}
+use Rattle.lines.specs.declared.Opening.the-variants.{At, Nothing}
+use Rattle.lines.specs.declared.Span.{Span}
+use Rattle.lines.specs.declared.Span.the-variants.{Digits, Refused}
+use Rattle.lines.specs.Line.{Each, Free, IsCount, Formed, Shaped, frontRows}
+
+-- i is the place of the first line feed, or the length where there is none
+pub record UpTo (t : List ℕ) (i : ℕ) : Type 0 where
+  pub within : i ≤ length t
+  pub free : Free 10 (take i t)
+  pub fed : i < length t → getD t i 0 ≡ 10
+
+-- v is the value of the digit that the byte b is, or 10 where it is none
+pub record Value (b v : ℕ) : Type 0 where
+  pub small : v ≤ 10
+  pub digit : v ≤ 9 → b ≡ 48 + v
+  pub other : 9 < v → (d : ℕ) → d ≤ 9 → b ≡ 48 + d → ⊥
+
+-- b is a digit's byte
+abbrev pub Figure : ℕ → Type 0
+Figure b = (48 ≤ b) × (b ≤ 57)
+
+-- each byte is a digit's
+abbrev pub Figures : List ℕ → Type 0
+Figures t = Each Figure t
+
+-- their values
+unfoldable pub values : List ℕ → List ℕ
+values t = map (λ b. b - 48) t
+
+-- whether t is one or more digits
+pub data Figured (t : List ℕ) : Bool → Type 0 where
+  all : 1 ≤ length t → Figures t → Figured t true
+  not-all : (1 ≤ length t → Figures t → ⊥) → Figured t false
+
+-- b begins with a count that says n, and a space; what follows them begins at s
+pub record Begins (b : List ℕ) (n s : ℕ) : Type 0 where
+  pub count : List ℕ
+  pub rest : List ℕ
+  pub counts : IsCount count n
+  pub parts : b ≡ count ++ (32 ∷ rest)
+  pub start : s ≡ length count + 1
+
+-- how b begins
+pub data Opens (b : List ℕ) : Opening → Type 0 where
+  begins : {n s : ℕ} → Begins b n s → Opens b (At n s)
+  begins-not : ((n s : ℕ) → Begins b n s → ⊥) → Opens b Nothing
+
+-- the form of b, a line without its line feed: what its count says, and where its digits begin
+pub data Forms (b : List ℕ) : Opening → Type 0 where
+  formed : {n s : ℕ} → s ≤ length b → Figures (drop s b) → Formed b n (values (drop s b)) → Forms b (At n s)
+  unformed : ((n : ℕ) (ds : List ℕ) → Formed b n ds → ⊥) → Forms b Nothing
+
+-- c is written from the start of what was lent, and n is its length
+pub record Written (c old : List ℕ) (n : ℕ) (new : List ℕ) : Type 0 where
+  pub count : n ≡ length c
+  pub lies : new ≡ laidOver c old
+
+-- The digits of t's first line stand from s to e, and rows 1, 2, 3 and 5 do not refuse it.
+pub record Stands (most : ℕ) (t : List ℕ) (s e : ℕ) : Type 0 where
+  pub ordered : s ≤ e
+  pub within : e ≤ length t
+  pub figures : Figures (part s e t)
+  pub shape : Shaped t (e - s) (values (part s e t))
+  pub some : 1 ≤ e - s
+  pub few : e - s ≤ most
+
+-- where the digits of t's first line stand, or the refusal that comes before they are judged
+pub data Located (most : ℕ) (t : List ℕ) : Span → Type 0 where
+  stands : {s e : ℕ} → Stands most t s e → Located most t (Digits s e)
+  refused : {k : ℕ} → Lowest (frontRows most t) k 0 → Located most t (Refused k)

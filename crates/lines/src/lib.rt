@@ -1,0 +1,328 @@
+// Lines: the form of a line, found and written; a line and a text, read. What a line is stands in specs/Line.antt, what the functions
+// on its form promise in specs/Form.antt, and what reading promises in specs/Reading.antt.
+use refusal::Answer;
+use refusal::Check;
+ghost use mathlib.Core.Path.{_≡_};
+ghost use mathlib.Core.List.{List, _∷_};
+ghost use Prim.Native.Nat.{ℕ, _≤_, _<_};
+ghost use lib.ListN.{length, set};
+ghost use Rattle.laws.specs.Laid.{laidOver};
+ghost use Rattle.code.specs.Limits.{size};
+ghost use Rattle.refusal.specs.Table.{Answers, row3};
+ghost use Rattle.refusal.specs.Outcome.{told};
+ghost use Rattle.lines.specs.Line.{Digits, figures, decimal, line, judged};
+ghost use Rattle.lines.specs.Judged.{digitTable};
+ghost use Rattle.lines.specs.Reading.{ReadLine, numberOf, placeOf, Behind, Room, ReadText};
+ghost use Rattle.lines.specs.Form.{UpTo, Value, Figures, values, Figured, Opens, Forms, Located, Written};
+
+// How a line begins.
+pub enum Opening {
+    // what its count says, and where what follows the space begins
+    At(usize, usize),
+    // with no count and space
+    Nothing,
+}
+
+// The digits of a line.
+pub enum Span {
+    // where they begin, and where they end
+    Digits(usize, usize),
+    // the number of the refusal that comes before they are judged
+    Refused(u8),
+}
+
+// How far a text is read: so many lines, up to a place.
+pub struct Progress {
+    pub lines: usize,
+    pub at: usize,
+}
+
+// The place of the first line feed, or the length where there is none.
+pub fn feed(text: &[u8]) -> usize
+    ensures { λ r. ⌜ UpTo (now (text .entry)) r ⌝ }
+{
+    let mut i = 0;
+    while i < text.len() {
+        if text[i] == 10 {
+            return i;
+        }
+        i += 1;
+    }
+    i
+}
+
+// The value of a digit's byte, and 10 of any other byte.
+fn value(b: u8) -> u8
+    ensures { λ r. ⌜ Value b r ⌝ }
+{
+    if b < 48 {
+        return 10;
+    }
+    if 57 < b {
+        return 10;
+    }
+    b - 48
+}
+
+// Whether `t` is one or more digits.
+fn digits(t: &[u8]) -> bool
+    ensures { λ r. ⌜ Figured (now (t .entry)) r ⌝ }
+{
+    if t.len() == 0 {
+        return false;
+    }
+    let mut i = 0;
+    while i < t.len() {
+        if value(t[i]) == 10 {
+            return false;
+        }
+        i += 1;
+    }
+    true
+}
+
+// The count and the space that `b` begins with.
+fn begin(b: &[u8]) -> Opening
+    ensures { λ r. ⌜ Opens (now (b .entry)) r ⌝ }
+{
+    if b.len() < 2 {
+        return Opening::Nothing;
+    }
+    let tens = value(b[0]);
+    if tens == 10 {
+        return Opening::Nothing;
+    }
+    if b[1] == 32 {
+        return Opening::At(tens as usize, 2);
+    }
+    if tens == 0 {
+        return Opening::Nothing;
+    }
+    let ones = value(b[1]);
+    if ones == 10 {
+        return Opening::Nothing;
+    }
+    if b.len() < 3 {
+        return Opening::Nothing;
+    }
+    if b[2] == 32 {
+        return Opening::At(10 * tens as usize + ones as usize, 3);
+    }
+    Opening::Nothing
+}
+
+// The form of a line without its line feed.
+pub fn form(b: &[u8]) -> Opening
+    ensures { λ r. ⌜ Forms (now (b .entry)) r ⌝ }
+{
+    match begin(b) {
+        Opening::Nothing => Opening::Nothing,
+        Opening::At(n, start) => {
+            if digits(&b[start..]) {
+                Opening::At(n, start)
+            } else {
+                Opening::Nothing
+            }
+        }
+    }
+}
+
+// The digits of a text's first line, which is judged by rows 1, 2, 3 and 5.
+pub fn locate(text: &[u8]) -> Span
+    ensures { λ r. ⌜ Located size (now (text .entry)) r ⌝ }
+{
+    let end = feed(text);
+    if end == text.len() {
+        return Span::Refused(1);
+    }
+    match form(&text[..end]) {
+        Opening::Nothing => Span::Refused(2),
+        Opening::At(n, start) => {
+            if n == 0 {
+                return Span::Refused(3);
+            }
+            if 64 < n {
+                return Span::Refused(3);
+            }
+            if end - start == n {
+                Span::Digits(start, end)
+            } else {
+                Span::Refused(5)
+            }
+        }
+    }
+}
+
+// Written digits as values, to the start of what is lent.
+pub fn read_digits(t: &[u8], out: &mut [u8])
+    requires figures { ⌜ Figures (now t) ⌝ }
+    requires room { ⌜ length (now t) ≤ length (now out) ⌝ }
+    ensures { λ _. ⌜ now (out .exit) ≡ laidOver (values (now (t .entry))) (now (out .entry)) ⌝ }
+{
+    let mut i = 0;
+    while i < t.len() {
+        out[i] = t[i] - 48;
+        i += 1;
+    }
+}
+
+// Values as written digits, to the start of what is lent.
+fn write_digits(code: &[u8], out: &mut [u8])
+    requires digits { ⌜ Digits (now code) ⌝ }
+    requires room { ⌜ length (now code) ≤ length (now out) ⌝ }
+    ensures { λ _. ⌜ now (out .exit) ≡ laidOver (figures (now (code .entry))) (now (out .entry)) ⌝ }
+{
+    let mut i = 0;
+    while i < code.len() {
+        out[i] = 48 + code[i];
+        i += 1;
+    }
+}
+
+// The count of n digits, to the start of what is lent; how many bytes that is.
+fn write_count(n: usize, out: &mut [u8]) -> usize
+    requires few { ⌜ n ≤ 99 ⌝ }
+    requires room { ⌜ length (decimal n) ≤ length (now out) ⌝ }
+    ensures { λ r. ⌜ Written (decimal n) (now (out .entry)) r (now (out .exit)) ⌝ }
+{
+    if n < 10 {
+        out[0] = 48 + n as u8;
+        return 1;
+    }
+    out[0] = 48 + (n / 10) as u8;
+    out[1] = 48 + (n % 10) as u8;
+    2
+}
+
+// The line of a code, to the start of what is lent; how many bytes that is.
+pub fn write(code: &[u8], out: &mut [u8]) -> usize
+    requires few { ⌜ length (now code) ≤ 99 ⌝ }
+    requires digits { ⌜ Digits (now code) ⌝ }
+    requires room { ⌜ length (line (now code)) ≤ length (now out) ⌝ }
+    ensures { λ r. ⌜ Written (line (now (code .entry))) (now (out .entry)) r (now (out .exit)) ⌝ }
+{
+    let n = code.len();
+    let at = write_count(n, out);
+    out[at] = 32;
+    write_digits(code, &mut out[at + 1..]);
+    out[at + 1 + n] = 10;
+    at + n + 2
+}
+
+// How many bytes the line of n digits takes.
+pub fn extent(n: usize) -> usize
+    requires { ⌜ n ≤ 99 ⌝ }
+    ensures { λ r. ⌜ ((c : List ℕ) → length c ≡ n → length (line c) ≡ r) ⌝ }
+{
+    if n < 10 {
+        return n + 3;
+    }
+    n + 4
+}
+
+// The digits of a line, as they are written, by their values: row 3 of digits lent by themselves, and the rows of a line's.
+fn judge(t: &[u8]) -> Check
+    requires figures { ⌜ Figures (now t) ⌝ }
+    requires few { ⌜ length (now t) ≤ size ⌝ }
+    ensures { λ r. ⌜ Answers (row3 size (length (values (now (t .entry)))) ∷ judged digitTable (values (now (t .entry)))) r ⌝ }
+{
+    let mut v = [0u8; 64];
+    read_digits(t, &mut v);
+    fast::check(&v[..t.len()])
+}
+
+// The first line of a text: its digits as values, to the start of what is lent.
+pub fn read_line(text: &[u8], out: &mut [u8]) -> Answer
+    ensures { λ r. ⌜ ReadLine size digitTable (now (text .entry)) (now (out .entry)) (now (out .exit)) (told r) ⌝ }
+{
+    match locate(text) {
+        Span::Refused(k) => Answer::Refused(k, 0),
+        Span::Digits(start, end) => {
+            let n = end - start;
+            match judge(&text[start..end]) {
+                Check::Refuse(k, p) => Answer::Refused(k, p),
+                Check::Passed => {
+                    if out.len() < n {
+                        return Answer::Refused(15, n);
+                    }
+                    read_digits(&text[start..end], out);
+                    Answer::Done(n)
+                }
+            }
+        }
+    }
+}
+
+// How many lines there is room for: 64 bytes, a number and a place for each.
+fn room(records: usize, numbers: usize, places: usize) -> usize
+    ensures { λ r. ⌜ Room size records numbers places r ⌝ }
+{
+    let n = records / 64;
+    if numbers < n {
+        if places < numbers {
+            return places;
+        }
+        return numbers;
+    }
+    if places < n {
+        return places;
+    }
+    n
+}
+
+// The place behind the line that begins at `at`.
+fn behind(text: &[u8], at: usize) -> usize
+    requires { ⌜ at < length (now text) ⌝ }
+    ensures { λ r. ⌜ Behind (now (text .entry)) at r ⌝ }
+{
+    let end = feed(&text[at..]);
+    if end == text.len() - at {
+        return text.len();
+    }
+    at + end + 1
+}
+
+// Number and place of an answer, for line k.
+fn note(r: Answer, numbers: &mut [u8], places: &mut [usize], k: usize)
+    requires { ⌜ k < length (now numbers) ⌝ }
+    requires { ⌜ k < length (now places) ⌝ }
+    ensures { λ _. ⌜ now (numbers .exit) ≡ set (now (numbers .entry)) k (numberOf (told r)) ⌝ }
+    ensures { λ _. ⌜ now (places .exit) ≡ set (now (places .entry)) k (placeOf (told r)) ⌝ }
+{
+    match r {
+        Answer::Done(n) => {
+            numbers[k] = 0;
+            places[k] = n;
+        }
+        Answer::Refused(m, p) => {
+            numbers[k] = m;
+            places[k] = p;
+        }
+    }
+}
+
+// A text, line after line, as far as there is room.
+pub fn read_text(
+    text: &[u8],
+    records: &mut [u8],
+    numbers: &mut [u8],
+    places: &mut [usize],
+) -> Progress
+    ensures { λ r. ⌜ ReadText size digitTable size
+        (now (text .entry)) (now (records .entry)) (now (numbers .entry)) (now (places .entry))
+        (now (records .exit)) (now (numbers .exit)) (now (places .exit)) (r .lines) (r .at) ⌝ }
+{
+    let lines = room(records.len(), numbers.len(), places.len());
+    let mut k = 0;
+    let mut at = 0;
+    while k < lines {
+        if at == text.len() {
+            return Progress { lines: k, at };
+        }
+        let r = read_line(&text[at..], &mut records[64 * k..64 * k + 64]);
+        note(r, numbers, places, k);
+        at = behind(text, at);
+        k += 1;
+    }
+    Progress { lines: k, at }
+}

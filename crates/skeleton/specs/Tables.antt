@@ -1,0 +1,54 @@
+-- Laws of the table of neighbours: a list has one table, and its rows are the neighbours. Assumes nothing.
+use mathlib.Core.Path.{_≡_, sym, _∙_}
+use mathlib.Core.List.{List, []}
+use Prim.Native.Nat.{ℕ, _+_, _-_, _≤_, _<_}
+use native.Mathlib.Decide.{decLt}
+use native.Mathlib.Omega.{arith}
+use lib.ListN.{length, getD, take}
+use lib.Seq.{ext-getD, getD-take, length-take-le}
+use Rattle.tree.specs.Skeleton.{arcs, neighbours, degree}
+use Rattle.skeleton.specs.Table.{IsTable}
+
+-- the first numbers of a row, as many as the degree says, are the neighbours in the order of the edges
+pub row-is :
+    {N : ℕ} {E : List ℕ} {t : List (List ℕ)} {d : List ℕ} → IsTable N E t d → N ≤ 64 → (v : ℕ) → 1 ≤ v → v ≤ N → degree E v ≤ 4
+    → take (getD d (v - 1) 0) (getD t (v - 1) []) ≡ neighbours (arcs E) v
+unfolding degree
+row-is {E = E} {t} {d} h s v l m f =
+    rw (h .degs v l m)
+    (ext-getD 0 _ _ size (λ i k. let j = rw size at k in getD-take (length (neighbours (arcs E) v)) (getD t (v - 1) []) i 0 j ∙ h .row v i l m j))
+  where
+    size : length (take (length (neighbours (arcs E) v)) (getD t (v - 1) [])) ≡ length (neighbours (arcs E) v)
+    size = length-take-le (length (neighbours (arcs E) v)) (getD t (v - 1) []) (rw (h .shaped .wide (v - 1) (omega arith)) f)
+
+module _ {N : ℕ} {E : List ℕ} {t u : List (List ℕ)} {d e : List ℕ} (h : IsTable N E t d) (k : IsTable N E u e) where
+  one-degree : (i : ℕ) → i < 64 → getD d i 0 ≡ getD e i 0
+  one-degree i l = step (decLt i N)
+    where
+      step : Dec (i < N) → getD d i 0 ≡ getD e i 0
+      step (yes m) =
+          let a : i + 1 - 1 ≡ i = omega arith in
+          rw a at (h .degs (i + 1) (omega arith) (omega arith) ∙ sym (k .degs (i + 1) (omega arith) (omega arith)))
+      step (no n) = h .none i (omega arith) l ∙ sym (k .none i (omega arith) l)
+
+  one-number : (i j : ℕ) → i < 64 → j < 4 → getD (getD t i []) j 0 ≡ getD (getD u i []) j 0
+  one-number i j l m = step (decLt j (getD d i 0)) (decLt i N)
+    where
+      step : Dec (j < getD d i 0) → Dec (i < N) → getD (getD t i []) j 0 ≡ getD (getD u i []) j 0
+      step (yes a) (yes b) =
+          let q : i + 1 - 1 ≡ i = omega arith in
+          let o : j < degree E (i + 1) = omega (arith, rw q at (h .degs (i + 1) (omega arith) (omega arith))) in
+          rw q at (h .row (i + 1) j (omega arith) (omega arith) o ∙ sym (k .row (i + 1) j (omega arith) (omega arith) o))
+      step (yes a) (no b) = absurd (let n : ⊥ = omega (arith, h .none i (omega arith) l) in n)
+      step (no a) b = h .rest i j l (omega arith) m ∙ sym (k .rest i j l (omega (arith, one-degree i l)) m)
+
+  -- a list has one table
+  pub one-table : (t ≡ u) × (d ≡ e)
+  one-table = (
+    ext-getD [] t u (h .shaped .rows ∙ sym (k .shaped .rows)) (λ i l. let m = rw (h .shaped .rows) at l in one-row i m),
+    ext-getD 0 d e (h .shaped .degs ∙ sym (k .shaped .degs)) (λ i l. one-degree i (rw (h .shaped .degs) at l)),
+  )
+    where
+      one-row : (i : ℕ) → i < 64 → getD t i [] ≡ getD u i []
+      one-row i m =
+          ext-getD 0 _ _ (h .shaped .wide i m ∙ sym (k .shaped .wide i m)) (λ j l. one-number i j m (rw (h .shaped .wide i m) at l))

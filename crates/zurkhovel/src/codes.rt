@@ -1,0 +1,33 @@
+// Digit codes and edge lists.
+use refusal::Answer;
+use refusal::Check;
+ghost use Rattle.refusal.specs.Outcome.{told};
+ghost use Rattle.zurkhovel.specs.Codes.{CheckCode, DecodeCode, CheckEdges};
+
+// Whether digits lent by themselves are a right rooted code.
+pub fn check_code(code: &[u8]) -> Answer
+    ensures { λ r. ⌜ CheckCode (now (code .entry)) (told r) ⌝ }
+{
+    refusal::handed(code::check(code))
+}
+
+// The edges (parent, child), for child 2 to N, of a right rooted code.
+pub fn decode_code(code: &[u8], out: &mut [u8]) -> Answer
+    ensures { λ r. ⌜ DecodeCode (now (code .entry)) (now (out .entry)) (now (out .exit)) (told r) ⌝ }
+{
+    if let Check::Refuse(k, p) = code::check(code) {
+        return Answer::Refused(k, p);
+    }
+    let need = 2 * (code.len() - 1);
+    if out.len() < need {
+        return Answer::Refused(15, need);
+    }
+    Answer::Done(code::write_edges(code, out))
+}
+
+// Whether N, an edge list and a root are a skeleton and one of its vertices.
+pub fn check_edges(n: usize, edges: &[u8], root: usize) -> Answer
+    ensures { λ r. ⌜ CheckEdges n (now (edges .entry)) root (told r) ⌝ }
+{
+    refusal::handed(skeleton::check(64, n, edges, root))
+}
