@@ -1,6 +1,6 @@
 -- The trees that digits make, each by the place of its first digit, on a stack that lies at the end of a list; then the children of a digit
 -- compared one with the next, and the tallest of them found, from the last on. Assumes nothing.
-use mathlib.Core.Path.{_≡_, refl, sym, ap, ap₂, _∙_, subst, subst₂}
+use mathlib.Core.Path.{_≡_, refl, sym, ap, _∙_, subst, subst₂}
 use mathlib.Core.List.{List, [], _∷_, flatten, head-eq-of-cons-eq}
 use Prim.Native.Nat.{ℕ, zero, suc, max, _+_, _-_, _≤_, _<_}
 use native.Mathlib.Numerals.{add-one}
@@ -15,7 +15,7 @@ use Rattle.code.specs.Limits.{size}
 use Rattle.code.specs.Code.{codes}
 use Rattle.fast.specs.Middle.{top}
 use Rattle.fast.specs.Skip.{codes-few, codes-at, Skips, skips-length, skips-left, one-after, one-part}
-use Rattle.fast.specs.Stack.{Topped, top-more, top-same, top-last}
+use Rattle.fast.specs.Stack.{Topped, top-last}
 
 -- the trees from digit i on: where each begins, and behind the last the code's length
 pub record Laid (c st : List ℕ) (i at : ℕ) : Type 0 where

@@ -13,3 +13,4 @@ pub mod Spot
 pub mod Over
 pub mod Scan
 pub mod Answer
+pub mod Examples

@@ -1,13 +1,13 @@
 -- A forest with its first tallest tree put in front: what its heights, its digits and its arcs are. Assumes nothing.
 use mathlib.Core.Path.{_≡_, refl, ap, ap₂, sym, _∙_}
 use mathlib.Core.Logic.{ite, if-pos, if-neg}
-use mathlib.Core.List.{List, [], _∷_, _++_, flatten, append-assoc, append-nil, List·Permᴰ, List·Permᴰ·cons, List·Permᴰ·trans, Permᴰ·refl, Permᴰ·append-left}
-use Prim.Native.Nat.{ℕ, suc, max, _+_, _≤_, _<_}
+use mathlib.Core.List.{List, [], _∷_, _++_, flatten, append-assoc, append-nil, List·Permᴰ, List·Permᴰ·trans, Permᴰ·refl, Permᴰ·append-left}
+use Prim.Native.Nat.{ℕ, suc, max, _≤_, _<_}
 use native.Mathlib.Decide.{decLt}
 use native.Mathlib.Omega.{arith}
 use lib.ListN.{length, take, drop}
 use lib.Seq.{take-at, drop-at}
-use Rattle.laws.specs.Order.{_≽_, Falling}
+use Rattle.laws.specs.Order.{Falling}
 use Rattle.laws.specs.Sorting.{trans≽}
 use Rattle.laws.specs.Perms.{front}
 use Rattle.tree.specs.Forest.{Forest, none, tree, vertices, hung}

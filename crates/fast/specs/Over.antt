@@ -1,19 +1,19 @@
 -- The code at a branch's root against the code at the root, and against a child, piece by piece as the code does it. Assumes nothing.
 use mathlib.Core.Path.{_≡_, sym, ap, _∙_, subst, subst₂}
 use mathlib.Core.Bool.{Bool, true, false}
-use mathlib.Core.List.{List, [], _∷_, _++_, append-assoc}
-use Prim.Native.Nat.{ℕ, zero, suc, _+_, _-_, _≤_, _<_}
+use mathlib.Core.List.{List, _∷_, _++_, append-assoc}
+use Prim.Native.Nat.{ℕ, suc, _+_, _-_, _≤_, _<_}
 use native.Mathlib.Numerals.{add-one}
 use native.Mathlib.Omega.{arith}
-use lib.ListN.{length, getD, take, drop, length-drop}
+use lib.ListN.{length, getD, drop, length-drop}
 use lib.Seq.{drop-cons}
 use Rattle.laws.specs.Part.{part, part-cons, part-length, part-join}
 use Rattle.code.specs.declared.Order.the-variants.{Less, Equal, Greater}
 use Rattle.code.specs.Code.{codes}
-use Rattle.code.specs.Compare.{lex, Falls, less-rises, equal-falls, greater-falls}
+use Rattle.code.specs.Compare.{lex, Falls}
 use Rattle.fast.specs.Middle.{rest, turned, branch}
 use Rattle.fast.specs.Skip.{codes-few, Skips, skips-length, skips-on}
-use Rattle.fast.specs.Pieces.{part-rest, head-rises, head-falls, heads-same, less-falls, same-falls, greater-rises, piece-rises, piece-falls, pieces-same}
+use Rattle.fast.specs.Pieces.{part-rest, head-rises, head-falls, heads-same, piece-rises, piece-falls, pieces-same}
 use Rattle.fast.specs.Spot.{Spot}
 
 -- two codes one behind the other

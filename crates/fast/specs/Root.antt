@@ -2,11 +2,10 @@
 -- code is the centred one of what it decodes to, the root is such a vertex (`root-iff`). Assumes nothing.
 use mathlib.Core.Path.{_≡_, refl, ap, sym, _∙_, subst, subst₂}
 use mathlib.Core.Logic.{_↔_, _⊎_, inl, inr, ⊎-elim}
-use mathlib.Core.List.{List, [], _∷_, List·Permᴰ, List·Permᴰ·cons}
-use Prim.Native.Nat.{ℕ, zero, suc, max, _+_, _≤_, _<_}
-use native.Mathlib.Decide.{ℕ-discrete, decLt}
+use mathlib.Core.List.{List, _∷_, List·Permᴰ·cons}
+use Prim.Native.Nat.{ℕ, suc, _≤_, _<_}
+use native.Mathlib.Decide.{ℕ-discrete}
 use native.Mathlib.Omega.{arith}
-use lib.ListN.{length}
 use Rattle.laws.specs.Order.{_≽_, Falling}
 use Rattle.laws.specs.Sorting.{refl≽}
 use Rattle.tree.specs.Skeleton.{IsTree, rooted, Renumbering}
@@ -21,8 +20,8 @@ use Rattle.path.specs.Path.{IsCentre}
 use Rattle.path.specs.Heights.{tall}
 use Rattle.path.specs.Balance as Balance
 use Rattle.path.specs.Theorems as Paths
-use Rattle.form.specs.Form.{Centred, centred}
-use Rattle.fast.specs.Middle.{top, peak, second, tops, other, Middle}
+use Rattle.form.specs.Form.{centred}
+use Rattle.fast.specs.Middle.{peak, second, other, Middle}
 use Rattle.fast.specs.Lift.{Lifted, talls, top-talls, second-below, lift}
 use Rattle.fast.specs.Turn.{Falls, moved, turned-round, code-is, code-more, other-is, heights-whole}
 

@@ -2,22 +2,20 @@
 -- root it tells whether the digits are a right rooted code. Assumes nothing.
 use mathlib.Core.Path.{_≡_, refl, sym, ap, _∙_, subst}
 use mathlib.Core.Bool.{true, false}
-use mathlib.Core.List.{List, [], _∷_}
+use mathlib.Core.List.{List, _∷_}
 use Prim.Native.Nat.{ℕ, zero, suc, _+_, _-_, _≤_, _<_}
 use native.Mathlib.Decide.{ℕ-discrete}
 use native.Mathlib.Omega.{arith}
 use lib.ListN.{length, getD, set, take, drop}
 use lib.Seq.{drop-cons, drop-length}
 use Rattle.laws.specs.Order.{Falling}
-use Rattle.laws.specs.Part.{part}
 use Rattle.code.specs.Limits.{size, valence}
 use Rattle.code.specs.Code.{codes, digit, cap}
 use Rattle.code.specs.Ends.{Ends}
 use Rattle.code.specs.Ordered.{Ordered, by-places}
 use Rattle.code.specs.Parts.{enough, codes-count}
 use Rattle.code.specs.Right.{Right}
-use Rattle.fast.specs.Middle.{top}
-use Rattle.fast.specs.Stack.{Stacked, Branches, stack-start, stack-room, stack-next, stack-last}
+use Rattle.fast.specs.Stack.{Stacked, Branches, stack-start, stack-room, stack-next}
 use Rattle.fast.specs.Laid.{Laid, Joins, laid-start, laid-first, laid-next}
 use Rattle.fast.specs.Race.{Tells, holds, denies}
 

@@ -1,14 +1,13 @@
 -- Codes passed one after the other, by places: the open places are counted, so no end is stored. Assumes nothing.
-use mathlib.Core.Path.{_≡_, refl, sym, ap, ap₂, _∙_, subst}
-use mathlib.Core.List.{List, [], _∷_, _++_, append-assoc, append-nil, flatten}
-use Prim.Native.Nat.{ℕ, zero, suc, _+_, _-_, _≤_, _<_}
+use mathlib.Core.Path.{_≡_, refl, sym, ap, ap₂, _∙_}
+use mathlib.Core.List.{List, [], _∷_, _++_, append-nil, flatten}
+use Prim.Native.Nat.{ℕ, suc, _+_, _-_, _≤_, _<_}
 use native.Mathlib.Numerals.{add-one}
-use native.Mathlib.Nat.{add-zero}
 use native.Mathlib.Decide.{decLt}
 use native.Mathlib.Omega.{arith}
 use lib.ListN.{length, getD, take, drop, length-drop, length-append, take-append-drop, drop-of-length-le}
-use lib.Seq.{drop-cons, drop-drop, take-at, take-length}
-use Rattle.laws.specs.Part.{part, part-cons, part-length, part-join}
+use lib.Seq.{drop-cons, drop-drop, take-at}
+use Rattle.laws.specs.Part.{part}
 use Rattle.code.specs.Code.{codes}
 use Rattle.code.specs.Ends.{Ends}
 use Rattle.code.specs.Parts.{flatten-append, flatten-codes, enough}

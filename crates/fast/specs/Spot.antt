@@ -1,20 +1,19 @@
 -- Where, among the children of the branch at x, what is left of the code is put; and the code at x as the pieces that it then is.
 -- Assumes nothing.
 use mathlib.Core.Path.{_≡_, refl, sym, ap, ap₂, _∙_, subst}
-use mathlib.Core.List.{List, [], _∷_, _++_, append-assoc, append-nil, flatten}
-use Prim.Native.Nat.{ℕ, zero, suc, _+_, _-_, _≤_, _<_}
+use mathlib.Core.List.{List, [], _∷_, _++_, append-assoc, flatten}
+use Prim.Native.Nat.{ℕ, suc, _+_, _-_, _≤_, _<_}
 use native.Mathlib.Numerals.{add-one}
-use native.Mathlib.Nat.{sub-zero}
 use native.Mathlib.Omega.{arith}
 use lib.ListN.{length, getD, take, drop, length-drop}
 use Rattle.laws.specs.Order.{_≽_, insert}
 use Rattle.laws.specs.Sorting.{insert-at, insert-past}
-use Rattle.laws.specs.Part.{part, part-none, part-cons, part-length, part-join}
+use Rattle.laws.specs.Part.{part, part-none, part-join}
 use Rattle.code.specs.Code.{codes}
 use Rattle.code.specs.Ends.{Ends}
 use Rattle.code.specs.Parts.{enough}
-use Rattle.fast.specs.Middle.{rest, turned, branch}
-use Rattle.fast.specs.Skip.{codes-few, Skips, skips-after, skips-length, skips-passed, skips-on, skips-left, one-after, one-part, one-children}
+use Rattle.fast.specs.Middle.{rest}
+use Rattle.fast.specs.Skip.{codes-few, Skips, skips-after, skips-passed, skips-on, skips-left, one-part, one-children}
 
 -- what is left of the code stands before the child that begins at y, or behind the last
 pub record Spot (c : List ℕ) (x e y : ℕ) : Type 0 where

@@ -1,12 +1,11 @@
 -- The heights of the trees that digits make, read from the right on a stack that lies at the end of a list. Assumes nothing.
-use mathlib.Core.Path.{_≡_, refl, sym, ap, ap₂, _∙_, subst}
-use mathlib.Core.List.{List, [], _∷_, _++_}
+use mathlib.Core.Path.{_≡_, refl, sym, ap, ap₂, _∙_}
+use mathlib.Core.List.{List, [], _∷_}
 use Prim.Native.Nat.{ℕ, zero, suc, max, _+_, _-_, _≤_, _<_}
-use native.Mathlib.Numerals.{add-one}
 use native.Mathlib.Omega.{arith}
 use lib.ListN.{length, getD, set, take, drop, length-drop, length-set}
 use lib.Seq.{drop-cons, drop-drop, drop-length, drop-set-lt, getD-set-same}
-use Rattle.laws.specs.Part.{part, part-none, part-cons}
+use Rattle.laws.specs.Part.{part, part-cons}
 use Rattle.code.specs.Limits.{size}
 use Rattle.code.specs.Code.{codes}
 use Rattle.fast.specs.Middle.{top, heights, tops}
@@ -40,10 +39,6 @@ pub record Topped (hs : List ℕ) (from to j best : ℕ) : Type 0 where
   pub after : from ≤ j
   pub within : j ≤ to
   pub best-is : best ≡ top (part j to hs)
-
-pub top-start : {hs : List ℕ} {from to : ℕ} → from ≤ to → Topped hs from to to 0
-unfolding top
-top-start {hs} {to = to} h = record { after = h; within = omega arith; best-is = sym (ap top (part-none to hs)) }
 
 module _ {hs : List ℕ} {from to j best : ℕ} (t : Topped hs from to j best) (long : to ≤ length hs) (l : from < j) where
   greatest : top (part (j - 1) to hs) ≡ max (getD hs (j - 1) 0) best

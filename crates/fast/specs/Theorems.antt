@@ -1,5 +1,5 @@
 -- The test of a centred code by its digits, proved to be document 01's definition. Assumes nothing.
-use mathlib.Core.Path.{_≡_, refl, sym, subst}
+use mathlib.Core.Path.{_≡_, sym, subst}
 use mathlib.Core.Logic.{_↔_, ⊎-elim}
 use mathlib.Core.List.{List}
 use Prim.Native.Nat.{ℕ, _≤_}
@@ -12,9 +12,9 @@ use Rattle.tree.specs.Skeleton.{IsTree, rooted, IsRooted}
 use Rattle.tree.specs.Theorems.{decode-code, decoded-tree, right}
 use Rattle.tree.specs.Ordered.{code-ordered}
 use Rattle.path.specs.Theorems.{centre-inside}
-use Rattle.form.specs.Form.{Centred, centred}
+use Rattle.form.specs.Form.{centred}
 use Rattle.fast.specs.Middle.{Middle}
-use Rattle.fast.specs.Root.{AtCentre, middle-iff, centred-at, at-centred}
+use Rattle.fast.specs.Root.{middle-iff, centred-at, at-centred}
 
 module _ (c : List ℕ) (h : Ends 1 c) where
   decoded : IsTree (length c) (decode c)

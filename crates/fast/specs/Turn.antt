@@ -1,27 +1,25 @@
 -- A tree with its trees below the root rearranged, or with the first child made the root; and the code there, by digits (`other-code`).
 -- Assumes nothing.
-use mathlib.Core.Path.{_≡_, refl, ap, ap₂, sym, _∙_, subst}
-use mathlib.Core.List.{List, [], _∷_, _++_, flatten, append-assoc, append-nil, List·Memᴰ, List·Permᴰ, List·Permᴰ·cons, List·Permᴰ·swap, List·Permᴰ·trans, Permᴰ·symm}
-use Prim.Native.Nat.{ℕ, suc, _+_, _-_, _≤_, _<_}
-use native.Mathlib.Nat.{add-zero}
+use mathlib.Core.Path.{_≡_, refl, ap, ap₂, sym, _∙_}
+use mathlib.Core.List.{List, [], _∷_, _++_, flatten, append-assoc, append-nil, List·Permᴰ, List·Permᴰ·cons, List·Permᴰ·swap, List·Permᴰ·trans, Permᴰ·symm}
+use Prim.Native.Nat.{ℕ, suc, _-_}
 use native.Mathlib.Omega.{arith}
 use lib.ListN.{length, getD, take, drop, length-append}
-use lib.Seq.{take-at, drop-at, getD-append-seam, take-append-seam, drop-append-seam}
+use lib.Seq.{drop-at, getD-append-seam, take-append-seam, drop-append-seam}
 use Rattle.laws.specs.Order.{insert, sort, Falling}
 use Rattle.laws.specs.Sorting.{sort-stays}
-use Rattle.laws.specs.Part.{part}
 use Rattle.laws.specs.Perms.{perm-in, perm-length, front}
 use Rattle.laws.specs.Once.{Once, once-perm}
 use Rattle.code.specs.Code.{codes}
-use Rattle.tree.specs.Skeleton.{arcs, rooted}
-use Rattle.tree.specs.Forest.{Forest, none, tree, vertices, count, hung, Rooted}
+use Rattle.tree.specs.Skeleton.{rooted}
+use Rattle.tree.specs.Forest.{Forest, tree, vertices, hung, Rooted}
 use Rattle.tree.specs.Forests.{count-vertices, distinct-once}
 use Rattle.tree.specs.Label.{joinₗ}
 use Rattle.tree.specs.Codes.{branches, rooted-join}
 use Rattle.tree.specs.Base.{base, rooted-base}
 use Rattle.tree.specs.Decoding.{width, shape}
 use Rattle.tree.specs.Ordered.{strings, strings-length, strings-shape, codes-forest, first-codes, Down, down-branches}
-use Rattle.fast.specs.Middle.{top, peak, heights, tops, branch, rest, turned, other}
+use Rattle.fast.specs.Middle.{peak, heights, branch, rest, turned, other}
 use Rattle.fast.specs.Lift.{Lifted, talls, heights-forest}
 
 -- the same tree with another root, or another order of its vertices

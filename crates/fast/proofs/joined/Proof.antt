@@ -1,9 +1,9 @@
 -- `fast::joined` meets its contract: the loop keeps that the trees passed fall, and the tallest of them. Assumes nothing.
 use mathlib.Core.Path.{_≡_, subst}
-use Prim.Native.Nat.{ℕ, _+_, _-_, _≤_}
+use Prim.Native.Nat.{ℕ, _+_, _-_}
 use native.Mathlib.Omega.{arith}
 use denote.Ref.{now}
-use lib.ListN.{length, getD}
+use lib.ListN.{getD}
 use borrow.Author.Tests.{not-true, not-false}
 use Rattle.code.specs.Compare.{was-falling, was-rising}
 use Rattle.fast.specs.Stack.{top-more, top-same, top-last}

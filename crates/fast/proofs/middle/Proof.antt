@@ -1,8 +1,5 @@
 -- `fast::middle` meets its contract: the loop keeps the two tallest of the branches passed. Assumes nothing.
-use mathlib.Core.Path.{_≡_}
-use Prim.Native.Nat.{_+_, _-_, _≤_, _<_}
 use native.Mathlib.Omega.{arith}
-use lib.ListN.{length}
 use Rattle.fast.specs.Race.{Race, race-start, race-next, race-low, race-first, race-high, race-even, race-apart, race-inside, race-close}
 use Rattle.fast.proofs.middle.Statement.{statement}
 use Rattle.fast.proofs.middle.Tie as tie

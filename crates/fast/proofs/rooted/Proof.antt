@@ -1,9 +1,5 @@
 -- `fast::rooted` meets its contract. Assumes nothing.
-use mathlib.Core.Path.{_≡_}
-use Prim.Native.Nat.{_+_, _≤_}
 use native.Mathlib.Omega.{arith}
-use denote.Ref.{now}
-use lib.ListN.{getD}
 use Rattle.fast.specs.Stack.{stack-low}
 use Rattle.fast.specs.Scan.{from-first, to-first, root-big, root-open, root-rising, root-right}
 use Rattle.fast.proofs.rooted.Statement.{statement}

@@ -1,1 +1,0 @@
--- Nothing that more than one proof cites.
