@@ -37,6 +37,10 @@ nTuple N E c = NTuple N E (rooted N E) c
 abbrev pub centred : ℕ → List ℕ → List ℕ → Type 0
 centred N E c = Centred N E (rooted N E) c
 
+-- l is made of the centred code by f
+abbrev pub ofCentred : ℕ → List ℕ → (List ℕ → List ℕ) → List ℕ → Type 0
+ofCentred N E f l = (c : List ℕ) × centred N E c × (l ≡ f c)
+
 -- 14: a right rooted code is not of the form asked for
 abbrev pub row14 : (ℕ → List ℕ → List ℕ → Type 0) → List ℕ → Row
 row14 form c = record { number = 14; applies = λ p. (p ≡ 0) × (form (length c) (decode c) c → ⊥) }

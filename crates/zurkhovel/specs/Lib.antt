@@ -1,4 +1,5 @@
 -- The promises of the public calls. Assumes nothing.
 pub mod Codes
 pub mod Lines
+pub mod Alike
 pub mod One

@@ -3,14 +3,21 @@ use mathlib.Core.Path.{_≡_}
 use mathlib.Core.List.{List, [], _∷_}
 use Prim.Native.Nat.{ℕ, zero, suc, _+_}
 use lib.ListN.{length}
-use Rattle.refusal.specs.Table.{Outcome}
-use Rattle.code.specs.Limits.{size}
+use Rattle.refusal.specs.Table.{Outcome, Gives}
+use Rattle.code.specs.Limits.{size, valence}
+use Rattle.skeleton.specs.Edges.{edgeRows}
+use Rattle.form.specs.Form.{ofCentred}
+use Rattle.lines.specs.Line.{line}
 use Rattle.lines.specs.Judged.{digitTable}
 use Rattle.lines.specs.Reading as Reading
 
 -- the first line of the text t into a lent output
 abbrev pub ReadLine : List ℕ → List ℕ → List ℕ → Outcome ℕ → Type 0
 ReadLine t old new o = Reading.ReadLine size digitTable t old new o
+
+-- the line of the centred code of the skeleton with N vertices and the edges E
+abbrev pub WriteLine : ℕ → List ℕ → List ℕ → List ℕ → Outcome ℕ → Type 0
+WriteLine N E old new o = Gives (edgeRows size valence N E 1) (ofCentred N E line) old new o
 
 -- the text t, line after line: rec, num and pla before, rec′, num′ and pla′ after; k lines are read, up to the place `at`
 abbrev pub ReadText : List ℕ → List ℕ → List ℕ → List ℕ → List ℕ → List ℕ → List ℕ → ℕ → ℕ → Type 0

@@ -1,14 +1,31 @@
 // Lines: one, and a text of them.
 use lines::Progress;
 use refusal::Answer;
+use refusal::Check;
 ghost use Rattle.refusal.specs.Outcome.{told};
-ghost use Rattle.zurkhovel.specs.Lines.{ReadLine, ReadText, Counted};
+ghost use Rattle.zurkhovel.specs.Lines.{ReadLine, WriteLine, ReadText, Counted};
 
 // The digits of a text's first line, as values.
 pub fn read_line(text: &[u8], out: &mut [u8]) -> Answer
     ensures { λ r. ⌜ ReadLine (now (text .entry)) (now (out .entry)) (now (out .exit)) (told r) ⌝ }
 {
     lines::read_line(text, out)
+}
+
+// The line of a skeleton's centred code.
+pub fn write_line(n: usize, edges: &[u8], out: &mut [u8]) -> Answer
+    ensures { λ r. ⌜ WriteLine n (now (edges .entry)) (now (out .entry)) (now (out .exit)) (told r) ⌝ }
+{
+    if let Check::Refuse(k, p) = skeleton::check(64, n, edges, 1) {
+        return Answer::Refused(k, p);
+    }
+    let need = lines::extent(n);
+    if out.len() < need {
+        return Answer::Refused(15, need);
+    }
+    let mut digits = [0u8; 64];
+    coding::centred(n, edges, &mut digits);
+    Answer::Done(lines::write(&digits[..n], out))
 }
 
 // A text, line after line: for each line 64 bytes of `records`, one number and one place. It stops where the text ends, or where one of the

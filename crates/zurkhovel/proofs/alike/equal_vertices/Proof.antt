@@ -1,0 +1,43 @@
+-- `zurkhovel::alike::equal_vertices` keeps its promise. Assumes nothing.
+use mathlib.Core.Path.{refl, sym, _∙_}
+use native.Mathlib.Omega.{arith}
+use denote.Ref.{now}
+use borrow.Author.Needs.{needs}
+use Rattle.refusal.specs.Table.{Clear}
+use Rattle.refusal.specs.Laws.{was-clear, was-lowest, refused-first, at-most}
+use Rattle.code.specs.Limits.{size, valence}
+use Rattle.skeleton.specs.Edges.{edgeRows}
+use Rattle.vertices.specs.Vertices.{classes}
+use Rattle.vertices.specs.Theorems.{classes-numbered}
+use Rattle.zurkhovel.proofs.Coded.{skeleton-of}
+use Rattle.zurkhovel.proofs.Derived.{code-clear, code-size, derived-short, derived-given}
+use Rattle.zurkhovel.proofs.alike.equal_vertices.Statement.{statement}
+use Rattle.zurkhovel.proofs.alike.equal_vertices.Tie as tie
+
+abbrev start : tie.After-enum-told → tie.Start
+start c = c .before .before .before .before .before
+
+-- what is known behind the check
+clear : (c : tie.After-enum-told) → Clear (edgeRows size valence (start c .args .n) (now (start c .args .edges)) 1)
+clear c = was-clear (c .before .before .check .ensures) (c .enum-told .given .1)
+
+pub equal-vertices-spec : {M : Type 1} → statement M
+equal-vertices-spec =
+    tie.close
+    (tie.spec
+    (λ c κs. search needs)
+    (λ c. search needs)
+    (λ c. refused-first refl (was-lowest (c .before .before .before .check .ensures) (c .before .k .given .1)) refl)
+    (λ c. search needs)
+    (λ c. let d = c .before in derived-short (start d .args .n) (now (start d .args .edges)) (clear d) classes (start d .args .n) (λ x e. classes-numbered x .count ∙ e) (c .if1 .taken) refl)
+    (λ c. search needs)
+    (λ c κs. let d = c .before .before in (skeleton-of (start d .args .n) (now (start d .args .edges)) 1 (clear d), omega (arith, at-most (clear d))))
+    (λ c. let d = c .before .before .before .before in omega (arith, at-most (clear d)))
+    (λ c. let d = c .before .before .before .before .before in sym (code-size (start d .args .n) (now (start d .args .edges)) (clear d) (c .before .before .centred .ensures)))
+    (λ c κs. let d = c .before .before .before .before .before .before in
+    let w = c .before .before .before .centred .ensures in
+    (code-clear (start d .args .n) (now (start d .args .edges)) (clear d) w, omega (arith, code-size (start d .args .n) (now (start d .args .edges)) (clear d) w, c .before .before .before .before .before .if1 .left)))
+    (λ c. search needs)
+    (λ c. let d = c .before .before .before .before .before .before .before .before .before in
+    derived-given (start d .args .n) (now (start d .args .edges)) (clear d) classes (start d .args .n) (λ x e. classes-numbered x .count ∙ e) (c .before .before .before .before .before .before .before .before .if1 .left)
+    (c .before .before .before .before .before .before .centred .ensures) (c .before .before .write-classes .ensures)))

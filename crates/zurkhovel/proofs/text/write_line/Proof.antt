@@ -1,0 +1,48 @@
+-- `zurkhovel::text::write_line` keeps its promise. Assumes nothing.
+use mathlib.Core.Path.{refl, sym}
+use native.Mathlib.Omega.{arith}
+use denote.Ref.{now}
+use borrow.Author.Needs.{needs}
+use Rattle.refusal.specs.Table.{Clear}
+use Rattle.refusal.specs.Laws.{was-clear, was-lowest, refused-first, at-most}
+use Rattle.code.specs.Limits.{size, valence}
+use Rattle.skeleton.specs.Edges.{edgeRows}
+use Rattle.lines.specs.Line.{line}
+use Rattle.zurkhovel.proofs.Coded.{skeleton-of}
+use Rattle.zurkhovel.proofs.Derived.{code-digits, code-size, derived-size, derived-short, derived-given}
+use Rattle.zurkhovel.proofs.text.write_line.Statement.{statement}
+use Rattle.zurkhovel.proofs.text.write_line.Tie as tie
+
+abbrev start : tie.After-enum-told → tie.Start
+start c = c .before .before .before .before .before
+
+-- what is known behind the check
+clear : (c : tie.After-enum-told) → Clear (edgeRows size valence (start c .args .n) (now (start c .args .edges)) 1)
+clear c = was-clear (c .before .before .check .ensures) (c .enum-told .given .1)
+
+pub write-line-spec : {M : Type 1} → statement M
+write-line-spec =
+    tie.close
+    (tie.spec
+    (λ c κs. search needs)
+    (λ c. search needs)
+    (λ c. refused-first refl (was-lowest (c .before .before .before .check .ensures) (c .before .k .given .1)) refl)
+    (λ c. search needs)
+    (λ c κs. omega (arith, at-most (clear c)))
+    (λ c. let d = c .before .before in derived-short (start d .args .n) (now (start d .args .edges)) (clear d) line (c .before .extent .result) (c .before .extent .ensures) (c .if1 .taken) refl)
+    (λ c. search needs)
+    (λ c κs. let d = c .before .before .before in (skeleton-of (start d .args .n) (now (start d .args .edges)) 1 (clear d), omega (arith, at-most (clear d))))
+    (λ c. let d = c .before .before .before .before .before in omega (arith, at-most (clear d)))
+    (λ c. let d = c .before .before .before .before .before .before in sym (code-size (start d .args .n) (now (start d .args .edges)) (clear d) (c .before .before .centred .ensures)))
+    (λ c κs. let e = c .before .before .before .before .before .before in
+    let d = e .before in
+    let w = c .before .before .before .centred .ensures in (
+      omega (arith, code-size (start d .args .n) (now (start d .args .edges)) (clear d) w, at-most (clear d)),
+      (code-digits (start d .args .n) (now (start d .args .edges)) (clear d) w .digits, omega (arith, derived-size (start d .args .n) (now (start d .args .edges)) (clear d) line (e .extent .result) (e .extent .ensures) w, c .before .before .before .before .before .if1 .left)),
+    ))
+    (λ c. search needs)
+    (λ c. let e = c .before .before .before .before .before .before .before .before .before in
+    let d = e .before in
+    let l = c .before .before .write .ensures in
+    derived-given (start d .args .n) (now (start d .args .edges)) (clear d) line (e .extent .result) (e .extent .ensures) (c .before .before .before .before .before .before .before .before .if1 .left)
+    (c .before .before .before .before .before .before .centred .ensures) (record { count = l .count; lies = l .lies })))

@@ -1,0 +1,13 @@
+-- The promise of the call on equal vertices. Assumes nothing.
+use mathlib.Core.Path.{_≡_}
+use mathlib.Core.List.{List}
+use Prim.Native.Nat.{ℕ}
+use Rattle.refusal.specs.Table.{Outcome, Gives}
+use Rattle.code.specs.Limits.{size, valence}
+use Rattle.skeleton.specs.Edges.{edgeRows}
+use Rattle.form.specs.Form.{ofCentred}
+use Rattle.vertices.specs.Vertices.{classes}
+
+-- the classes of the vertices in the centred code's numbering
+abbrev pub EqualVertices : ℕ → List ℕ → List ℕ → List ℕ → Outcome ℕ → Type 0
+EqualVertices N E old new o = Gives (edgeRows size valence N E 1) (ofCentred N E classes) old new o
