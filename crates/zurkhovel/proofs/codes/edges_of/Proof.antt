@@ -1,0 +1,28 @@
+-- `zurkhovel::codes::edges_of` meets its contract. Assumes nothing.
+use mathlib.Core.Path.{_≡_, refl}
+use mathlib.Core.List.{[]}
+use native.Mathlib.Omega.{arith}
+use denote.Ref.{now}
+use borrow.Author.Needs.{needs}
+use Rattle.refusal.specs.Table.{Clear}
+use Rattle.refusal.specs.Laws.{at-least, refused-short, given-laid}
+use Rattle.zurkhovel.proofs.Decoded.{edges-length, edges-sized}
+use Rattle.zurkhovel.proofs.codes.edges_of.Statement.{statement}
+use Rattle.zurkhovel.proofs.codes.edges_of.Tie as tie
+
+none : Clear []
+none = record { nowhere = λ k p a. a }
+
+pub edges-of-spec : {M : Type 1} → statement M
+edges-of-spec =
+    tie.close
+    (tie.spec
+    (λ c. at-least (c .before .before .pre))
+    (λ c. search needs)
+    (λ c. let s = c .before .before .before in
+    refused-short none (edges-sized (now (s .args .code)) (s .pre)) refl (c .if1 .taken) refl)
+    (λ c κs. let s = c .before .before .before .before in
+    (s .pre, omega (arith, edges-length (now (s .args .code)) (s .pre))))
+    (λ c. search needs)
+    (λ c. let s = c .before .before .before .before .before .before .before in
+    given-laid none (omega (arith, edges-length (now (s .args .code)) (s .pre))) (c .before .before .write-edges .ensures)))
