@@ -1,45 +1,24 @@
 -- The table of a skeleton as a copy of which nothing is peeled off.
 --
--- In order: neighbours and arcs; a row and its neighbours; the copy. Assumes nothing.
-use mathlib.Core.Path.{_≡_, sym, ap, _∙_}
-use mathlib.Core.Logic.{_⊎_, inl, inr, ⊎-elim}
-use mathlib.Core.List.{List, [], _∷_, List·Memᴰ, List·Memᴰ·head, List·Memᴰ·tail, List·Memᴰ·cases-cons, List·Memᴰ·not-nil, Permᴰ·symm}
+-- In order: neighbours; a row and its neighbours; the copy. Assumes nothing.
+use mathlib.Core.Path.{_≡_, _∙_}
+use mathlib.Core.List.{List, [], List·Memᴰ, List·Memᴰ·not-nil, Permᴰ·symm}
 use Prim.Native.Nat.{ℕ, _-_, _≤_}
-use native.Mathlib.Decide.{ℕ-discrete}
 use native.Mathlib.Omega.{arith}
 use lib.ListN.{length, getD}
 use lib.Seq.{ext-getD, length-take-le, getD-take}
 use Rattle.laws.specs.Once.{Once, once-perm}
 use Rattle.code.specs.Limits.{size, valence}
-use Rattle.tree.specs.Skeleton.{Arc, arcs, neighbours, degree, IsTree, Degrees}
+use Rattle.tree.specs.Skeleton.{arcs, neighbours, degree, IsTree, Degrees}
 use Rattle.tree.specs.Walks.{turn, arc-end}
 use Rattle.tree.specs.Forest.{Forest, none, tree, Distinct, Rooted}
 use Rattle.tree.specs.Grow.{rooted-tree}
-use Rattle.tree.specs.Codes.{roots, root-in, near, neighbours-at, neighbours-past, neighbours-perm}
-use Rattle.skeleton.specs.Table.{IsTable}
-use Rattle.centre.specs.Held.{Held}
+use Rattle.tree.specs.Codes.{roots, root-in, near, neighbours-perm}
+use Rattle.tree.specs.Arcs.{near-arc, arc-near}
+use Rattle.skeleton.specs.Table.{IsTable, Held}
 use Rattle.centre.specs.Peeling.{deg, row, Stays, Copy, Leaves}
 
--- ---- neighbours and arcs
-
-pub near-arc : (A : List Arc) (v w : ℕ) → List·Memᴰ w (neighbours A v) → List·Memᴰ (v, w) A
-unfolding neighbours
-near-arc [] v w m = absurd (List·Memᴰ·not-nil m)
-near-arc (e ∷ A) v w m = step (ℕ-discrete (e .0) v) (near-arc A v w)
-  where
-    step : Dec (e .0 ≡ v) → (List·Memᴰ w (neighbours A v) → List·Memᴰ (v, w) A) → List·Memᴰ (v, w) (e ∷ A)
-    step (yes f) r = ⊎-elim (λ g. List·Memᴰ·head (λ i. (sym f i, g i))) (λ k. List·Memᴰ·tail (r k)) (List·Memᴰ·cases-cons (rw (neighbours-at (e .0) v (e .1) A f) at m))
-    step (no n) r = List·Memᴰ·tail (r (rw (neighbours-past (e .0) v (e .1) A n) at m))
-
-pub arc-near : (A : List Arc) (v w : ℕ) → List·Memᴰ (v, w) A → List·Memᴰ w (neighbours A v)
-arc-near [] v w m = absurd (List·Memᴰ·not-nil m)
-arc-near (e ∷ A) v w m = step (ℕ-discrete (e .0) v) (List·Memᴰ·cases-cons m) (arc-near A v w)
-  where
-    step : Dec (e .0 ≡ v) → ((v, w) ≡ e) ⊎ List·Memᴰ (v, w) A → (List·Memᴰ (v, w) A → List·Memᴰ w (neighbours A v)) → List·Memᴰ w (neighbours (e ∷ A) v)
-    step (yes f) (inl g) r = rw (neighbours-at (e .0) v (e .1) A f) (List·Memᴰ·head (ap (λ (x : Arc). x .1) g))
-    step (yes f) (inr k) r = rw (neighbours-at (e .0) v (e .1) A f) (List·Memᴰ·tail (r k))
-    step (no n) (inl g) r = absurd (n (sym (ap (λ (x : Arc). x .0) g)))
-    step (no n) (inr k) r = rw (neighbours-past (e .0) v (e .1) A n) (r k)
+-- ---- neighbours
 
 roots-once : (f : Forest) → Distinct f → Once (roots f)
 unfolding roots

@@ -15,8 +15,7 @@ use Rattle.tree.specs.Skeleton.{arcs, IsTree}
 use Rattle.path.specs.Path.{IsCentre}
 use Rattle.path.specs.Peel.{Two, Peels, Left, start, round}
 use Rattle.path.specs.Centre.{done}
-use Rattle.skeleton.specs.Table.{IsTable}
-use Rattle.centre.specs.Held.{Held}
+use Rattle.skeleton.specs.Table.{IsTable, Held}
 use Rattle.centre.specs.Peeling.{deg, row, Stays, Copy, Sifted, Ready, Round, Peelable, Leaves}
 use Rattle.centre.proofs.Waiting.{take-in, drop-in, waits, first-in, single}
 use Rattle.centre.proofs.Rows.{take-some}

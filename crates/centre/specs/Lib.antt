@@ -1,3 +1,2 @@
--- The centre by peeling: what the call takes, and what the parts of the code promise each other. Assumes nothing.
-pub mod Held
+-- The centre by peeling: what the parts of the code promise each other. Assumes nothing.
 pub mod Peeling

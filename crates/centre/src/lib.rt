@@ -9,8 +9,7 @@ ghost use lib.ListN.{length, take};
 ghost use Rattle.code.specs.Limits.{size, valence};
 ghost use Rattle.tree.specs.Skeleton.{IsTree};
 ghost use Rattle.path.specs.Path.{IsCentre};
-ghost use Rattle.skeleton.specs.Table.{Shaped, IsTable};
-ghost use Rattle.centre.specs.Held.{Held};
+ghost use Rattle.skeleton.specs.Table.{Shaped, IsTable, Held};
 ghost use Rattle.centre.specs.Peeling.{Copy, Round, Peelable, Without, Linked, Unlinked, Pushed, Leaves};
 
 // The centre: its one vertex twice, or its two.

@@ -17,7 +17,8 @@ abbrev pub Ordered : List ℕ → Type 0
 Ordered [] = Unit {0}
 Ordered (k ∷ ds) = Falling (take k (codes ds)) × Ordered ds
 
-by-places : (c : List ℕ) → Ordered c ↔ ((i : ℕ) → i < length c → Falling (take (getD c i 0) (codes (drop (suc i) c))))
+-- digit by digit
+pub by-places : (c : List ℕ) → Ordered c ↔ ((i : ℕ) → i < length c → Falling (take (getD c i 0) (codes (drop (suc i) c))))
 by-places [] = (λ o i h. let z : ⊥ = omega arith in absurd z, λ g. tt)
 by-places (k ∷ ds) = (λ o. at o (by-places ds .0 (o .1)), λ g. (g 0 (omega arith), by-places ds .1 (λ i h. g (suc i) (omega arith))))
   where

@@ -214,7 +214,7 @@ pub fn check(code: &[u8]) -> Check
 }
 
 // v put k times on top of the open places, of which there are t; how many there are then.
-fn push(places: &mut [u8], t: usize, v: u8, k: u8) -> usize
+pub fn push(places: &mut [u8], t: usize, v: u8, k: u8) -> usize
     requires { ⌜ t + k ≤ length (now places) ⌝ }
     ensures { λ r. ⌜ Pushed (now (places .entry)) (now (places .exit)) t v k r ⌝ }
 {

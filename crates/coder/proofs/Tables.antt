@@ -18,8 +18,7 @@ use Rattle.tree.specs.Codes.{code-of-tree, rooted-join}
 use Rattle.tree.specs.Grow.{rooted-tree}
 use Rattle.tree.specs.Theorems as Theorems
 use Rattle.coder.proofs.Neighbours.{neighbour-in, mutual-in, lone}
-use Rattle.skeleton.specs.Table.{IsTable}
-use Rattle.coder.specs.Table.{IsSomeTable}
+use Rattle.skeleton.specs.Table.{IsTable, Held}
 use Rattle.coder.specs.Coded.{cells, but, kids, codeBy, coded, cell, Rows}
 
 filter-in : {A : Type 0} {P : A → Type 0} (d : (a : A) → Dec (P a)) {x : A} (l : List A) → List·Memᴰ x (filter d l) → List·Memᴰ x l
@@ -108,7 +107,7 @@ pub record Ready (t : List (List ℕ)) (d : List ℕ) (N r : ℕ) : Type 0 where
   pub few : N ≤ size
   pub long : length (coded t d 0 r) ≡ N
 
-pub ready-at : {t : List (List ℕ)} {d : List ℕ} {N : ℕ} (r : ℕ) → IsSomeTable N t d → 1 ≤ r → r ≤ N → Ready t d N r
+pub ready-at : {t : List (List ℕ)} {d : List ℕ} {N : ℕ} (r : ℕ) → Held N t d → 1 ≤ r → r ≤ N → Ready t d N r
 ready-at {t} {d} {N} r s h k =
     let tree = s .skeleton .tree in
     record {
@@ -118,7 +117,7 @@ ready-at {t} {d} {N} r s h k =
     }
 
 -- the code, written over the first N places alone
-pub rooted-laid : {t : List (List ℕ)} {d : List ℕ} {N : ℕ} {E ys : List ℕ} (r : ℕ) (xs : List ℕ) → IsSomeTable N t d → IsTree N E → IsTable N E t d → 1 ≤ r → r ≤ N
+pub rooted-laid : {t : List (List ℕ)} {d : List ℕ} {N : ℕ} {E ys : List ℕ} (r : ℕ) (xs : List ℕ) → Held N t d → IsTree N E → IsTable N E t d → 1 ≤ r → r ≤ N
     → ys ≡ coded t d 0 r → ys ++ drop N xs ≡ laidOver (rooted N E r) xs
 unfolding laidOver
 rooted-laid {t} {d} {N} r xs s tree b h k e =

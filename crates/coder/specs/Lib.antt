@@ -1,3 +1,2 @@
 -- What the coder's contracts cite. Assumes nothing.
-pub mod Table
 pub mod Coded

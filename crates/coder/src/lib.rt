@@ -11,8 +11,7 @@ ghost use Rattle.code.specs.Code.{sum};
 ghost use Rattle.code.specs.Limits.{size, valence};
 ghost use Rattle.laws.specs.Laid.{laidOver};
 ghost use Rattle.tree.specs.Skeleton as tree;
-ghost use Rattle.skeleton.specs.Table.{IsTable};
-ghost use Rattle.coder.specs.Table.{IsSomeTable};
+ghost use Rattle.skeleton.specs.Table.{IsTable, Held};
 ghost use Rattle.coder.specs.Coded.{isLess, put, coded, deg, cell, Rows, Blank, Stand, Spot};
 
 // Whether the code from `a` up to `e` is smaller than the one from `m` up to `b`: two siblings, each where it stands in the buffer.
@@ -167,7 +166,7 @@ fn cover(rows: &[[u8; 4]; 64], degs: &[u8; 64], root: usize, out: &mut [u8])
 
 // Writes the rooted code at `root` of the skeleton of n vertices whose table is given.
 pub fn rooted(rows: &[[u8; 4]; 64], degs: &[u8; 64], n: usize, root: usize, out: &mut [u8])
-    requires { ⌜ IsSomeTable n (now rows) (now degs) ⌝ }
+    requires { ⌜ Held n (now rows) (now degs) ⌝ }
     requires { ⌜ (1 ≤ root) × (root ≤ n) × (n ≤ length (now out)) ⌝ }
     ensures { λ _. ⌜ ((E : List ℕ) → tree.IsTree n E → IsTable n E (now (rows .entry)) (now (degs .entry))
         → now (out .exit) ≡ laidOver (tree.rooted n E root) (now (out .entry))) ⌝ }

@@ -4,13 +4,14 @@ use mathlib.Core.Bool.{Bool, true, false, true≢false, false≢true}
 use mathlib.Core.List.{List, [], _∷_}
 use Prim.Native.Nat.{ℕ}
 use native.Mathlib.Omega.{arith}
-use Rattle.refusal.specs.Table.{Answers, passes, fails, Clear}
-use Rattle.refusal.specs.Laws.{clear-one, first-place}
+use Rattle.refusal.specs.Table.{Answers, passes, fails}
+use Rattle.refusal.specs.Laws.{clear-one, clear-both, first-place, lowest-front, lowest-back}
+use Rattle.refusal.specs.declared.Check.{Check}
 use Rattle.refusal.specs.declared.Check.the-variants.{Passed, Refuse}
 use Rattle.code.specs.Code.{codeRows}
-use Rattle.code.specs.Right.{Right}
+use Rattle.code.specs.Right.{Right, right-clear, clear-right}
 use Rattle.tree.specs.Ordered.{code-ordered}
-use Rattle.form.specs.Form.{centred, row14}
+use Rattle.form.specs.Form.{centred, row14, formRows}
 use Rattle.fast.specs.Middle.{Middle}
 use Rattle.fast.specs.Race.{Tells, holds, denies}
 use Rattle.fast.specs.Theorems.{rooted-centred}
@@ -31,3 +32,13 @@ module _ {most R : ℕ} {c : List ℕ} (k : Right most R c) where
   pub when-not : {r : Bool} → Tells (Middle c) r → r ≡ false → Answers (row14 centred c ∷ []) (Refuse 14 0)
   when-not (holds m) e = absurd (true≢false e)
   when-not (denies n) e = refused (denies n)
+
+-- the rows in front of 14: one of them applies to what is no right code, none to a right one
+module _ {most R : ℕ} {c : List ℕ} where
+  pub when-wrong : {r : Check} → (Right most R c → ⊥) → Answers (codeRows most R c) r → Answers (formRows centred most R c) r
+  when-wrong n (passes k) = absurd (n (clear-right most R c k))
+  when-wrong n (fails l) = fails (lowest-front (row14 centred c ∷ []) refl l)
+
+  pub when-right : {r : Check} → Right most R c → Answers (row14 centred c ∷ []) r → Answers (formRows centred most R c) r
+  when-right k (passes d) = passes (clear-both (right-clear most R c k) d)
+  when-right k (fails l) = fails (lowest-back (right-clear most R c k) l)

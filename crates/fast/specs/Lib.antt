@@ -6,8 +6,10 @@ pub mod Root
 pub mod Theorems
 pub mod Skip
 pub mod Stack
+pub mod Laid
 pub mod Pieces
 pub mod Race
 pub mod Spot
 pub mod Over
+pub mod Scan
 pub mod Answer

@@ -1,5 +1,5 @@
 -- The code at a branch's root against the code at the root, and against a child, piece by piece as the code does it. Assumes nothing.
-use mathlib.Core.Path.{_≡_, refl, sym, ap, ap₂, _∙_, subst}
+use mathlib.Core.Path.{_≡_, sym, ap, _∙_, subst, subst₂}
 use mathlib.Core.Bool.{Bool, true, false}
 use mathlib.Core.List.{List, [], _∷_, _++_, append-assoc}
 use Prim.Native.Nat.{ℕ, zero, suc, _+_, _-_, _≤_, _<_}
@@ -15,6 +15,23 @@ use Rattle.fast.specs.Middle.{rest, turned, branch}
 use Rattle.fast.specs.Skip.{codes-few, Skips, skips-length, skips-on}
 use Rattle.fast.specs.Pieces.{part-rest, head-rises, head-falls, heads-same, less-falls, same-falls, greater-rises, piece-rises, piece-falls, pieces-same}
 use Rattle.fast.specs.Spot.{Spot}
+
+-- two codes one behind the other
+module _ (c : List ℕ) (a b e : ℕ) (g : a < b) (h : b < e) (l : e ≤ length c) where
+  first : part a b c ≡ getD c a 0 ∷ part (a + 1) b c
+  first = rw add-one (part-cons a b c 0 g (omega arith))
+
+  second : part b e c ≡ getD c b 0 ∷ part (b + 1) e c
+  second = rw add-one (part-cons b e c 0 h (omega arith))
+
+  pub beside-so : getD c b 0 < getD c a 0 → Falls (part a b c) (part b e c) true
+  beside-so n = subst₂ (λ (u w : List ℕ). Falls u w true) (sym first) (sym second) (head-falls (getD c a 0) (getD c b 0) (part (a + 1) b c) (part (b + 1) e c) n)
+
+  pub beside-not : getD c a 0 < getD c b 0 → Falls (part a b c) (part b e c) false
+  beside-not n = subst₂ (λ (u w : List ℕ). Falls u w false) (sym first) (sym second) (head-rises (getD c a 0) (getD c b 0) (part (a + 1) b c) (part (b + 1) e c) n)
+
+  pub beside-by : {r : Bool} → getD c a 0 ≡ getD c b 0 → Falls (part (a + 1) b c) (part (b + 1) e c) r → Falls (part a b c) (part b e c) r
+  beside-by {r} q f = subst₂ (λ (u w : List ℕ). Falls u w r) (sym first) (sym second) (heads-same (getD c a 0) (getD c b 0) (part (a + 1) b c) (part (b + 1) e c) q f)
 
 -- what is left against the child from y to z
 module _ (c : List ℕ) (x e y z : ℕ) (g : y < z) (h : y < length c) where

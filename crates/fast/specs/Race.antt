@@ -2,7 +2,7 @@
 -- Assumes nothing.
 use mathlib.Core.Path.{_≡_, refl, sym, ap, ap₂, _∙_, subst}
 use mathlib.Core.Logic.{_⊎_, inl, inr, ⊎-elim, ite}
-use mathlib.Core.Bool.{Bool, true, false}
+use mathlib.Core.Bool.{Bool, true, false, true≢false, false≢true}
 use mathlib.Core.List.{List, [], _∷_}
 use Prim.Native.Nat.{ℕ, zero, suc, max, _+_, _-_, _≤_, _<_}
 use native.Mathlib.Decide.{decLt}
@@ -20,6 +20,14 @@ use Rattle.fast.specs.Lift.{second-below, peak-here, peak-past, second-h
 pub data Tells (P : Type 0) : Bool → Type 0 where
   holds : P → Tells P true
   denies : (P → ⊥) → Tells P false
+
+pub was-held : {P : Type 0} {r : Bool} → Tells P r → r ≡ true → P
+was-held (holds p) e = p
+was-held (denies n) e = absurd (false≢true e)
+
+pub was-denied : {P : Type 0} {r : Bool} → Tells P r → r ≡ false → P → ⊥
+was-denied (holds p) e q = true≢false e
+was-denied (denies n) e q = n q
 
 -- from place j on: the tallest, the tallest of the others, and where the first tallest stands
 pub record Race (hs : List ℕ) (from j first next at : ℕ) : Type 0 where

@@ -9,8 +9,6 @@ use lib.Seq.{drop-cons, drop-drop, drop-length, drop-set-lt, getD-set-same}
 use Rattle.laws.specs.Part.{part, part-none, part-cons}
 use Rattle.code.specs.Limits.{size}
 use Rattle.code.specs.Code.{codes}
-use Rattle.code.specs.Ends.{Ends}
-use Rattle.code.specs.Parts.{enough}
 use Rattle.fast.specs.Middle.{top, heights, tops}
 use Rattle.fast.specs.Skip.{codes-few}
 
@@ -80,7 +78,12 @@ stack-start {c} {hs} h l =
     let e : drop size hs ≡ [] = ap (λ (n : ℕ). drop n hs) (sym l) ∙ drop-length hs in
     record { some = h; within = omega arith; long = l; inside = omega arith; stands = e ∙ sym (ap heights (drop-length c)) }
 
-module _ {c hs : List ℕ} {i at : ℕ} (s : Stacked c hs i at) (whole : Ends 1 c) (few : length c ≤ size) (l : 1 < i) where
+-- no height is above the code's length
+pub stack-low : {c hs : List ℕ} {i at : ℕ} → Stacked c hs i at → (end : ℕ) → top (part at end hs) ≤ length c
+stack-low {c} {hs} {i} {at} s end =
+    omega (arith, ap (λ (l : List ℕ). top (take (end - at) l)) (s .stands), top-take (end - at) (heights (drop i c)), heights-low (drop i c), length-drop i c)
+
+module _ {c hs : List ℕ} {i at : ℕ} (s : Stacked c hs i at) (few : length c ≤ size) (l : 1 < i) where
   abbrev k : ℕ
   k = getD c (i - 1) 0
 
@@ -93,42 +96,32 @@ module _ {c hs : List ℕ} {i at : ℕ} (s : Stacked c hs i at) (whole : Ends 1 
   count : length (codes (drop i c)) ≡ size - at
   count = sym (heights-length (drop i c)) ∙ high
 
-  -- the digit's children are there
-  pub stack-enough : at + k ≤ size
-  stack-enough =
-      let e : getD c (i - 1) 0 ≤ length (codes (drop (suc (i - 1)) c)) = enough c whole (i - 1) (omega (arith, s .within)) in
-      let f : getD c (i - 1) 0 ≤ length (codes (drop i c)) = rw back at e in
-      omega (arith, count, s .inside)
-
   pub stack-room : 1 ≤ at
   stack-room = omega (arith, count, codes-few (drop i c), length-drop i c, s .within)
 
-  children : part at (at + k) hs ≡ take k (heights (drop i c))
-  children = let n : at + k - at ≡ k = omega arith in ap₂ (λ (a : ℕ) (b : List ℕ). take a b) n (s .stands)
+  module _ (fit : at + getD c (i - 1) 0 ≤ size) where
+    children : part at (at + k) hs ≡ take k (heights (drop i c))
+    children = let n : at + k - at ≡ k = omega arith in ap₂ (λ (a : ℕ) (b : List ℕ). take a b) n (s .stands)
 
-  pub stack-low : top (part at (at + k) hs) ≤ size
-  stack-low =
-      omega (arith, ap top children, top-take k (heights (drop i c)), heights-low (drop i c), length-drop i c)
-
-  pub stack-next : {h : ℕ} → h ≡ top (part at (at + k) hs) → Stacked c (set hs (at + k - 1) (h + 1)) (i - 1) (at + k - 1)
-  unfolding heights
-  stack-next {h} e =
-      let a : ℕ = at + k - 1 in
-      let n : suc a ≡ at + k = omega (arith, stack-room) in
-      let g : a < length hs = omega (arith, s .long, stack-enough, stack-room) in
-      let new : List ℕ = set hs a (h + 1) in
-      let one : drop a new ≡ (h + 1) ∷ drop (suc a) new = drop-cons new a 0 (omega (arith, length-set hs a (h + 1))) ∙ ap (λ (x : ℕ). x ∷ drop (suc a) new) (getD-set-same hs a (h + 1) 0 g) in
-      let two : drop (suc a) new ≡ drop k (heights (drop i c)) =
-      drop-set-lt (suc a) hs a (h + 1) (omega arith) ∙ ap (λ (x : ℕ). drop x hs) n ∙ sym (drop-drop k at hs) ∙ ap (drop k) (s .stands) in
-      let three : heights (drop (i - 1) c) ≡ suc (top (take k (heights (drop i c)))) ∷ drop k (heights (drop i c)) =
-      ap heights (drop-cons c (i - 1) 0 (omega (arith, s .within))) ∙ ap (λ (x : ℕ). suc (top (take k (heights (drop x c)))) ∷ drop k (heights (drop x c))) back in
-      record {
-        some = omega arith;
-        within = omega (arith, s .within);
-        long = length-set hs a (h + 1) ∙ s .long;
-        inside = omega (arith, stack-enough);
-        stands = one ∙ ap₂ (λ (x : ℕ) (y : List ℕ). x ∷ y) (add-one h ∙ ap suc (e ∙ ap top children)) two ∙ sym three;
-      }
+    pub stack-next : {h : ℕ} → h ≡ suc (top (part at (at + k) hs)) → Stacked c (set hs (at + k - 1) h) (i - 1) (at + k - 1)
+    unfolding heights
+    stack-next {h} e =
+        let a : ℕ = at + k - 1 in
+        let n : suc a ≡ at + k = omega (arith, stack-room) in
+        let g : a < length hs = omega (arith, s .long, fit, stack-room) in
+        let new : List ℕ = set hs a h in
+        let one : drop a new ≡ h ∷ drop (suc a) new = drop-cons new a 0 (omega (arith, length-set hs a h)) ∙ ap (λ (x : ℕ). x ∷ drop (suc a) new) (getD-set-same hs a h 0 g) in
+        let two : drop (suc a) new ≡ drop k (heights (drop i c)) =
+        drop-set-lt (suc a) hs a h (omega arith) ∙ ap (λ (x : ℕ). drop x hs) n ∙ sym (drop-drop k at hs) ∙ ap (drop k) (s .stands) in
+        let three : heights (drop (i - 1) c) ≡ suc (top (take k (heights (drop i c)))) ∷ drop k (heights (drop i c)) =
+        ap heights (drop-cons c (i - 1) 0 (omega (arith, s .within))) ∙ ap (λ (x : ℕ). suc (top (take k (heights (drop x c)))) ∷ drop k (heights (drop x c))) back in
+        record {
+          some = omega arith;
+          within = omega (arith, s .within);
+          long = length-set hs a h ∙ s .long;
+          inside = omega (arith, fit);
+          stands = one ∙ ap₂ (λ (x : ℕ) (y : List ℕ). x ∷ y) (e ∙ ap (λ (n : List ℕ). suc (top n)) children) two ∙ sym three;
+        }
 
 -- the heights of the root's branches stand at the end of hs
 pub record Branches (c hs : List ℕ) (from : ℕ) : Type 0 where

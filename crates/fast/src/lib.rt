@@ -12,11 +12,14 @@ ghost use Rattle.refusal.specs.Table.{Clear, Answers};
 ghost use Rattle.code.specs.Limits.{size, valence};
 ghost use Rattle.code.specs.Code.{codes, codeRows};
 ghost use Rattle.code.specs.Ends.{Ends};
+ghost use Rattle.code.specs.Right.{Right};
 ghost use Rattle.code.specs.Compare.{lex, Falls};
 ghost use Rattle.form.specs.Form.{centred, row14, formRows};
 ghost use Rattle.fast.specs.Middle.{top, rest, turned, branch, Middle};
 ghost use Rattle.fast.specs.Skip.{Skips};
 ghost use Rattle.fast.specs.Stack.{Branches};
+ghost use Rattle.fast.specs.Laid.{Laid, Joins};
+ghost use Rattle.fast.specs.Scan.{Scan, Scanned};
 ghost use Rattle.fast.specs.Race.{Tells};
 ghost use Rattle.fast.specs.Spot.{Spot};
 
@@ -36,39 +39,110 @@ fn skip(code: &[u8], from: usize, many: usize) -> usize
     i
 }
 
-// The greatest height from a place to a place.
-fn top_of(hs: &[u8], from: usize, to: usize) -> u8
-    requires { ⌜ from ≤ to ⌝ }
-    requires { ⌜ to ≤ length (now hs) ⌝ }
-    ensures { λ r. ⌜ r ≡ top (part from to (now (hs .entry))) ⌝ }
+// Whether the code from a to b stands at or after the one from b to e.
+fn falls_at(code: &[u8], a: usize, b: usize, e: usize) -> bool
+    requires { ⌜ a < b ⌝ }
+    requires { ⌜ b < e ⌝ }
+    requires { ⌜ e ≤ length (now code) ⌝ }
+    ensures { λ r. ⌜ Falls (part a b (now (code .entry))) (part b e (now (code .entry))) r ⌝ }
 {
-    let mut best = 0;
-    let mut j = to;
-    while from < j {
-        j -= 1;
-        if best < hs[j] {
-            best = hs[j];
-        }
+    let x = code[a];
+    let y = code[b];
+    if y < x {
+        return true;
     }
-    best
+    if x < y {
+        return false;
+    }
+    code::falls(&code[a + 1..b], &code[b + 1..e])
 }
 
-// The heights of the root's branches, from the place returned on: a stack that grows down from the end, one digit after the other from the
-// last.
-fn heights_of(code: &[u8], hs: &mut [u8]) -> usize
-    requires { ⌜ Ends 1 (now code) ⌝ }
-    requires { ⌜ length (now code) ≤ size ⌝ }
+// How tall a digit is whose children are the trees from `at` to `end`; 0 where one of them is larger than the one before it.
+fn joined(code: &[u8], hs: &[u8], starts: &[u8], at: usize, end: usize) -> u8
+    requires { ⌜ Laid (now code) (now starts) (getD (now starts) at 0) at ⌝ }
+    requires { ⌜ at ≤ end ⌝ }
+    requires { ⌜ end ≤ size ⌝ }
     requires { ⌜ length (now hs) ≡ size ⌝ }
-    ensures { λ r. ⌜ Branches (now (code .entry)) (now (hs .exit)) r ⌝ }
+    requires { ⌜ top (part at end (now hs)) ≤ size ⌝ }
+    ensures { λ r. ⌜ Joins (now (code .entry)) (now (hs .entry)) (getD (now (starts .entry)) at 0) at end r ⌝ }
 {
-    let mut i = code.len();
+    if end <= at {
+        return 1;
+    }
+    let mut j = end - 1;
+    let mut best = hs[j];
+    while at < j {
+        let e = starts[j + 1] as usize;
+        let b = starts[j] as usize;
+        j -= 1;
+        let a = starts[j] as usize;
+        if !falls_at(code, a, b, e) {
+            return 0;
+        }
+        let h = hs[j];
+        if best < h {
+            best = h;
+        }
+    }
+    best + 1
+}
+
+// Whether the digits are a right code, where all but the root's are read.
+fn rooted(code: &[u8], hs: &[u8], starts: &[u8], at: usize) -> bool
+    requires { ⌜ Scan (now code) (now hs) (now starts) 1 at ⌝ }
+    requires { ⌜ length (now code) ≤ size ⌝ }
+    ensures { λ r. ⌜ Tells (Right size valence (now (code .entry))) r ⌝ }
+{
+    let k = code[0];
+    if 4 < k {
+        return false;
+    }
+    if at + k as usize != 64 {
+        return false;
+    }
+    if joined(code, hs, starts, at, 64) == 0 {
+        return false;
+    }
+    true
+}
+
+// Reads the digits from the last to the first. The trees behind a digit stand on a stack that grows down from the end of `hs` and `starts`:
+// how tall each is, and where it begins. The result is where the root's branches stand, 65 where the digits are no right code.
+fn scan(code: &[u8], hs: &mut [u8], starts: &mut [u8]) -> usize
+    requires { ⌜ length (now hs) ≡ size ⌝ }
+    requires { ⌜ length (now starts) ≡ suc size ⌝ }
+    ensures { λ r. ⌜ Scanned (now (code .entry)) (now (hs .exit)) r ⌝ }
+{
+    let n = code.len();
+    if n == 0 {
+        return 65;
+    }
+    if 64 < n {
+        return 65;
+    }
+    starts[64] = n as u8;
+    let mut i = n;
     let mut at = 64;
     while 1 < i {
         i -= 1;
-        let end = at + code[i] as usize;
-        let h = top_of(hs, at, end);
+        let k = code[i];
+        if 3 < k {
+            return 65;
+        }
+        let end = at + k as usize;
+        if 64 < end {
+            return 65;
+        }
+        let h = joined(code, hs, starts, at, end);
+        if h == 0 {
+            return 65;
+        }
         at = end - 1;
-        hs[at] = h + 1;
+        hs[at] = h;
+        starts[at] = i as u8;
+    }
+    if !rooted(code, hs, starts, at) {
+        return 65;
     }
     at
 }
@@ -243,25 +317,38 @@ fn middle(code: &[u8], hs: &[u8], from: usize) -> bool
     above(code, at - from)
 }
 
+// 14: a right code, whose branches' heights stand from `from` on, that is not the centred one.
+fn judged(code: &[u8], hs: &[u8], from: usize) -> Check
+    requires { ⌜ Right size valence (now code) ⌝ }
+    requires { ⌜ Branches (now code) (now hs) from ⌝ }
+    ensures { λ r. ⌜ Answers (row14 centred (now (code .entry)) ∷ []) r ⌝ }
+{
+    if middle(code, hs, from) {
+        return Check::Passed;
+    }
+    Check::Refuse(14, 0)
+}
+
 // 14: a right rooted code that is not the centred one.
 pub fn centred(code: &[u8]) -> Check
     requires { ⌜ Clear (codeRows size valence (now code)) ⌝ }
     ensures { λ r. ⌜ Answers (row14 centred (now (code .entry)) ∷ []) r ⌝ }
 {
     let mut hs = [0u8; 64];
-    let from = heights_of(code, &mut hs);
-    if middle(code, &hs, from) {
-        return Check::Passed;
-    }
-    Check::Refuse(14, 0)
+    let mut starts = [0u8; 65];
+    let from = scan(code, &mut hs, &mut starts);
+    judged(code, &hs, from)
 }
 
-// Digits lent by themselves that are to be a centred code: 3, 10 to 13, and 14.
+// Digits lent by themselves that are to be a centred code: 3, 10 to 13, and 14. Which of 3 to 13 a wrong code has is looked for again.
 pub fn check(code: &[u8]) -> Check
     ensures { λ r. ⌜ Answers (formRows centred size valence (now (code .entry))) r ⌝ }
 {
-    if let Check::Refuse(k, p) = code::check(code) {
-        return Check::Refuse(k, p);
+    let mut hs = [0u8; 64];
+    let mut starts = [0u8; 65];
+    let from = scan(code, &mut hs, &mut starts);
+    if 64 < from {
+        return code::check(code);
     }
-    centred(code)
+    judged(code, &hs, from)
 }

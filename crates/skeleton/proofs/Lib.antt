@@ -1,5 +1,5 @@
 -- Laws that the proofs of several functions cite. Assumes nothing.
 mod Tests
-mod Relabel
+mod Heads
 mod Tally
 mod Neighbours

@@ -1,7 +1,7 @@
 -- Labels of vertices: two vertices have one label just where a walk joins them. How a program knows 8, and how `Count` counts.
 --
 -- In order: what it is for a labelling to be right; that it is right where there are no arcs; that it stays right when an edge comes
--- and one label gives way to another. Assumes nothing.
+-- and one label gives way to another; that an edge is the same from its other end. Assumes nothing.
 use mathlib.Core.Path.{_≡_, refl, sym, ap, _∙_}
 use mathlib.Core.Logic.{_⊎_, inl, inr, ⊎-elim}
 use mathlib.Core.List.{List, [], _++_, List·Memᴰ, List·Memᴰ·head, List·Memᴰ·tail, List·Memᴰ·not-nil, List·Memᴰ·cases-cons, List·Memᴰ·eq-of-singleton, List·Memᴰ·append-cases, Memᴰ·append-left, Memᴰ·append-right}
@@ -94,3 +94,23 @@ module _ {Q : ℕ → Type 0} {A : List Arc} {f g : ℕ → ℕ} (l : Labels Q A
         arc = λ u v h. ⊎-elim (λ o. let q = l .inside u v o in keep u v (q .0) (q .1) (l .arc u v o)) (λ n. ⊎-elim (λ e. rw (e .0, e .1) alike-ends) (λ e. rw (e .0, e .1) (sym alike-ends)) (in-pair n)) (List·Memᴰ·append-cases A h);
         joined = now-joined;
       }
+
+-- ---- either way round
+
+walk-in : {A B : List Arc} {u v : ℕ} → ((x : Arc) → List·Memᴰ x A → List·Memᴰ x B) → Walk A u v → Walk B u v
+walk-in f here = here
+walk-in f (along h w) = along (f _ h) (walk-in f w)
+
+pair-swap : (A : List Arc) (a b : ℕ) (x : Arc) → List·Memᴰ x (A ++ pair a b) → List·Memᴰ x (A ++ pair b a)
+pair-swap A a b x h =
+    ⊎-elim (λ o. Memᴰ·append-left (pair b a) o) (λ n. Memᴰ·append-right A (⊎-elim (λ e. List·Memᴰ·tail (List·Memᴰ·head e)) (λ t. List·Memᴰ·head (List·Memᴰ·eq-of-singleton t)) (List·Memᴰ·cases-cons n)))
+    (List·Memᴰ·append-cases A h)
+
+-- an edge is the same from its other end
+pub labels-swap : {Q : ℕ → Type 0} {f : ℕ → ℕ} (A : List Arc) (a b : ℕ) → Labels Q (A ++ pair b a) f → Labels Q (A ++ pair a b) f
+labels-swap A a b l =
+    record {
+      inside = λ u v h. l .inside u v (pair-swap A a b (u, v) h);
+      arc = λ u v h. l .arc u v (pair-swap A a b (u, v) h);
+      joined = λ u v p q e. walk-in (pair-swap A b a) (l .joined u v p q e);
+    }

@@ -1,44 +1,45 @@
 -- What the parts of the code promise each other. No call that a partner makes cites this file.
 --
--- In order: a test; the labels of vertices, in an array with one for each byte; the table of neighbours, one arc at a
--- time. Assumes nothing.
+-- In order: a test; the vertex that stands for all that a vertex is joined to, found by steps in an array with one for each byte; the
+-- table of neighbours, one arc at a time. Assumes nothing.
 use mathlib.Core.Path.{_≡_}
 use mathlib.Core.Bool.{Bool, true, false}
 use mathlib.Core.List.{List, []}
-use Prim.Native.Nat.{ℕ, _+_, _-_, _≤_, _<_}
+use Prim.Native.Nat.{ℕ, zero, suc, _+_, _-_, _≤_, _<_}
 use lib.ListN.{length, getD, set}
 use Rattle.code.specs.Limits.{size, valence}
-use Rattle.skeleton.specs.Edges.{Edge, one, other}
-use Rattle.skeleton.specs.Joined.{Moved}
 
 -- r says whether P holds
 pub record Tells (P : Type 0) (r : Bool) : Type 0 where
   pub right : r ≡ true → P
   pub wrong : r ≡ false → P → ⊥
 
--- ---- labels
+-- ---- heads
 
--- the label of v
-abbrev pub label : List ℕ → ℕ → ℕ
-label l v = getD l v 0
+-- k steps up from v
+unfoldable pub climb : ℕ → List ℕ → ℕ → ℕ
+climb zero l v = v
+climb (suc k) l v = climb k l (getD l v 0)
 
--- only vertices below top are looked at
-abbrev pub Below : ℕ → ℕ → Type 0
-Below top v = v < top
+-- the vertex that stands for v
+unfoldable pub headOf : List ℕ → ℕ → ℕ
+headOf l v = climb 256 l v
 
--- each vertex is its own label
-pub record Parted (top : ℕ) (l : List ℕ) : Type 0 where
+-- no step goes to a higher vertex
+pub record Links (l : List ℕ) : Type 0 where
   pub all : length l ≡ 256
-  pub own : (v : ℕ) → v < top → label l v ≡ v
+  pub falls : (v : ℕ) → v < 256 → getD l v 0 ≤ v
 
--- the label a of l is b in m
-pub record Merged (top a b : ℕ) (l m : List ℕ) : Type 0 where
-  pub all : length m ≡ 256
-  pub moves : Moved (Below top) (label l) (label m) a b
+-- r stands for v and for itself
+pub record Top (l : List ℕ) (v r : ℕ) : Type 0 where
+  pub is : r ≡ headOf l v
+  pub own : getD l r 0 ≡ r
+  pub byte : r < 256
 
--- every end of every edge is at most N
-pub record Within (N : ℕ) (E : List ℕ) : Type 0 where
-  pub ends : (p : ℕ) → Edge E p → (one E p ≤ N) × (other E p ≤ N)
+-- each of the first n stands for itself
+pub record Parted (n : ℕ) (l : List ℕ) : Type 0 where
+  pub all : length l ≡ 256
+  pub own : (v : ℕ) → v < n → getD l v 0 ≡ v
 
 -- ---- the table
 

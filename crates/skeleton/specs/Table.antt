@@ -8,7 +8,7 @@ use mathlib.Core.List.{List, []}
 use Prim.Native.Nat.{ℕ, _-_, _≤_, _<_}
 use lib.ListN.{length, getD}
 use Rattle.code.specs.Limits.{size, valence}
-use Rattle.tree.specs.Skeleton.{arcs, neighbours, degree}
+use Rattle.tree.specs.Skeleton.{arcs, neighbours, degree, IsSkeleton}
 
 -- t has 64 rows of four, and d has 64 numbers
 pub record Shaped (t : List (List ℕ)) (d : List ℕ) : Type 0 where
@@ -23,3 +23,9 @@ pub record IsTable (N : ℕ) (E : List ℕ) (t : List (List ℕ)) (d : List ℕ)
   pub row : (v j : ℕ) → 1 ≤ v → v ≤ N → j < degree E v → getD (getD t (v - 1) []) j 0 ≡ getD (neighbours (arcs E) v) j 0
   pub none : (i : ℕ) → N ≤ i → i < size → getD d i 0 ≡ 0
   pub rest : (i j : ℕ) → i < size → getD d i 0 ≤ j → j < valence → getD (getD t i []) j 0 ≡ 0
+
+-- t and d are the table of a skeleton of N vertices
+pub record Held (N : ℕ) (t : List (List ℕ)) (d : List ℕ) : Type 0 where
+  pub edges : List ℕ
+  pub skeleton : IsSkeleton size valence N edges
+  pub table : IsTable N edges t d

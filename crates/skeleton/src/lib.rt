@@ -2,21 +2,20 @@
 //
 // An edge list is flat, one byte for each end. Edges count from 1, as the places of the refusals do.
 use refusal::Check;
-
-// The edges that a vertex may have.
-const VALENCE: u8 = 4;
-
 ghost use mathlib.Core.Path.{_≡_};
 ghost use mathlib.Core.Logic.{_⊎_};
 ghost use mathlib.Core.List.{[], _∷_};
-ghost use Prim.Native.Nat.{ℕ, _+_, _≤_, _<_};
+ghost use Prim.Native.Nat.{_≤_, _<_};
 ghost use lib.ListN.{length};
 ghost use Rattle.refusal.specs.Table.{Answers, Outside};
 ghost use Rattle.code.specs.Limits.{size, valence};
 ghost use Rattle.tree.specs.Skeleton.{IsSkeleton};
 ghost use Rattle.skeleton.specs.Edges.{Edge, one, other, row3, row5, row6, row7, row8, row9, edgeRows};
 ghost use Rattle.skeleton.specs.Table.{Shaped, IsTable};
-ghost use Rattle.skeleton.specs.Parts.{Tells, Parted, Merged, Within, Room, Added};
+ghost use Rattle.skeleton.specs.Parts.{Tells, Parted, Links, Top, Room, Added};
+
+// The edges that a vertex may have.
+const VALENCE: u8 = 4;
 
 fn wide(x: u8) -> usize
     ensures { λ r. ⌜ (r ≡ x) × (r < 256) ⌝ }
@@ -25,14 +24,14 @@ fn wide(x: u8) -> usize
 }
 
 // The ends of edge p.
-fn one(edges: &[u8], p: usize) -> usize
+pub fn one(edges: &[u8], p: usize) -> usize
     requires { ⌜ Edge (now edges) p ⌝ }
     ensures { λ r. ⌜ (r ≡ one (now (edges .entry)) p) × (r < 256) ⌝ }
 {
     wide(edges[2 * (p - 1)])
 }
 
-fn other(edges: &[u8], p: usize) -> usize
+pub fn other(edges: &[u8], p: usize) -> usize
     requires { ⌜ Edge (now edges) p ⌝ }
     ensures { λ r. ⌜ (r ≡ other (now (edges .entry)) p) × (r < 256) ⌝ }
 {
@@ -106,61 +105,62 @@ fn loops(edges: &[u8]) -> Check
     Check::Passed
 }
 
-// The label b in the place of a.
-fn moved(x: u8, a: u8, b: u8) -> u8
-    ensures { λ r. ⌜ (x ≡ a → r ≡ b) × ((x ≡ a → ⊥) → r ≡ x) ⌝ }
+// The lower and the higher of two.
+fn lower(a: usize, b: usize) -> usize
+    ensures { λ r. ⌜ (a < b → r ≡ a) × (b ≤ a → r ≡ b) ⌝ }
 {
-    if x == a { b } else { x }
+    if a < b { a } else { b }
 }
 
-// Each vertex below top gets a label of its own.
-fn part(labels: &mut [u8; 256], top: usize)
-    requires { ⌜ (length (now labels) ≡ 256) × (top ≤ 256) ⌝ }
-    ensures { λ _. ⌜ Parted top (now (labels .exit)) ⌝ }
+fn higher(a: usize, b: usize) -> usize
+    ensures { λ r. ⌜ (a < b → r ≡ b) × (b ≤ a → r ≡ a) ⌝ }
+{
+    if a < b { b } else { a }
+}
+
+// Each vertex stands for itself alone.
+fn part(up: &mut [u8; 256])
+    requires { ⌜ length (now up) ≡ 256 ⌝ }
+    ensures { λ _. ⌜ Parted 256 (now (up .exit)) ⌝ }
 {
     let mut v: usize = 0;
-    while v < top {
-        labels[v] = v as u8;
+    while v < 256 {
+        up[v] = v as u8;
         v += 1;
     }
 }
 
-// Of the vertices below top, those with the label a get the label b.
-fn merge(labels: &mut [u8; 256], top: usize, a: u8, b: u8)
-    requires { ⌜ (length (now labels) ≡ 256) × (top ≤ 256) ⌝ }
-    ensures { λ _. ⌜ Merged top a b (now (labels .entry)) (now (labels .exit)) ⌝ }
+// The vertex that stands for all that v is joined to. Each step goes to a lower one.
+fn head(up: &[u8; 256], v: usize) -> usize
+    requires { ⌜ Links (now up) × (v < 256) ⌝ }
+    ensures { λ r. ⌜ Top (now (up .entry)) v r ⌝ }
 {
-    let mut v: usize = 0;
-    while v < top {
-        labels[v] = moved(labels[v], a, b);
-        v += 1;
+    let mut x = v;
+    while wide(up[x]) != x {
+        x = wide(up[x]);
     }
+    x
 }
 
-// The vertices are below this.
-fn beyond(n: usize) -> usize
-    ensures { λ r. ⌜ (r ≤ 256) × ((v : ℕ) → v ≤ n → v < 256 → v < r) ⌝ }
-{
-    if n < 256 { n + 1 } else { 256 }
-}
-
-// 8: an edge whose ends are joined already. Vertices that are joined have one label.
-fn cycles(n: usize, edges: &[u8]) -> Check
-    requires { ⌜ Within n (now edges) ⌝ }
+// 8: an edge whose ends are joined already. Vertices that are joined have one head.
+fn cycles(edges: &[u8]) -> Check
     ensures { λ r. ⌜ Answers (row8 (now (edges .entry)) ∷ []) r ⌝ }
 {
-    let top = beyond(n);
-    let mut labels = [0u8; 256];
-    part(&mut labels, top);
+    let mut up = [0u8; 256];
+    part(&mut up);
     let m = edges.len() / 2;
     let mut p: usize = 1;
     while p <= m {
-        let a = labels[one(edges, p)];
-        let b = labels[other(edges, p)];
+        let u = one(edges, p);
+        let v = other(edges, p);
+        let a = head(&up, u);
+        let b = head(&up, v);
         if a == b {
             return Check::Refuse(8, p);
         }
-        merge(&mut labels, top, a, b);
+        let low = lower(a, b);
+        let high = higher(a, b);
+        up[high] = low as u8;
         p += 1;
     }
     Check::Passed
@@ -206,7 +206,7 @@ pub fn check(most: usize, n: usize, edges: &[u8], root: usize) -> Check
     if let Check::Refuse(k, p) = loops(edges) {
         return Check::Refuse(k, p);
     }
-    if let Check::Refuse(k, p) = cycles(n, edges) {
+    if let Check::Refuse(k, p) = cycles(edges) {
         return Check::Refuse(k, p);
     }
     degrees(edges)
@@ -224,7 +224,7 @@ fn add(rows: &mut [[u8; 4]; 64], degs: &mut [u8; 64], a: usize, b: usize)
     degs[i] += 1;
 }
 
-// The table of neighbours of an accepted list. Whatever the two arrays held is gone.
+// The table of neighbours of an accepted list of n vertices. Whatever the two arrays held is gone.
 pub fn fill(n: usize, edges: &[u8], rows: &mut [[u8; 4]; 64], degs: &mut [u8; 64])
     requires { ⌜ IsSkeleton size valence n (now edges) ⌝ }
     ensures { λ _. ⌜ IsTable n (now (edges .entry)) (now (rows .exit)) (now (degs .exit)) ⌝ }

@@ -6,6 +6,7 @@ pub mod Walks
 pub mod Grow
 pub mod Label
 pub mod Codes
+pub mod Arcs
 pub mod Decoding
 pub mod Sorted
 pub mod Renumber

@@ -6,6 +6,10 @@ use lib.ListN.{length}
 use Rattle.refusal.specs.Table.{Row, Applies, Clear, Lowest, Outcome, Promise, kept, left, Writes, short, Gives}
 use Rattle.refusal.specs.Laws.{clear-one, clear-both, lowest-back, never}
 
+-- a table of no rows
+pub none : Clear []
+none = record { nowhere = λ k p a. a }
+
 module _ {P Q : List ℕ → Type 0} (to : (c : List ℕ) → P c → Q c) where
   -- 15 of one right result is 15 of the other
   short-to : (n k p : ℕ) → Applies (short P n ∷ []) k p → Applies (short Q n ∷ []) k p

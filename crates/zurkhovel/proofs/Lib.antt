@@ -2,3 +2,5 @@
 pub mod Behind
 pub mod Decoded
 pub mod Carried
+pub mod Rooted
+pub mod Counting

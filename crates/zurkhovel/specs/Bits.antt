@@ -1,19 +1,35 @@
 -- The promises of the calls on the bit-tuple's three forms, as in `Codes`: which rows of document 01's table each judges, and what it
 -- gives where none applies.
 --
--- In order: a form read into edges. s: packed bytes; n, v: N and the whole number beside it; x: the fraction; old, new: the lent
--- output before and after; o: the answer. Assumes nothing.
+-- In order: the rooted code at the vertex r of N vertices and the edge list E in each form; each form read into edges. s: packed
+-- bytes; n, v: N and the whole number beside it; x: the fraction; old, new: the lent output before and after; o: the answer.
+-- Assumes nothing.
 use mathlib.Core.Path.{_≡_}
 use mathlib.Core.Bool.{Bool}
 use mathlib.Core.List.{List}
 use Prim.Native.Nat.{ℕ, _-_, _*_}
 use lib.Ieee.{Float}
-use Rattle.refusal.specs.Table.{Outcome, Gives}
-use Rattle.code.specs.Limits.{valence}
+use Rattle.refusal.specs.Table.{Outcome, Answered, Gives}
+use Rattle.code.specs.Limits.{size, valence}
 use Rattle.code.specs.Code.{decode}
-use Rattle.bits.specs.Limits.{packedBytes, wholeSize}
+use Rattle.bits.specs.Limits.{packedBytes, wholeSize, fractionSize}
 use Rattle.bits.specs.Bits.{bytes, word, Fill, Nothing, Zeros, Reads, packedRows, wholeRows}
-use Rattle.fraction.specs.Fraction.{bitsOf, fractionRows}
+use Rattle.bits.specs.Written.{Packs, Numbers}
+use Rattle.fraction.specs.Fraction.{IsFraction, bitsOf, fractionRows}
+use Rattle.tree.specs.Skeleton.{rooted}
+use Rattle.skeleton.specs.Edges.{edgeRows}
+
+-- the packed form
+abbrev pub Pack : ℕ → List ℕ → ℕ → List ℕ → List ℕ → Outcome ℕ → Type 0
+Pack N E r old new o = Gives (edgeRows size valence N E r) (Packs (rooted N E r)) old new o
+
+-- the whole number
+abbrev pub Whole : ℕ → List ℕ → ℕ → Outcome ℕ → Type 0
+Whole N E r o = Answered (edgeRows wholeSize valence N E r) (Numbers (rooted N E r)) o
+
+-- the fraction
+abbrev pub InFraction : ℕ → List ℕ → ℕ → Outcome Float → Type 0
+InFraction N E r o = Answered (edgeRows fractionSize valence N E r) (IsFraction (rooted N E r)) o
 
 -- E: the edges of the right code that the bits carry, with nothing behind it but what May allows
 pub record Decodes (May : List Bool → Type 0) (bs : List Bool) (E : List ℕ) : Type 0 where

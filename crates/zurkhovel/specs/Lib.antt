@@ -1,5 +1,7 @@
 -- The promises of the public calls. Assumes nothing.
 pub mod Codes
+pub mod Lines
 pub mod One
+pub mod Rooting
 pub mod Bits
 pub mod OneBits

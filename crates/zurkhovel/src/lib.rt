@@ -2,3 +2,4 @@
 // that its `ensures` names; the promises stand in specs/, a file for each module here.
 pub mod bit_tuple;
 pub mod codes;
+pub mod text;

@@ -1,7 +1,7 @@
--- `fast::check` meets its contract. Assumes nothing.
-use mathlib.Core.Path.{refl}
+-- `fast::check` meets its contract: a wrong code is refused by 3 to 13, a right one by 14 or not. Assumes nothing.
+use native.Mathlib.Omega.{arith}
 use borrow.Author.Needs.{needs}
-use Rattle.refusal.specs.Laws.{was-clear, stops, goes-on}
+use Rattle.fast.specs.Answer.{when-wrong, when-right}
 use Rattle.fast.proofs.check.Statement.{statement}
 use Rattle.fast.proofs.check.Tie as tie
 
@@ -9,9 +9,11 @@ pub check-spec : {M : Type 1} → statement M
 check-spec =
     tie.close
     (tie.spec
+    (λ c. search needs)
+    (λ c. search needs)
     (λ c κs. search needs)
+    (λ c κs. search needs)
+    (λ c. when-wrong (c .before .before .before .before .scan .ensures .bad (c .before .if1 .taken)) (c .check .ensures))
     (λ c. search needs)
-    (λ c. stops _ refl (c .before .before .before .check .ensures) (c .before .k .given .1))
-    (λ c. search needs)
-    (λ c κs. was-clear (c .before .before .check .ensures) (c .enum-told .given .1))
-    (λ c. goes-on (c .before .before .before .check .ensures) (c .before .enum-told .given .1) (c .centred .ensures)))
+    (λ c κs. c .before .before .before .before .scan .ensures .good (omega (arith, c .before .if1 .left)))
+    (λ c. when-right (c .before .before .before .before .before .scan .ensures .good (omega (arith, c .before .before .if1 .left)) .0) (c .judged .ensures)))

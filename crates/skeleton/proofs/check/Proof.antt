@@ -1,24 +1,10 @@
 -- `skeleton::check` meets its contract: a check that refuses answers for the whole table, and behind one that passes the rest does.
 -- Assumes nothing.
 use mathlib.Core.Path.{refl}
-use mathlib.Core.Logic.{inl, inr}
-use mathlib.Core.List.{List, [], _∷_}
-use Prim.Native.Nat.{ℕ, _≤_, _<_}
-use native.Mathlib.Omega.{arith}
-use Rattle.refusal.specs.Table.{Clear, Outside}
-use Rattle.refusal.specs.Laws.{never, was-clear, stops, goes-on}
-use Rattle.skeleton.specs.Edges.{one, other, row6}
-use Rattle.skeleton.specs.Parts.{Within}
+use Rattle.refusal.specs.Laws.{stops, goes-on}
 use borrow.Author.Needs.{needs}
 use Rattle.skeleton.proofs.check.Statement.{statement}
 use Rattle.skeleton.proofs.check.Tie as tie
-
--- where 6 applies nowhere, every end is at most N
-within : (N : ℕ) (E : List ℕ) (r : ℕ) → Clear (row6 N E r ∷ []) → Within N E
-within N E r c = record { ends = λ p h. (low (one E p) (λ o. never c p (inr (h, inl o))), low (other E p) (λ o. never c p (inr (h, inr o)))) }
-  where
-    low : (v : ℕ) → (Outside N v → ⊥) → v ≤ N
-    low v n = let k : N < v → ⊥ = λ l. n (inr l) in omega arith
 
 sizes-requires : tie.Need-sizes-requires
 sizes-requires c κs = search needs
@@ -65,11 +51,7 @@ enum-told-3 : tie.Need-enum-told-3
 enum-told-3 c = search needs
 
 cycles-requires : tie.Need-cycles-requires
-cycles-requires c κs =
-    let l = c .before .before in
-    let v = l .before .before .before in
-    let a = v .before .before .before .before .before .args in
-    within (a .n) (a .edges .now) (a .root) (was-clear (v .vertices .ensures) (l .before .enum-told2 .given .1))
+cycles-requires c κs = search needs
 
 enum-known-k-4 : tie.Need-enum-known-k-4
 enum-known-k-4 c = search needs

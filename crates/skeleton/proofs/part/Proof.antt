@@ -1,26 +1,26 @@
--- `skeleton::part` meets its contract. The loop's invariant: what is below v is its own label. Assumes nothing.
+-- `skeleton::part` meets its contract. The loop's invariant: what is below v stands for itself. Assumes nothing.
 use mathlib.Core.Path.{_≡_}
 use Prim.Native.Nat.{_-_, _≤_}
 use native.Mathlib.Omega.{arith}
 use Rattle.skeleton.specs.Parts.{Parted}
-use Rattle.skeleton.proofs.Relabel.{parted-more}
+use Rattle.skeleton.proofs.Heads.{parted-more}
 use Rattle.skeleton.proofs.part.Statement.{statement}
 use Rattle.skeleton.proofs.part.Tie as tie
 
 abbrev Inv-loop : tie.InvT-loop
-Inv-loop labels₀ top v₀ labels v = (v ≤ top) × Parted v labels
+Inv-loop up₀ v₀ up v = (v ≤ 256) × Parted v up
 
 abbrev μ-loop : tie.MeasureT-loop
-μ-loop labels₀ top v₀ labels v = top - v
+μ-loop up₀ v₀ up v = 256 - v
 
 loop-holds : tie.Need-loop-holds Inv-loop μ-loop
-loop-holds c = (omega arith, record { all = c .pre .0; own = λ v k. absurd (let n : ⊥ = omega arith in n) })
+loop-holds c = (omega arith, record { all = c .pre; own = λ v k. absurd (let n : ⊥ = omega arith in n) })
 
-cast-labels : tie.Need-cast-labels Inv-loop μ-loop
-cast-labels c = omega arith
+cast-up : tie.Need-cast-up Inv-loop μ-loop
+cast-up c = omega arith
 
-element-write-labels : tie.Need-element-write-labels Inv-loop μ-loop
-element-write-labels c = omega arith
+element-write-up : tie.Need-element-write-up Inv-loop μ-loop
+element-write-up c = omega arith
 
 add-v : tie.Need-add-v Inv-loop μ-loop
 add-v c = omega arith
@@ -32,7 +32,7 @@ loop-again : tie.Need-loop-again Inv-loop μ-loop
 loop-again c = (omega arith, parted-more (c .before .loop .inv .1) (omega arith))
 
 returns : tie.Need-returns Inv-loop μ-loop
-returns c = let e : c .before .loop .v ≡ c .before .before .args .top = omega arith in rw (← e) (c .before .loop .inv .1)
+returns c = let e : c .before .loop .v ≡ 256 = omega arith in rw (← e) (c .before .loop .inv .1)
 
 pub part-spec : {M : Type 1} → statement M
 part-spec =
@@ -41,8 +41,8 @@ part-spec =
     Inv-loop
     μ-loop
     loop-holds
-    cast-labels
-    element-write-labels
+    cast-up
+    element-write-up
     add-v
     loop-less
     loop-again

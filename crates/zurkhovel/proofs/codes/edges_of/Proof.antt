@@ -1,17 +1,13 @@
 -- `zurkhovel::codes::edges_of` meets its contract. Assumes nothing.
-use mathlib.Core.Path.{_≡_, refl}
-use mathlib.Core.List.{[]}
+use mathlib.Core.Path.{refl}
 use native.Mathlib.Omega.{arith}
 use denote.Ref.{now}
 use borrow.Author.Needs.{needs}
-use Rattle.refusal.specs.Table.{Clear}
 use Rattle.refusal.specs.Laws.{at-least, refused-short, given-laid}
+use Rattle.zurkhovel.proofs.Behind.{none}
 use Rattle.zurkhovel.proofs.Decoded.{edges-length, edges-sized}
 use Rattle.zurkhovel.proofs.codes.edges_of.Statement.{statement}
 use Rattle.zurkhovel.proofs.codes.edges_of.Tie as tie
-
-none : Clear []
-none = record { nowhere = λ k p a. a }
 
 pub edges-of-spec : {M : Type 1} → statement M
 edges-of-spec =

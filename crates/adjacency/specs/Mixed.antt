@@ -1,0 +1,98 @@
+-- A number in a mixed base, for any list of bases. Document 01 builds 0A and A0 so: "begin with 0, and for each i multiply by .. and add ..".
+--
+-- In order: the number of digits, and the digits of a number; digits of a number give it back; a number has digits; their range. What
+-- the bases are stands in `Adjacency`. Assumes nothing.
+use mathlib.Core.Path.{_≡_, refl, ap, ap₂, sym, _∙_}
+use mathlib.Core.List.{List, [], _∷_}
+use Prim.Native.Nat.{ℕ, suc, _+_, _*_, _/_, _%_, _≤_, _<_}
+use native.Mathlib.Nat.{div-add-mod', mod-lt, mul-assoc, mul-le-mul-left, mul-le-mul-right, lt-of-lt-of-le, div-lt-iff-lt-mul, one-mul, suc-mul}
+use native.Mathlib.Omega.{arith}
+use lib.Arith.{digits-div, digits-mod, lt-one}
+
+-- begin with v, and for each base multiply by it and add the digit
+unfoldable pub mixed : ℕ → List ℕ → List ℕ → ℕ
+mixed v [] ds = v
+mixed v (b ∷ bs) [] = v
+mixed v (b ∷ bs) (d ∷ ds) = mixed (v * b + d) bs ds
+
+-- what is left of v when its digits for the bases are taken off, the last one first
+unfoldable pub left : List ℕ → ℕ → ℕ
+left [] v = v
+left (b ∷ bs) v = left bs v / b
+
+-- the digits of v
+unfoldable pub digits : List ℕ → ℕ → List ℕ
+digits [] v = []
+digits (b ∷ bs) v = left bs v % b ∷ digits bs v
+
+unfoldable pub product : List ℕ → ℕ
+product [] = 1
+product (b ∷ bs) = b * product bs
+
+-- a digit for each base, and below it
+pub data Below : List ℕ → List ℕ → Type 0 where
+  none : Below [] []
+  more : {b d : ℕ} {bs ds : List ℕ} → d < b → Below bs ds → Below (b ∷ bs) (d ∷ ds)
+
+-- no base is 0
+pub data Positive : List ℕ → Type 0 where
+  none : Positive []
+  more : {b : ℕ} {bs : List ℕ} → 0 < b → Positive bs → Positive (b ∷ bs)
+
+-- ---- the digits of the number that digits make
+
+pub left-mixed : {bs ds : List ℕ} (a : ℕ) → Below bs ds → left bs (mixed a bs ds) ≡ a
+unfolding left mixed
+left-mixed a Below.none = refl
+left-mixed a (Below.more {b} {d} l h) = rw (left-mixed (a * b + d) h) (digits-div a l)
+
+pub digits-mixed : {bs ds : List ℕ} (a : ℕ) → Below bs ds → digits bs (mixed a bs ds) ≡ ds
+unfolding digits mixed
+digits-mixed a Below.none = refl
+digits-mixed a (Below.more {b} {d} l h) = ap₂ (λ x y. x ∷ y) (rw (left-mixed (a * b + d) h) (digits-mod a l)) (digits-mixed (a * b + d) h)
+
+-- so digits that make one number are the same
+pub one-digits : {bs ds es : List ℕ} → Below bs ds → Below bs es → mixed 0 bs ds ≡ mixed 0 bs es → ds ≡ es
+one-digits {bs} h k e = sym (digits-mixed 0 h) ∙ ap (digits bs) e ∙ digits-mixed 0 k
+
+-- ---- the number that the digits of a number make
+
+pub mixed-digits : (bs : List ℕ) (v : ℕ) → mixed (left bs v) bs (digits bs v) ≡ v
+unfolding left digits mixed
+mixed-digits [] v = refl
+mixed-digits (b ∷ bs) v = rw (div-add-mod' (left bs v) b) (mixed-digits bs v)
+
+pub digits-below : {bs : List ℕ} (v : ℕ) → Positive bs → Below bs (digits bs v)
+unfolding digits
+digits-below v Positive.none = Below.none
+digits-below v (Positive.more {bs = bs} l p) = Below.more (mod-lt (left bs v) l) (digits-below v p)
+
+-- ---- the range
+
+pub mixed-lt : {bs ds : List ℕ} (a : ℕ) → Below bs ds → mixed a bs ds < suc a * product bs
+unfolding mixed product
+mixed-lt a Below.none = omega arith
+mixed-lt a (Below.more {b} {d} {bs} l h) =
+    let fits : suc (a * b + d) ≤ suc a * b = rw suc-mul (omega arith) in
+    rw (← mul-assoc (suc a) b (product bs)) (lt-of-lt-of-le (mixed-lt (a * b + d) h) (mul-le-mul-right (product bs) fits))
+
+left-lt : {bs : List ℕ} (c v : ℕ) → Positive bs → v < c * product bs → left bs v < c
+unfolding left product
+left-lt c v Positive.none h = omega arith
+left-lt c v (Positive.more {b} {bs} l p) h = div-lt-iff-lt-mul l .1 (left-lt (c * b) v p (rw mul-assoc h))
+
+pub left-none : {bs : List ℕ} {v : ℕ} → Positive bs → v < product bs → left bs v ≡ 0
+left-none {bs} {v} p h = lt-one (left-lt 1 v p (rw one-mul h))
+
+-- every number of the range is that of its digits
+pub from-digits : {bs : List ℕ} {v : ℕ} → Positive bs → v < product bs → mixed 0 bs (digits bs v) ≡ v
+from-digits {bs} {v} p h = rw (left-none p h) at (mixed-digits bs v)
+
+-- values only grow on the way
+pub mixed-le : {bs ds : List ℕ} (a : ℕ) → Below bs ds → a ≤ mixed a bs ds
+unfolding mixed
+mixed-le a Below.none = omega arith
+mixed-le a (Below.more {b} {d} l h) =
+    let step : a * 1 ≤ a * b = mul-le-mul-left a (omega arith) in
+    let rest = mixed-le (a * b + d) h in
+    omega arith

@@ -1,0 +1,3 @@
+-- Proofs of the coding functions. Assumes nothing.
+pub mod Written
+pub mod Largest

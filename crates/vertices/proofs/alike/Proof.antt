@@ -1,0 +1,53 @@
+-- `vertices::alike` meets its contract. Assumes nothing.
+use Prim.Native.Nat.{ℕ, _<_}
+use native.Mathlib.Omega.{arith}
+use denote.Ref.{now}
+use lib.ListN.{length, getD}
+use borrow.Author.Needs.{needs}
+use Rattle.code.specs.Parts.{Ending}
+use Rattle.vertices.proofs.Telling.{depths-differ, codes-differ, codes-agree, less-apart, greater-apart}
+use Rattle.vertices.proofs.alike.Statement.{statement}
+use Rattle.vertices.proofs.alike.Tie as tie
+
+abbrev start : tie.Else1 → tie.Start
+start c = c .before .before .before .before .before .before
+
+-- where the part of a vertex ends
+ending : (c : tie.Start) (i : ℕ) → i < length (now (c .args .code)) → Ending (now (c .args .code)) i (getD (now (c .args .ends)) i 0)
+ending c i h = c .pre .0 .ending i (omega arith) h
+
+ending-u : (c : tie.Else1) → Ending (now (start c .args .code)) (start c .args .u) (getD (now (start c .args .ends)) (start c .args .u) 0)
+ending-u c = ending (start c) (start c .args .u) (start c .pre .1 .1 .0)
+
+ending-v : (c : tie.Else1) → Ending (now (start c .args .code)) (start c .args .v) (getD (now (start c .args .ends)) (start c .args .v) 0)
+ending-v c = ending (start c) (start c .args .v) (start c .pre .1 .1 .1)
+
+pub alike-spec : {M : Type 1} → statement M
+alike-spec =
+    tie.close
+    (tie.spec
+    (λ c. search needs)
+    (λ c. search needs)
+    (λ c. let s = c .before .before .before .before .before .before in
+    depths-differ (s .pre .0) (s .pre .1 .0) (s .pre .1 .1 .0) (s .pre .1 .1 .1) (c .if1 .taken))
+    (λ c. search needs)
+    (λ c. omega (arith, c .shared-slice-known6 .given (start (c .before) .args .u)))
+    (λ c. search needs)
+    (λ c. omega (arith, c .shared-slice-known7 .given (start (c .before .before) .args .v)))
+    (λ c. omega (arith, ending-u (c .before .before) .after))
+    (λ c. omega (arith, ending-u (c .before .before) .after))
+    (λ c. ending-u (c .before .before) .within)
+    (λ c. omega (arith, ending-v (c .before .before .before) .after))
+    (λ c. omega (arith, ending-v (c .before .before .before) .after))
+    (λ c. ending-v (c .before .before .before) .within)
+    (λ c κs. search needs)
+    (λ c. search needs)
+    (λ c. search needs)
+    (λ c. search needs)
+    (λ c. let s = start (c .before .before .before .before .before .before .before) in
+    codes-differ (s .pre .0) (s .pre .1 .0) (s .pre .1 .1 .0) (s .pre .1 .1 .1) (c .before .before .compare .ensures) (less-apart (c .enum-told .given .1)))
+    (λ c. let e = c .before .before .before .before .before .before .before in
+    let s = start e in
+    codes-agree (s .pre .0) (s .pre .1 .0) (s .pre .1 .1 .0) (s .pre .1 .1 .1) (c .before .before .compare .ensures) (e .if1 .left) (c .enum-told2 .given .1))
+    (λ c. let s = start (c .before .before .before .before .before .before .before) in
+    codes-differ (s .pre .0) (s .pre .1 .0) (s .pre .1 .1 .0) (s .pre .1 .1 .1) (c .before .before .compare .ensures) (greater-apart (c .enum-told3 .given .1))))

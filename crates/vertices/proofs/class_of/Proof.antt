@@ -1,0 +1,32 @@
+-- `vertices::class_of` meets its contract: the loop keeps that no vertex passed is like that of digit v. Assumes nothing.
+use Prim.Native.Nat.{_-_}
+use native.Mathlib.Omega.{arith}
+use denote.Ref.{now}
+use Rattle.vertices.specs.Vertices.{alike?}
+use Rattle.vertices.specs.Search.{was-alike, was-different}
+use Rattle.vertices.proofs.Looking.{Looking, look-none, look-all, look-here, look-past}
+use Rattle.vertices.proofs.class_of.Statement.{statement}
+use Rattle.vertices.proofs.class_of.Tie as tie
+
+abbrev Inv-loop : tie.InvT-loop
+Inv-loop code ends deep known v new u₀ u = Looking (alike? code) known v new u
+
+abbrev μ-loop : tie.MeasureT-loop
+μ-loop code ends deep known v new u₀ u = v - u
+
+pub class-of-spec : {M : Type 1} → statement M
+class-of-spec =
+    tie.close
+    (tie.spec
+    Inv-loop
+    μ-loop
+    (λ c. look-none (alike? _))
+    (λ c κs. let s = c .before .before .before .before .before .before in (s .pre .0, (s .pre .1 .0, (omega arith, s .pre .1 .1 .0))))
+    (λ c. omega arith)
+    (λ c. let s = c .before .before .before .before .before .before .before .before .before in
+    look-here (alike? (now (s .args .code))) (c .before .before .before .before .loop .inv) (s .pre .1 .1 .1) (omega arith) (was-alike (c .before .before .alike .ensures) (c .before .if1 .taken)))
+    (λ c. omega arith)
+    (λ c. omega arith)
+    (λ c. let s = c .before .before .before .before .before .before .before .before in
+    look-past (alike? (now (s .args .code))) (c .before .before .before .loop .inv) (s .pre .1 .1 .1) (omega arith) (was-different (c .before .alike .ensures) (c .if1 .left)))
+    (λ c. let s = c .before .before .before .before .before .before in look-all (alike? (now (s .args .code))) (c .before .loop .inv) (s .pre .1 .1 .1) (omega arith)))

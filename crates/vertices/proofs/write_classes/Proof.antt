@@ -1,0 +1,59 @@
+-- `vertices::write_classes` meets its contract: the loop keeps the classes written and the greatest of them. Assumes nothing.
+use mathlib.Core.Path.{_≡_, refl, sym}
+use mathlib.Core.Logic.{⊎-elim}
+use mathlib.Core.List.{List}
+use Prim.Native.Nat.{ℕ, max, _-_, _≤_}
+use native.Mathlib.Omega.{arith}
+use denote.Ref.{now}
+use lib.ListN.{length}
+use Rattle.laws.specs.Laid.{Laid}
+use Rattle.code.specs.Limits.{size, valence}
+use Rattle.code.specs.Search.{Known}
+use Rattle.code.specs.Right.{Right, clear-right}
+use Rattle.vertices.specs.Vertices.{alike?, classes}
+use Rattle.vertices.specs.Search.{Deep}
+use Rattle.vertices.proofs.Writing.{Writing, writing-none, writing-length, writing-low, writing-next, writing-all}
+use Rattle.vertices.proofs.write_classes.Statement.{statement}
+use Rattle.vertices.proofs.write_classes.Tie as tie
+
+abbrev Inv-loop : tie.InvT-loop
+Inv-loop code out₀ ends deep top₀ i₀ out top i = Known code ends 0 × (Deep code deep × Writing (alike? code) (length code) out₀ out top i)
+
+abbrev μ-loop : tie.MeasureT-loop
+μ-loop code out₀ ends deep top₀ i₀ out top i = length code - i
+
+right : (c : tie.Start Inv-loop μ-loop) → Right size valence (now (c .args .code))
+right c = clear-right size valence (now (c .args .code)) (c .pre .0)
+
+written : (c : List ℕ) {old out : List ℕ} {top i : ℕ} → Writing (alike? c) (length c) old out top i → length c ≤ i → Laid (classes c) old out i
+unfolding classes
+written c w h = writing-all (alike? c) w h
+
+-- the greatest class, where the two arms meet
+top-next : (c : tie.Joined1 Inv-loop μ-loop) → c .if1 .top ≡ max (c .before .before .before .before .before .before .loop .top) (c .before .class-of .result)
+top-next c = ⊎-elim (λ w. omega arith) (λ w. omega arith) (c .if1 .came)
+
+pub write-classes-spec : {M : Type 1} → statement M
+write-classes-spec =
+    tie.close
+    (tie.spec
+    Inv-loop
+    μ-loop
+    (λ c. refl)
+    (λ c κs. let r = right (c .before .before .before) in (r .ends, (r .few, refl)))
+    (λ c. refl)
+    (λ c κs. let r = right (c .before .before .before .before .before .before) in (r .ends, (r .few, refl)))
+    (λ c. let s = c .before .before .before .before .before .before .before .before in
+    (c .before .before .before .before .ends-of .ensures, (c .before .depths-of .ensures, writing-none (alike? _) (s .pre .1))))
+    (λ c. sym (c .before .before .loop .inv .0 .long))
+    (λ c. sym (c .before .before .before .loop .inv .1 .0 .long))
+    (λ c. let l = c .before .before .before .before .loop .inv in omega (arith, writing-low (alike? _) (l .1 .1), l .0 .few))
+    (λ c κs. let l = c .before .before .before .before .loop .inv in
+    (l .0, (l .1 .0, (omega arith, omega (arith, writing-length (alike? _) (l .1 .1), l .1 .1 .room)))))
+    (λ c. let l = c .before .before .before .before .before .loop .inv in omega (arith, writing-length (alike? _) (l .1 .1), l .1 .1 .room))
+    (λ c. omega arith)
+    (λ c. omega arith)
+    (λ c. let l = c .before .before .before .before .before .before .loop .inv in
+    (l .0, (l .1 .0, writing-next (alike? _) (l .1 .1) (omega arith) (c .before .class-of .ensures) (top-next c))))
+    (λ c. writing-length (alike? _) (c .before .loop .inv .1 .1))
+    (λ c. written _ (c .before .loop .inv .1 .1) (omega arith)))

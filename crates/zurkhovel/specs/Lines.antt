@@ -1,0 +1,27 @@
+-- The promises of the calls on lines. A line's digits are judged as a centred code (`digitTable`). Assumes nothing.
+use mathlib.Core.Path.{_≡_}
+use mathlib.Core.List.{List, [], _∷_}
+use Prim.Native.Nat.{ℕ, zero, suc, _+_}
+use lib.ListN.{length}
+use Rattle.refusal.specs.Table.{Outcome}
+use Rattle.code.specs.Limits.{size}
+use Rattle.lines.specs.Judged.{digitTable}
+use Rattle.lines.specs.Reading as Reading
+
+-- the first line of the text t into a lent output
+abbrev pub ReadLine : List ℕ → List ℕ → List ℕ → Outcome ℕ → Type 0
+ReadLine t old new o = Reading.ReadLine size digitTable t old new o
+
+-- the text t, line after line: rec, num and pla before, rec′, num′ and pla′ after; k lines are read, up to the place `at`
+abbrev pub ReadText : List ℕ → List ℕ → List ℕ → List ℕ → List ℕ → List ℕ → List ℕ → ℕ → ℕ → Type 0
+ReadText t rec num pla rec′ num′ pla′ k at = Reading.ReadText size digitTable size t rec num pla rec′ num′ pla′ k at
+
+-- "R records, and F refused lines": how many of the answers' numbers are 0, and how many are not
+unfoldable pub zeros : List ℕ → ℕ
+zeros [] = 0
+zeros (zero ∷ ns) = suc (zeros ns)
+zeros (suc n ∷ ns) = zeros ns
+
+pub record Counted (numbers : List ℕ) (read refused : ℕ) : Type 0 where
+  pub records : read ≡ zeros numbers
+  pub others : read + refused ≡ length numbers

@@ -1,0 +1,53 @@
+// Lines: one, and a text of them.
+use lines::Progress;
+use refusal::Answer;
+ghost use Rattle.refusal.specs.Outcome.{told};
+ghost use Rattle.zurkhovel.specs.Lines.{ReadLine, ReadText, Counted};
+
+// The digits of a text's first line, as values.
+pub fn read_line(text: &[u8], out: &mut [u8]) -> Answer
+    ensures { λ r. ⌜ ReadLine (now (text .entry)) (now (out .entry)) (now (out .exit)) (told r) ⌝ }
+{
+    lines::read_line(text, out)
+}
+
+// A text, line after line: for each line 64 bytes of `records`, one number and one place. It stops where the text ends, or where one of the
+// three has no room for a line more; the caller goes on with the text from `at`.
+pub fn read_text(
+    text: &[u8],
+    records: &mut [u8],
+    numbers: &mut [u8],
+    places: &mut [usize],
+) -> Progress
+    ensures { λ r. ⌜ ReadText (now (text .entry)) (now (records .entry)) (now (numbers .entry)) (now (places .entry))
+        (now (records .exit)) (now (numbers .exit)) (now (places .exit)) (r .lines) (r .at) ⌝ }
+{
+    lines::read_text(text, records, numbers, places)
+}
+
+// How many lines were read as records, and how many were refused.
+pub struct Counts {
+    pub read: usize,
+    pub refused: usize,
+}
+
+// The counts of a text's answers, by their numbers.
+pub fn count(numbers: &[u8]) -> Counts
+    ensures { λ r. ⌜ Counted (now (numbers .entry)) (r .read) (r .refused) ⌝ }
+{
+    let mut t = Counts {
+        read: 0,
+        refused: 0,
+    };
+    let mut i = 0;
+    while i < numbers.len() {
+        let k = numbers[i];
+        i += 1;
+        if k == 0 {
+            t.read += 1;
+        } else {
+            t.refused += 1;
+        }
+    }
+    t
+}
