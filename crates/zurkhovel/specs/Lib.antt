@@ -3,3 +3,6 @@ pub mod Codes
 pub mod Lines
 pub mod Alike
 pub mod One
+pub mod Rooting
+pub mod Bits
+pub mod OneBits
