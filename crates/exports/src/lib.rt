@@ -103,3 +103,35 @@ pub extern "C" fn zk_fraction(
 pub extern "C" fn zk_unfraction(x: f64, out: &mut [u8], place: &mut u64) -> u32 {
     handed(zurkhovel::bit_tuple::unfraction(x, out), place)
 }
+
+#[no_mangle]
+pub extern "C" fn zk_read_line(text: &[u8], out: &mut [u8], place: &mut u64) -> u32 {
+    handed(zurkhovel::text::read_line(text, out), place)
+}
+
+#[no_mangle]
+pub extern "C" fn zk_write_line(n: u64, edges: &[u8], out: &mut [u8], place: &mut u64) -> u32 {
+    handed(zurkhovel::text::write_line(n as usize, edges, out), place)
+}
+
+#[no_mangle]
+pub extern "C" fn zk_read_text(
+    text: &[u8],
+    records: &mut [u8],
+    numbers: &mut [u8],
+    places: &mut [usize],
+    lines: &mut u64,
+    at: &mut u64,
+) {
+    let p = zurkhovel::text::read_text(text, records, numbers, places);
+    *lines = p.lines as u64;
+    *at = p.at as u64;
+}
+
+#[no_mangle]
+pub extern "C" fn zk_classes(n: u64, edges: &[u8], out: &mut [u8], place: &mut u64) -> u32 {
+    handed(
+        zurkhovel::alike::equal_vertices(n as usize, edges, out),
+        place,
+    )
+}

@@ -58,7 +58,7 @@ fn list(lines: &[u8]) {
     let mut places = [0usize; 1024];
     let mut at = 0;
     let mut k = 0;
-    let mut turn = 0;
+    let mut turn: usize = 0;
     while turn < 65 {
         turn += 1;
         let p = zurkhovel::text::read_text(
