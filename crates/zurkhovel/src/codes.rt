@@ -88,3 +88,17 @@ pub fn decode_centred(code: &[u8], out: &mut [u8]) -> Answer
     }
     Answer::Done(code::write_edges(code, out))
 }
+
+// The edges (parent, child), for child 2 to N, of an N-tuple code.
+pub fn decode_n_tuple(code: &[u8], out: &mut [u8]) -> Answer
+    ensures { λ r. ⌜ DecodeForm nTuple (now (code .entry)) (now (out .entry)) (now (out .exit)) (told r) ⌝ }
+{
+    if let Check::Refuse(k, p) = coding::check_n_tuple(code) {
+        return Answer::Refused(k, p);
+    }
+    let need = 2 * (code.len() - 1);
+    if out.len() < need {
+        return Answer::Refused(15, need);
+    }
+    Answer::Done(code::write_edges(code, out))
+}
