@@ -1,4 +1,6 @@
 -- The promises of the public calls. Assumes nothing.
 pub mod Codes
+pub mod Same
+pub mod Theorems
 pub mod Lines
 pub mod One

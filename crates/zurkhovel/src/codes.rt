@@ -1,8 +1,13 @@
 // Digit codes and edge lists.
+use code::Order;
 use refusal::Answer;
 use refusal::Check;
 ghost use Rattle.refusal.specs.Outcome.{told};
+ghost use Rattle.refusal.specs.Table.{Clear};
+ghost use Rattle.code.specs.Limits.{size, valence};
+ghost use Rattle.skeleton.specs.Edges.{edgeRows};
 ghost use Rattle.zurkhovel.specs.Codes.{CheckCode, DecodeCode, DecodeForm, CheckEdges, RootedCode, FormCode};
+ghost use Rattle.zurkhovel.specs.Same.{SameSkeleton, said};
 ghost use Rattle.form.specs.Form.{nTuple, centred};
 
 // Whether digits lent by themselves are a right rooted code.
@@ -101,4 +106,44 @@ pub fn decode_n_tuple(code: &[u8], out: &mut [u8]) -> Answer
         return Answer::Refused(15, need);
     }
     Answer::Done(code::write_edges(code, out))
+}
+
+// Of two edge lists.
+pub enum Verdict {
+    // Their centred codes are equal.
+    Same,
+    // They are not.
+    Different,
+    // Refused: which list, 1 or 2; the number of document 01's table; the place.
+    Refused(u8, u8, usize),
+}
+
+// Whether two accepted edge lists are the same skeleton.
+fn judge(n1: usize, edges1: &[u8], n2: usize, edges2: &[u8]) -> Verdict
+    requires { ⌜ Clear (edgeRows size valence n1 (now edges1) 1) ⌝ }
+    requires { ⌜ Clear (edgeRows size valence n2 (now edges2) 1) ⌝ }
+    ensures { λ r. ⌜ SameSkeleton n1 (now (edges1 .entry)) n2 (now (edges2 .entry)) (said r) ⌝ }
+{
+    let mut a = [0u8; 64];
+    let mut b = [0u8; 64];
+    coding::centred(n1, edges1, &mut a);
+    coding::centred(n2, edges2, &mut b);
+    match code::compare(&a[..n1], &b[..n2]) {
+        Order::Less => Verdict::Different,
+        Order::Equal => Verdict::Same,
+        Order::Greater => Verdict::Different,
+    }
+}
+
+// Whether two edge lists are the same skeleton: whether their centred codes are equal.
+pub fn same_skeleton(n1: usize, edges1: &[u8], n2: usize, edges2: &[u8]) -> Verdict
+    ensures { λ r. ⌜ SameSkeleton n1 (now (edges1 .entry)) n2 (now (edges2 .entry)) (said r) ⌝ }
+{
+    if let Check::Refuse(k, p) = skeleton::check(64, n1, edges1, 1) {
+        return Verdict::Refused(1, k, p);
+    }
+    if let Check::Refuse(k, p) = skeleton::check(64, n2, edges2, 1) {
+        return Verdict::Refused(2, k, p);
+    }
+    judge(n1, edges1, n2, edges2)
 }
