@@ -5,8 +5,9 @@ use refusal::Check;
 ghost use Rattle.refusal.specs.Outcome.{told};
 ghost use Rattle.refusal.specs.Table.{Clear};
 ghost use Rattle.code.specs.Limits.{size, valence};
+ghost use Rattle.code.specs.Code.{codeRows};
 ghost use Rattle.skeleton.specs.Edges.{edgeRows};
-ghost use Rattle.zurkhovel.specs.Codes.{CheckCode, DecodeCode, DecodeForm, CheckEdges, RootedCode, FormCode};
+ghost use Rattle.zurkhovel.specs.Codes.{CheckCode, LaysEdges, DecodeCode, DecodeForm, CheckEdges, RootedCode, FormCode};
 ghost use Rattle.zurkhovel.specs.Same.{SameSkeleton, said};
 ghost use Rattle.form.specs.Form.{nTuple, centred};
 
@@ -17,6 +18,18 @@ pub fn check_code(code: &[u8]) -> Answer
     refusal::handed(code::check(code))
 }
 
+// The edges of digits that are a right rooted code.
+fn lay_edges(code: &[u8], out: &mut [u8]) -> Answer
+    requires { ⌜ Clear (codeRows size valence (now code)) ⌝ }
+    ensures { λ r. ⌜ LaysEdges (now (code .entry)) (now (out .entry)) (now (out .exit)) (told r) ⌝ }
+{
+    let need = 2 * (code.len() - 1);
+    if out.len() < need {
+        return Answer::Refused(15, need);
+    }
+    Answer::Done(code::write_edges(code, out))
+}
+
 // The edges (parent, child), for child 2 to N, of a right rooted code.
 pub fn decode_code(code: &[u8], out: &mut [u8]) -> Answer
     ensures { λ r. ⌜ DecodeCode (now (code .entry)) (now (out .entry)) (now (out .exit)) (told r) ⌝ }
@@ -24,11 +37,7 @@ pub fn decode_code(code: &[u8], out: &mut [u8]) -> Answer
     if let Check::Refuse(k, p) = code::check(code) {
         return Answer::Refused(k, p);
     }
-    let need = 2 * (code.len() - 1);
-    if out.len() < need {
-        return Answer::Refused(15, need);
-    }
-    Answer::Done(code::write_edges(code, out))
+    lay_edges(code, out)
 }
 
 // Whether N, an edge list and a root are a skeleton and one of its vertices.
@@ -87,11 +96,7 @@ pub fn decode_centred(code: &[u8], out: &mut [u8]) -> Answer
     if let Check::Refuse(k, p) = fast::check(code) {
         return Answer::Refused(k, p);
     }
-    let need = 2 * (code.len() - 1);
-    if out.len() < need {
-        return Answer::Refused(15, need);
-    }
-    Answer::Done(code::write_edges(code, out))
+    lay_edges(code, out)
 }
 
 // The edges (parent, child), for child 2 to N, of an N-tuple code.
@@ -101,11 +106,7 @@ pub fn decode_n_tuple(code: &[u8], out: &mut [u8]) -> Answer
     if let Check::Refuse(k, p) = coding::check_n_tuple(code) {
         return Answer::Refused(k, p);
     }
-    let need = 2 * (code.len() - 1);
-    if out.len() < need {
-        return Answer::Refused(15, need);
-    }
-    Answer::Done(code::write_edges(code, out))
+    lay_edges(code, out)
 }
 
 // Of two edge lists.

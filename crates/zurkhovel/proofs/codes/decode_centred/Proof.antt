@@ -1,27 +1,12 @@
 -- `zurkhovel::codes::decode_centred` keeps its promise. Assumes nothing.
 use mathlib.Core.Path.{refl}
-use mathlib.Core.List.{List}
-use Prim.Native.Nat.{ℕ}
 use denote.Ref.{now}
 use borrow.Author.Needs.{needs}
-use Rattle.refusal.specs.Table.{Clear}
-use Rattle.refusal.specs.Laws.{was-clear, was-lowest, at-least, refused-first}
-use Rattle.code.specs.Limits.{size, valence}
-use Rattle.code.specs.Code.{codeRows}
-use Rattle.form.specs.Form.{centred, formRows}
-use Rattle.zurkhovel.proofs.Decoded.{right-of, decoded-short, decoded-room, decoded-given}
+use Rattle.refusal.specs.Laws.{was-clear, was-lowest, refused-first}
+use Rattle.form.specs.Form.{centred}
+use Rattle.zurkhovel.proofs.Decoded.{right-of, given-behind}
 use Rattle.zurkhovel.proofs.codes.decode_centred.Statement.{statement}
 use Rattle.zurkhovel.proofs.codes.decode_centred.Tie as tie
-
--- what is known behind the check
-abbrev digits : tie.After-enum-told → List ℕ
-digits c = now (c .before .before .before .before .before .args .code)
-
-formed : (c : tie.After-enum-told) → Clear (formRows centred size valence (digits c))
-formed c = was-clear (c .before .before .check .ensures) (c .enum-told .given .1)
-
-clear : (c : tie.After-enum-told) → Clear (codeRows size valence (digits c))
-clear c = right-of centred (digits c) (formed c)
 
 pub decode-centred-spec : {M : Type 1} → statement M
 decode-centred-spec =
@@ -31,9 +16,6 @@ decode-centred-spec =
     (λ c. search needs)
     (λ c. refused-first refl (was-lowest (c .before .before .before .check .ensures) (c .before .k .given .1)) refl)
     (λ c. search needs)
-    (λ c. at-least (clear c))
+    (λ c κs. right-of centred (now (c .before .before .before .before .before .before .args .code)) (was-clear (c .before .before .before .check .ensures) (c .before .enum-told .given .1)))
     (λ c. search needs)
-    (λ c. let d = c .before in decoded-short (formed d) (digits d) (clear d) (c .if1 .taken) refl)
-    (λ c κs. let d = c .before .before in decoded-room (formed d) (digits d) (clear d) (c .before .if1 .left))
-    (λ c. search needs)
-    (λ c. let d = c .before .before .before .before .before in decoded-given (formed d) (digits d) (clear d) (c .before .before .before .before .if1 .left) (c .before .before .write-edges .ensures)))
+    (λ c. let d = c .before .before .before .before in given-behind (was-clear (d .before .before .check .ensures) (d .enum-told .given .1)) (c .before .before .lay-edges .ensures)))
