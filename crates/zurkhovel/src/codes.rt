@@ -125,6 +125,9 @@ fn judge(n1: usize, edges1: &[u8], n2: usize, edges2: &[u8]) -> Verdict
     requires { ⌜ Clear (edgeRows size valence n2 (now edges2) 1) ⌝ }
     ensures { λ r. ⌜ SameSkeleton n1 (now (edges1 .entry)) n2 (now (edges2 .entry)) (said r) ⌝ }
 {
+    if n1 != n2 {
+        return Verdict::Different;
+    }
     let mut a = [0u8; 64];
     let mut b = [0u8; 64];
     coding::centred(n1, edges1, &mut a);
