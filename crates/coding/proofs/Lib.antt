@@ -1,3 +1,4 @@
 -- Proofs of the coding functions. Assumes nothing.
 pub mod Written
 pub mod Largest
+pub mod Again

@@ -1,11 +1,15 @@
-// The codes of an accepted edge list: rooted at a vertex, N-tuple and centred.
+// The codes of an accepted edge list: rooted at a vertex, N-tuple and centred. Whether digits are an N-tuple code.
+use code::Order;
+use refusal::Check;
 ghost use mathlib.Core.Path.{_≡_};
+ghost use mathlib.Core.List.{[], _∷_};
 ghost use Prim.Native.Nat.{_≤_};
 ghost use lib.ListN.{length};
-ghost use Rattle.refusal.specs.Table.{Writes};
+ghost use Rattle.refusal.specs.Table.{Writes, Clear, Answers};
 ghost use Rattle.code.specs.Limits.{size, valence};
+ghost use Rattle.code.specs.Code.{codeRows};
 ghost use Rattle.tree.specs.Skeleton as tree;
-ghost use Rattle.form.specs.Form.{nTuple, centred};
+ghost use Rattle.form.specs.Form.{nTuple, centred, row14, formRows};
 ghost use Rattle.coding.specs.Raised.{Raised, Widest};
 
 // The rooted code at a vertex.
@@ -89,4 +93,31 @@ pub fn n_tuple(n: usize, edges: &[u8], out: &mut [u8])
         }
     }
     bytes::copy(&best[..n], out);
+}
+
+// 14: a right rooted code that is not the N-tuple code of what it decodes to.
+fn judged(code: &[u8]) -> Check
+    requires { ⌜ Clear (codeRows size valence (now code)) ⌝ }
+    ensures { λ r. ⌜ Answers (row14 nTuple (now (code .entry)) ∷ []) r ⌝ }
+{
+    let n = code.len();
+    let mut edges = [0u8; 126];
+    let mut own = [0u8; 64];
+    let m = code::write_edges(code, &mut edges);
+    n_tuple(n, &edges[..m], &mut own);
+    match code::compare(code, &own[..n]) {
+        Order::Less => Check::Refuse(14, 0),
+        Order::Equal => Check::Passed,
+        Order::Greater => Check::Refuse(14, 0),
+    }
+}
+
+// Digits lent by themselves that are to be an N-tuple code: 3, 10 to 13, and 14.
+pub fn check_n_tuple(code: &[u8]) -> Check
+    ensures { λ r. ⌜ Answers (formRows nTuple size valence (now (code .entry))) r ⌝ }
+{
+    if let Check::Refuse(k, p) = code::check(code) {
+        return Check::Refuse(k, p);
+    }
+    judged(code)
 }

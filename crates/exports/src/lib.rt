@@ -4,6 +4,7 @@ use code::Order;
 use fraction::Fraction;
 use refusal::Answer;
 use refusal::Number;
+use zurkhovel::codes::Verdict;
 
 // An answer as C takes it.
 fn handed(answer: Answer, place: &mut u64) -> u32 {
@@ -67,6 +68,64 @@ pub extern "C" fn zk_whole(
             0
         }
         Number::Refused(k, p) => {
+pub extern "C" fn zk_decode_n_tuple(code: &[u8], out: &mut [u8], place: &mut u64) -> u32 {
+    handed(zurkhovel::codes::decode_n_tuple(code, out), place)
+}
+
+#[no_mangle]
+pub extern "C" fn zk_decode_centred(code: &[u8], out: &mut [u8], place: &mut u64) -> u32 {
+    handed(zurkhovel::codes::decode_centred(code, out), place)
+}
+
+#[no_mangle]
+pub extern "C" fn zk_check_edges(n: usize, edges: &[u8], root: usize, place: &mut u64) -> u32 {
+    handed(zurkhovel::codes::check_edges(n, edges, root), place)
+}
+
+#[no_mangle]
+pub extern "C" fn zk_rooted_code(
+    n: usize,
+    edges: &[u8],
+    root: usize,
+    out: &mut [u8],
+    place: &mut u64,
+) -> u32 {
+    handed(zurkhovel::codes::rooted_code(n, edges, root, out), place)
+}
+
+#[no_mangle]
+pub extern "C" fn zk_n_tuple_code(n: usize, edges: &[u8], out: &mut [u8], place: &mut u64) -> u32 {
+    handed(zurkhovel::codes::n_tuple_code(n, edges, out), place)
+}
+
+#[no_mangle]
+pub extern "C" fn zk_centred_code(n: usize, edges: &[u8], out: &mut [u8], place: &mut u64) -> u32 {
+    handed(zurkhovel::codes::centred_code(n, edges, out), place)
+}
+
+// Of two edge lists: `list` is 0 where neither is refused, and `place` then 1 for the same skeleton, 0 for another.
+#[no_mangle]
+pub extern "C" fn zk_same(
+    n1: usize,
+    edges1: &[u8],
+    n2: usize,
+    edges2: &[u8],
+    list: &mut u64,
+    place: &mut u64,
+) -> u32 {
+    match zurkhovel::codes::same_skeleton(n1, edges1, n2, edges2) {
+        Verdict::Same => {
+            *list = 0;
+            *place = 1;
+            0
+        }
+        Verdict::Different => {
+            *list = 0;
+            *place = 0;
+            0
+        }
+        Verdict::Refused(i, k, p) => {
+            *list = i as u64;
             *place = p as u64;
             k as u32
         }

@@ -6,3 +6,4 @@ pub mod Derived
 pub mod Carried
 pub mod Rooted
 pub mod Counting
+pub mod Verdicts

@@ -4,7 +4,7 @@
 --
 -- c, E: what is handed in; old, new: the lent output before and after; o: the answer as number and place (`told`). Assumes nothing.
 use mathlib.Core.Path.{_≡_}
-use mathlib.Core.List.{List}
+use mathlib.Core.List.{List, []}
 use Prim.Native.Nat.{ℕ}
 use Rattle.refusal.specs.Table.{Outcome, Answered, Gives}
 use Rattle.code.specs.Limits.{size, valence}
@@ -20,6 +20,10 @@ CheckCode c o = Answered (codeRows size valence c) (λ n. n ≡ 0) o
 -- the edges of a right rooted code, two bytes for each child from 2 to N
 abbrev pub DecodeCode : List ℕ → List ℕ → List ℕ → Outcome ℕ → Type 0
 DecodeCode c old new o = Gives (codeRows size valence c) (λ E. E ≡ decode c) old new o
+
+-- the same where no row of c applies
+abbrev pub LaysEdges : List ℕ → List ℕ → List ℕ → Outcome ℕ → Type 0
+LaysEdges c old new o = Gives [] (λ E. E ≡ decode c) old new o
 
 -- N vertices, the edge list E and the root r: nothing is written
 abbrev pub CheckEdges : ℕ → List ℕ → ℕ → Outcome ℕ → Type 0

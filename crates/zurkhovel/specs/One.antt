@@ -1,15 +1,20 @@
 -- Read from its promise alone, every public call has one possible answer and one possible state of its lent output. Each is a case of
--- one law, `one-result`, by way of `one-given` where the call writes. Assumes nothing.
-use mathlib.Core.Path.{_≡_, refl, sym, _∙_}
-use mathlib.Core.List.{List}
+-- one law, `one-result`, by way of `one-given` where the call writes. The verdict on two edge lists is a law of its own. Assumes nothing.
+use mathlib.Core.Path.{_≡_, refl, sym, ap₂, _∙_}
+use mathlib.Core.List.{List, [], _∷_, _++_}
 use Prim.Native.Nat.{ℕ}
-use Rattle.refusal.specs.Table.{Row, Outcome, Answered}
-use Rattle.refusal.specs.Laws.{one-result, one-given}
-use Rattle.zurkhovel.specs.Codes.{CheckCode, DecodeCode, CheckEdges}
+use lib.ListN.{length}
+use Rattle.refusal.specs.Table.{Row, Clear, Lowest, Outcome, refuses, Promise, kept, left, Answered, Writes, short, Gives}
+use Rattle.refusal.specs.Laws.{one-lowest, one-result, one-written, one-given, clear-left}
+use Rattle.form.specs.Form.{nTuple, centred}
+use Rattle.form.specs.Forms.{IsForm, n-tuple-form, centred-form}
+use Rattle.zurkhovel.specs.Codes.{CheckCode, DecodeCode, DecodeForm, CheckEdges, RootedCode, FormCode}
+use Rattle.zurkhovel.specs.Same.{Finding, refused, SameSkeleton, first-refused, second-refused, same, different}
+use Rattle.zurkhovel.specs.Theorems.{tree-of}
 
 -- two results that are the same thing are one
-same : (x c d : List ℕ) → c ≡ x → d ≡ x → c ≡ d
-same x c d p q = p ∙ sym q
+equal : (x c d : List ℕ) → c ≡ x → d ≡ x → c ≡ d
+equal x c d p q = p ∙ sym q
 
 -- a call that only checks
 one-check : {rs : List Row} {o u : Outcome ℕ} → Answered rs (λ n. n ≡ 0) o → Answered rs (λ n. n ≡ 0) u → o ≡ u
@@ -19,7 +24,70 @@ pub one-check-code : (c : List ℕ) (o u : Outcome ℕ) → CheckCode c o → Ch
 one-check-code c o u a b = one-check a b
 
 pub one-decode-code : (c old s t : List ℕ) (o u : Outcome ℕ) → DecodeCode c old s o → DecodeCode c old t u → (o ≡ u) × (s ≡ t)
-one-decode-code c old s t o u a b = one-given (same _) a b
+one-decode-code c old s t o u a b = one-given (equal _) a b
 
 pub one-check-edges : (N : ℕ) (E : List ℕ) (r : ℕ) (o u : Outcome ℕ) → CheckEdges N E r o → CheckEdges N E r u → o ≡ u
 one-check-edges N E r o u a b = one-check a b
+
+-- a call that writes, where what is right is one for an input that no row refuses
+one-clear :
+    {rs : List Row} {Right : List ℕ → Type 0} {old s t : List ℕ} {o u : Outcome ℕ} → (Clear rs → (c d : List ℕ) → Right c → Right d → c ≡ d)
+    → Gives rs Right old s o → Gives rs Right old t u → (o ≡ u) × (s ≡ t)
+one-clear {rs} {Right} {old} {s} {t} one g h = by-cases (g .promise) (h .promise)
+  where
+    rows : List Row
+    rows = rs ++ (short Right (length old) ∷ [])
+
+    by-cases : {o u : Outcome ℕ} → Promise rows (Writes Right old) old s o → Promise rows (Writes Right old) old t u → (o ≡ u) × (s ≡ t)
+    by-cases (kept c r) q = one-result (one-written (one (clear-left rs _ c))) (kept c r) q
+    by-cases (left l e) (kept c r) = absurd (c .nowhere _ _ (l .applies))
+    by-cases (left l e) (left m f) = let n = one-lowest l m in (ap₂ refuses (n .0) (n .1), e ∙ sym f)
+
+pub one-rooted-code :
+    (N : ℕ) (E : List ℕ) (r : ℕ) (old s t : List ℕ) (o u : Outcome ℕ) → RootedCode N E r old s o → RootedCode N E r old t u → (o ≡ u) × (s ≡ t)
+one-rooted-code N E r old s t o u a b = one-given (equal _) a b
+
+-- of either form
+one-form-code :
+    (form : ℕ → List ℕ → List ℕ → Type 0) (f : IsForm form) (N : ℕ) (E old s t : List ℕ) (o u : Outcome ℕ)
+    → FormCode form N E old s o → FormCode form N E old t u → (o ≡ u) × (s ≡ t)
+one-form-code form f N E old s t o u a b = one-clear (λ k c d x y. f .one (tree-of N E 1 k) x y) a b
+
+one-decode-form :
+    (form : ℕ → List ℕ → List ℕ → Type 0) (c old s t : List ℕ) (o u : Outcome ℕ)
+    → DecodeForm form c old s o → DecodeForm form c old t u → (o ≡ u) × (s ≡ t)
+one-decode-form form c old s t o u a b = one-given (equal _) a b
+
+pub one-n-tuple-code : (N : ℕ) (E old s t : List ℕ) (o u : Outcome ℕ) → FormCode nTuple N E old s o → FormCode nTuple N E old t u → (o ≡ u) × (s ≡ t)
+one-n-tuple-code = one-form-code nTuple n-tuple-form
+
+pub one-centred-code : (N : ℕ) (E old s t : List ℕ) (o u : Outcome ℕ) → FormCode centred N E old s o → FormCode centred N E old t u → (o ≡ u) × (s ≡ t)
+one-centred-code = one-form-code centred centred-form
+
+pub one-decode-n-tuple : (c old s t : List ℕ) (o u : Outcome ℕ) → DecodeForm nTuple c old s o → DecodeForm nTuple c old t u → (o ≡ u) × (s ≡ t)
+one-decode-n-tuple = one-decode-form nTuple
+
+pub one-decode-centred : (c old s t : List ℕ) (o u : Outcome ℕ) → DecodeForm centred c old s o → DecodeForm centred c old t u → (o ≡ u) × (s ≡ t)
+one-decode-centred = one-decode-form centred
+
+-- a table is clear, or has a lowest number
+not-both : {rs : List Row} {k p : ℕ} {A : Type 0} → Clear rs → Lowest rs k p → A
+not-both c l = absurd (c .nowhere _ _ (l .applies))
+
+pub one-same-skeleton : (N : ℕ) (E : List ℕ) (P : ℕ) (F : List ℕ) (o u : Finding) → SameSkeleton N E P F o → SameSkeleton N E P F u → o ≡ u
+one-same-skeleton N E P F o u (first-refused l) (first-refused m) = let n = one-lowest l m in ap₂ (refused 1) (n .0) (n .1)
+one-same-skeleton N E P F o u (first-refused l) (second-refused k m) = not-both k l
+one-same-skeleton N E P F o u (first-refused l) (same k d x y) = not-both k l
+one-same-skeleton N E P F o u (first-refused l) (different k d n) = not-both k l
+one-same-skeleton N E P F o u (second-refused k l) (first-refused m) = not-both k m
+one-same-skeleton N E P F o u (second-refused k l) (second-refused g m) = let n = one-lowest l m in ap₂ (refused 2) (n .0) (n .1)
+one-same-skeleton N E P F o u (second-refused k l) (same g d x y) = not-both d l
+one-same-skeleton N E P F o u (second-refused k l) (different g d n) = not-both d l
+one-same-skeleton N E P F o u (same k d x y) (first-refused l) = not-both k l
+one-same-skeleton N E P F o u (same k d x y) (second-refused g l) = not-both d l
+one-same-skeleton N E P F o u (same k d x y) (same g h v w) = refl
+one-same-skeleton N E P F o u (same {c} k d x y) (different g h n) = absurd (n c x y)
+one-same-skeleton N E P F o u (different k d n) (first-refused l) = not-both k l
+one-same-skeleton N E P F o u (different k d n) (second-refused g l) = not-both d l
+one-same-skeleton N E P F o u (different k d n) (same {c} g h x y) = absurd (n c x y)
+one-same-skeleton N E P F o u (different k d n) (different g h m) = refl

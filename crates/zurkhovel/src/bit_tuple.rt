@@ -78,7 +78,7 @@ pub fn unpack(bytes: &[u8], out: &mut [u8]) -> Answer
     let mut digits = [0u8; 64];
     match bits::packed_code(bytes, &mut digits) {
         Answer::Refused(k, p) => Answer::Refused(k, p),
-        Answer::Done(n) => super::codes::edges_of(&digits[..n], out),
+        Answer::Done(n) => super::codes::lay_edges(&digits[..n], out),
     }
 }
 
@@ -89,7 +89,7 @@ pub fn unwhole(n: usize, value: u64, out: &mut [u8]) -> Answer
     let mut digits = [0u8; 64];
     match bits::number_code(n, value, &mut digits) {
         Answer::Refused(k, p) => Answer::Refused(k, p),
-        Answer::Done(m) => super::codes::edges_of(&digits[..m], out),
+        Answer::Done(m) => super::codes::lay_edges(&digits[..m], out),
     }
 }
 
@@ -100,6 +100,6 @@ pub fn unfraction(x: f64, out: &mut [u8]) -> Answer
     let mut digits = [0u8; 64];
     match fraction::fraction_code(x, &mut digits) {
         Answer::Refused(k, p) => Answer::Refused(k, p),
-        Answer::Done(n) => super::codes::edges_of(&digits[..n], out),
+        Answer::Done(n) => super::codes::lay_edges(&digits[..n], out),
     }
 }

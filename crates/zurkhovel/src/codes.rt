@@ -1,13 +1,14 @@
 // Digit codes and edge lists.
+use code::Order;
 use refusal::Answer;
 use refusal::Check;
-ghost use mathlib.Core.Path.{_≡_};
-ghost use mathlib.Core.List.{[]};
-ghost use Rattle.refusal.specs.Table.{Clear, Gives};
 ghost use Rattle.refusal.specs.Outcome.{told};
+ghost use Rattle.refusal.specs.Table.{Clear};
 ghost use Rattle.code.specs.Limits.{size, valence};
-ghost use Rattle.code.specs.Code.{codeRows, decode};
-ghost use Rattle.zurkhovel.specs.Codes.{CheckCode, DecodeCode, DecodeForm, CheckEdges, RootedCode, FormCode};
+ghost use Rattle.code.specs.Code.{codeRows};
+ghost use Rattle.skeleton.specs.Edges.{edgeRows};
+ghost use Rattle.zurkhovel.specs.Codes.{CheckCode, LaysEdges, DecodeCode, DecodeForm, CheckEdges, RootedCode, FormCode};
+ghost use Rattle.zurkhovel.specs.Same.{SameSkeleton, said};
 ghost use Rattle.form.specs.Form.{nTuple, centred};
 
 // Whether digits lent by themselves are a right rooted code.
@@ -17,6 +18,18 @@ pub fn check_code(code: &[u8]) -> Answer
     refusal::handed(code::check(code))
 }
 
+// The edges of digits that are a right rooted code.
+pub(crate) fn lay_edges(code: &[u8], out: &mut [u8]) -> Answer
+    requires { ⌜ Clear (codeRows size valence (now code)) ⌝ }
+    ensures { λ r. ⌜ LaysEdges (now (code .entry)) (now (out .entry)) (now (out .exit)) (told r) ⌝ }
+{
+    let need = 2 * (code.len() - 1);
+    if out.len() < need {
+        return Answer::Refused(15, need);
+    }
+    Answer::Done(code::write_edges(code, out))
+}
+
 // The edges (parent, child), for child 2 to N, of a right rooted code.
 pub fn decode_code(code: &[u8], out: &mut [u8]) -> Answer
     ensures { λ r. ⌜ DecodeCode (now (code .entry)) (now (out .entry)) (now (out .exit)) (told r) ⌝ }
@@ -24,19 +37,7 @@ pub fn decode_code(code: &[u8], out: &mut [u8]) -> Answer
     if let Check::Refuse(k, p) = code::check(code) {
         return Answer::Refused(k, p);
     }
-    edges_of(code, out)
-}
-
-// The edges of a right code, with row 15.
-pub(crate) fn edges_of(code: &[u8], out: &mut [u8]) -> Answer
-    requires { ⌜ Clear (codeRows size valence (now code)) ⌝ }
-    ensures { λ r. ⌜ Gives [] (λ E. E ≡ decode (now (code .entry))) (now (out .entry)) (now (out .exit)) (told r) ⌝ }
-{
-    let need = 2 * (code.len() - 1);
-    if out.len() < need {
-        return Answer::Refused(15, need);
-    }
-    Answer::Done(code::write_edges(code, out))
+    lay_edges(code, out)
 }
 
 // Whether N, an edge list and a root are a skeleton and one of its vertices.
@@ -95,9 +96,58 @@ pub fn decode_centred(code: &[u8], out: &mut [u8]) -> Answer
     if let Check::Refuse(k, p) = fast::check(code) {
         return Answer::Refused(k, p);
     }
-    let need = 2 * (code.len() - 1);
-    if out.len() < need {
-        return Answer::Refused(15, need);
+    lay_edges(code, out)
+}
+
+// The edges (parent, child), for child 2 to N, of an N-tuple code.
+pub fn decode_n_tuple(code: &[u8], out: &mut [u8]) -> Answer
+    ensures { λ r. ⌜ DecodeForm nTuple (now (code .entry)) (now (out .entry)) (now (out .exit)) (told r) ⌝ }
+{
+    if let Check::Refuse(k, p) = coding::check_n_tuple(code) {
+        return Answer::Refused(k, p);
     }
-    Answer::Done(code::write_edges(code, out))
+    lay_edges(code, out)
+}
+
+// Of two edge lists.
+pub enum Verdict {
+    // Their centred codes are equal.
+    Same,
+    // They are not.
+    Different,
+    // Refused: which list, 1 or 2; the number of document 01's table; the place.
+    Refused(u8, u8, usize),
+}
+
+// Whether two accepted edge lists are the same skeleton.
+fn judge(n1: usize, edges1: &[u8], n2: usize, edges2: &[u8]) -> Verdict
+    requires { ⌜ Clear (edgeRows size valence n1 (now edges1) 1) ⌝ }
+    requires { ⌜ Clear (edgeRows size valence n2 (now edges2) 1) ⌝ }
+    ensures { λ r. ⌜ SameSkeleton n1 (now (edges1 .entry)) n2 (now (edges2 .entry)) (said r) ⌝ }
+{
+    if n1 != n2 {
+        return Verdict::Different;
+    }
+    let mut a = [0u8; 64];
+    let mut b = [0u8; 64];
+    coding::centred(n1, edges1, &mut a);
+    coding::centred(n2, edges2, &mut b);
+    match code::compare(&a[..n1], &b[..n2]) {
+        Order::Less => Verdict::Different,
+        Order::Equal => Verdict::Same,
+        Order::Greater => Verdict::Different,
+    }
+}
+
+// Whether two edge lists are the same skeleton: whether their centred codes are equal.
+pub fn same_skeleton(n1: usize, edges1: &[u8], n2: usize, edges2: &[u8]) -> Verdict
+    ensures { λ r. ⌜ SameSkeleton n1 (now (edges1 .entry)) n2 (now (edges2 .entry)) (said r) ⌝ }
+{
+    if let Check::Refuse(k, p) = skeleton::check(64, n1, edges1, 1) {
+        return Verdict::Refused(1, k, p);
+    }
+    if let Check::Refuse(k, p) = skeleton::check(64, n2, edges2, 1) {
+        return Verdict::Refused(2, k, p);
+    }
+    judge(n1, edges1, n2, edges2)
 }

@@ -21,4 +21,4 @@ unpack-spec =
     (λ c. refused-first refl (form-refused (c .before .before .before .before .packed-code .ensures) (c .before .k .given .1)) refl)
     (λ c. search needs)
     (λ c. let b = c .before .before .before .before .before .before in
-    form-edges (b .before .before .before .packed-code .ensures) (b .n .given .1) (c .before .before .edges-of .ensures)))
+    form-edges (b .before .before .before .packed-code .ensures) (b .n .given .1) (c .before .before .lay-edges .ensures)))

@@ -1,23 +1,12 @@
 -- `zurkhovel::codes::decode_centred` keeps its promise. Assumes nothing.
 use mathlib.Core.Path.{refl}
-use native.Mathlib.Omega.{arith}
 use denote.Ref.{now}
 use borrow.Author.Needs.{needs}
-use Rattle.refusal.specs.Table.{Clear}
-use Rattle.refusal.specs.Laws.{was-clear, was-lowest, at-least, refused-first, refused-short, given-laid, clear-left}
-use Rattle.code.specs.Limits.{size, valence}
-use Rattle.code.specs.Code.{codeRows}
-use Rattle.form.specs.Form.{centred, formRows}
-use Rattle.zurkhovel.proofs.Decoded.{edges-length, edges-sized}
+use Rattle.refusal.specs.Laws.{was-clear, was-lowest, refused-first}
+use Rattle.form.specs.Form.{centred}
+use Rattle.zurkhovel.proofs.Decoded.{right-of, given-behind}
 use Rattle.zurkhovel.proofs.codes.decode_centred.Statement.{statement}
 use Rattle.zurkhovel.proofs.codes.decode_centred.Tie as tie
-
--- what is known behind the check
-formed : (c : tie.After-enum-told) → Clear (formRows centred size valence (now (c .before .before .before .before .before .args .code)))
-formed c = was-clear (c .before .before .check .ensures) (c .enum-told .given .1)
-
-clear : (c : tie.After-enum-told) → Clear (codeRows size valence (now (c .before .before .before .before .before .args .code)))
-clear c = clear-left (codeRows size valence (now (c .before .before .before .before .before .args .code))) _ (formed c)
 
 pub decode-centred-spec : {M : Type 1} → statement M
 decode-centred-spec =
@@ -27,10 +16,6 @@ decode-centred-spec =
     (λ c. search needs)
     (λ c. refused-first refl (was-lowest (c .before .before .before .check .ensures) (c .before .k .given .1)) refl)
     (λ c. search needs)
-    (λ c. at-least (clear c))
+    (λ c κs. right-of centred (now (c .before .before .before .before .before .before .args .code)) (was-clear (c .before .before .before .check .ensures) (c .before .enum-told .given .1)))
     (λ c. search needs)
-    (λ c. refused-short (formed (c .before)) (edges-sized _ (clear (c .before))) refl (c .if1 .taken) refl)
-    (λ c κs. let k = clear (c .before .before) in (k, omega (arith, edges-length (now (c .before .before .before .before .before .before .before .args .code)) k)))
-    (λ c. search needs)
-    (λ c. let d = c .before .before .before .before .before in
-    given-laid (formed d) (omega (arith, edges-length (now (d .before .before .before .before .before .args .code)) (clear d))) (c .before .before .write-edges .ensures)))
+    (λ c. let d = c .before .before .before .before in given-behind (was-clear (d .before .before .check .ensures) (d .enum-told .given .1)) (c .before .before .lay-edges .ensures)))

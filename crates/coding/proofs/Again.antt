@@ -1,0 +1,53 @@
+-- Row 14 by coding again: the digits c are decoded, what they decode to is coded, and the two codes are compared. Over the form.
+-- Assumes nothing.
+use mathlib.Core.Path.{_≡_, refl, sym, _∙_, subst}
+use mathlib.Core.List.{List, [], _∷_}
+use Prim.Native.Nat.{ℕ, _≤_}
+use native.Mathlib.Omega.{arith}
+use lib.ListN.{length, take}
+use Rattle.laws.specs.Laid.{Laid}
+use Rattle.refusal.specs.Table.{Clear, Answers, passes, fails, Writes}
+use Rattle.refusal.specs.Laws.{clear-one, first-place, laid-writes}
+use Rattle.refusal.specs.declared.Check.the-variants.{Passed, Refuse}
+use Rattle.code.specs.Limits.{size, valence}
+use Rattle.code.specs.Code.{codeRows, decode}
+use Rattle.code.specs.Right.{Right, clear-right}
+use Rattle.tree.specs.Skeleton.{IsSkeleton}
+use Rattle.tree.specs.Theorems.{decoded-tree}
+use Rattle.form.specs.Form.{row14}
+use Rattle.form.specs.Forms.{IsForm}
+use Rattle.form.specs.Accepted.{right-decoded}
+use Rattle.coding.specs.Learnt.{written, written-room, written-length}
+
+module _ {c : List ℕ} (k : Clear (codeRows size valence c)) where
+  right : Right size valence c
+  right = clear-right size valence c k
+
+  -- what is written has room
+  pub edges-fit : length (decode c) ≤ 126
+  edges-fit = omega (arith, decoded-tree c (right .ends) .edges, right .few)
+
+  module _ {old E : List ℕ} {m : ℕ} (l : Laid (decode c) old E m) where
+    -- the edges as they are handed on
+    pub front : take m E ≡ decode c
+    front = written (laid-writes l) ∙ laid-writes l .right
+
+    pub front-room : m ≤ length E
+    front-room = written-room (laid-writes l)
+
+    pub front-length : m ≡ length (take m E)
+    front-length = written-length (laid-writes l)
+
+    pub skeleton-again : IsSkeleton size valence (length c) (take m E)
+    skeleton-again = rw front (right-decoded size valence c right)
+
+    module _ (form : ℕ → List ℕ → List ℕ → Type 0) (f : IsForm form) {rest own : List ℕ} (w : Writes (form (length c) (take m E)) rest (length c) own) where
+      own-form : form (length c) (decode c) (take (length c) own)
+      own-form = rw (← front, written w) (w .right)
+
+      pub judged-same : c ≡ take (length c) own → Answers (row14 form c ∷ []) Passed
+      judged-same e = passes (clear-one {r = row14 form c} (λ p a. a .1 (subst (form (length c) (decode c)) (sym e) own-form)))
+
+      pub judged-other : (c ≡ take (length c) own → ⊥) → Answers (row14 form c ∷ []) (Refuse 14 0)
+      judged-other n =
+          fails (first-place {r = row14 form c} (refl, λ x. n (f .one (decoded-tree c (right .ends)) x own-form)) (λ q h a. let z : ⊥ = omega arith in z))

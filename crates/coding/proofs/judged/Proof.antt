@@ -1,0 +1,35 @@
+-- `coding::judged` meets its contract. Assumes nothing.
+use mathlib.Core.Path.{sym, _∙_}
+use borrow.Author.Needs.{needs}
+use Rattle.form.specs.Form.{nTuple}
+use Rattle.form.specs.Forms.{n-tuple-form}
+use Rattle.coding.specs.Learnt.{written-room, written-length, told-equal, told-less, told-greater}
+use Rattle.coding.proofs.Again.{edges-fit, skeleton-again, front-room, front-length, judged-same, judged-other}
+use Rattle.coding.proofs.judged.Statement.{statement}
+use Rattle.coding.proofs.judged.Tie as tie
+
+pub judged-spec : {M : Type 1} → statement M
+judged-spec =
+    tie.close
+    (tie.spec
+    (λ c. search needs)
+    (λ c κs. let k = c .before .before .pre in (k, edges-fit k))
+    (λ c. front-room (c .before .before .before .before .pre) (c .before .write-edges .ensures))
+    (λ c. front-length (c .before .before .before .before .before .pre) (c .before .before .write-edges .ensures))
+    (λ c. search needs)
+    (λ c κs. let t = skeleton-again (c .before .before .before .before .before .before .pre) (c .before .before .before .write-edges .ensures) in (t, t .few))
+    (λ c. written-room (c .before .n-tuple .ensures))
+    (λ c. written-length (c .before .before .n-tuple .ensures))
+    (λ c κs. search needs)
+    (λ c. search needs)
+    (λ c. search needs)
+    (λ c. search needs)
+    (λ c. let s = c .before .before .before .before .before in
+    judged-other (s .before .before .before .before .before .before .before .pre) (s .before .before .before .before .write-edges .ensures) nTuple n-tuple-form (s .n-tuple .ensures)
+    (told-less _ _ (sym (c .before .before .compare .ensures) ∙ c .enum-told .given .1)))
+    (λ c. let s = c .before .before .before .before .before in
+    judged-same (s .before .before .before .before .before .before .before .pre) (s .before .before .before .before .write-edges .ensures) nTuple n-tuple-form (s .n-tuple .ensures)
+    (told-equal _ _ (sym (c .before .before .compare .ensures) ∙ c .enum-told2 .given .1)))
+    (λ c. let s = c .before .before .before .before .before in
+    judged-other (s .before .before .before .before .before .before .before .pre) (s .before .before .before .before .write-edges .ensures) nTuple n-tuple-form (s .n-tuple .ensures)
+    (told-greater _ _ (sym (c .before .before .compare .ensures) ∙ c .enum-told3 .given .1))))

@@ -1,0 +1,21 @@
+-- `zurkhovel::codes::decode_n_tuple` keeps its promise. Assumes nothing.
+use mathlib.Core.Path.{refl}
+use denote.Ref.{now}
+use borrow.Author.Needs.{needs}
+use Rattle.refusal.specs.Laws.{was-clear, was-lowest, refused-first}
+use Rattle.form.specs.Form.{nTuple}
+use Rattle.zurkhovel.proofs.Decoded.{right-of, given-behind}
+use Rattle.zurkhovel.proofs.codes.decode_n_tuple.Statement.{statement}
+use Rattle.zurkhovel.proofs.codes.decode_n_tuple.Tie as tie
+
+pub decode-n-tuple-spec : {M : Type 1} → statement M
+decode-n-tuple-spec =
+    tie.close
+    (tie.spec
+    (λ c κs. search needs)
+    (λ c. search needs)
+    (λ c. refused-first refl (was-lowest (c .before .before .before .check-n-tuple .ensures) (c .before .k .given .1)) refl)
+    (λ c. search needs)
+    (λ c κs. right-of nTuple (now (c .before .before .before .before .before .before .args .code)) (was-clear (c .before .before .before .check-n-tuple .ensures) (c .before .enum-told .given .1)))
+    (λ c. search needs)
+    (λ c. let d = c .before .before .before .before in given-behind (was-clear (d .before .before .check-n-tuple .ensures) (d .enum-told .given .1)) (c .before .before .lay-edges .ensures)))
