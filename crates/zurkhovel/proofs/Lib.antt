@@ -2,3 +2,4 @@
 pub mod Decoded
 pub mod Coded
 pub mod Counting
+pub mod Made

@@ -2,3 +2,5 @@
 pub mod Codes
 pub mod Lines
 pub mod One
+pub mod Matrix
+pub mod OneMatrix
