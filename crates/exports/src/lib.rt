@@ -1,7 +1,9 @@
 // The public calls as C functions, for the second program and the benchmark: tests/second/zurkhovel.h declares them. Each hands the call's
 // answer on and does nothing else. It returns the refusal number, 0 where the call is done, and sets the place, or the bytes written.
 use code::Order;
+use fraction::Fraction;
 use refusal::Answer;
+use refusal::Number;
 
 // An answer as C takes it.
 fn handed(answer: Answer, place: &mut u64) -> u32 {
@@ -35,4 +37,69 @@ pub extern "C" fn zk_check_code(code: &[u8], place: &mut u64) -> u32 {
 #[no_mangle]
 pub extern "C" fn zk_decode_code(code: &[u8], out: &mut [u8], place: &mut u64) -> u32 {
     handed(zurkhovel::codes::decode_code(code, out), place)
+}
+
+#[no_mangle]
+pub extern "C" fn zk_pack(n: u64, edges: &[u8], root: u64, out: &mut [u8], place: &mut u64) -> u32 {
+    handed(
+        zurkhovel::bit_tuple::pack(n as usize, edges, root as usize, out),
+        place,
+    )
+}
+
+#[no_mangle]
+pub extern "C" fn zk_unpack(bytes: &[u8], out: &mut [u8], place: &mut u64) -> u32 {
+    handed(zurkhovel::bit_tuple::unpack(bytes, out), place)
+}
+
+#[no_mangle]
+pub extern "C" fn zk_whole(
+    n: u64,
+    edges: &[u8],
+    root: u64,
+    value: &mut u64,
+    place: &mut u64,
+) -> u32 {
+    match zurkhovel::bit_tuple::whole(n as usize, edges, root as usize) {
+        Number::Value(v) => {
+            *value = v;
+            *place = 0;
+            0
+        }
+        Number::Refused(k, p) => {
+            *place = p as u64;
+            k as u32
+        }
+    }
+}
+
+#[no_mangle]
+pub extern "C" fn zk_unwhole(n: u64, value: u64, out: &mut [u8], place: &mut u64) -> u32 {
+    handed(zurkhovel::bit_tuple::unwhole(n as usize, value, out), place)
+}
+
+#[no_mangle]
+pub extern "C" fn zk_fraction(
+    n: u64,
+    edges: &[u8],
+    root: u64,
+    value: &mut f64,
+    place: &mut u64,
+) -> u32 {
+    match zurkhovel::bit_tuple::fraction(n as usize, edges, root as usize) {
+        Fraction::Exact(x) => {
+            *value = x;
+            *place = 0;
+            0
+        }
+        Fraction::Refused(k, p) => {
+            *place = p as u64;
+            k as u32
+        }
+    }
+}
+
+#[no_mangle]
+pub extern "C" fn zk_unfraction(x: f64, out: &mut [u8], place: &mut u64) -> u32 {
+    handed(zurkhovel::bit_tuple::unfraction(x, out), place)
 }

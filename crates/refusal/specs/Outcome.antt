@@ -7,6 +7,8 @@ use Rattle.refusal.specs.declared.Check.{Check}
 use Rattle.refusal.specs.declared.Check.the-variants.{Passed, Refuse}
 use Rattle.refusal.specs.declared.Answer.{Answer}
 use Rattle.refusal.specs.declared.Answer.the-variants.{Done, Refused}
+use Rattle.refusal.specs.declared.Number.{Number}
+use Rattle.refusal.specs.declared.Number.the-variants as number
 
 -- `Done n`: n bytes are written; `Refused k p`: number k at place p
 abbrev pub told : Answer → Outcome ℕ
@@ -17,3 +19,8 @@ told (Refused k p) = refuses k p
 abbrev pub checked : Check → Outcome ℕ
 checked Passed = gives 0
 checked (Refuse k p) = refuses k p
+
+-- `Value v`: the number v; `Refused k p`: number k at place p
+abbrev pub numbered : Number → Outcome ℕ
+numbered (number.Value v) = gives v
+numbered (number.Refused k p) = refuses k p

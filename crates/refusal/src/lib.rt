@@ -11,6 +11,14 @@ pub enum Answer {
     Refused(u8, usize),
 }
 
+// Of a call that is asked for a whole number.
+pub enum Number {
+    // The number.
+    Value(u64),
+    // Refused: the number of document 01's table, and the place.
+    Refused(u8, usize),
+}
+
 // Of one check among several: nothing applies, or the lowest number that does, at its first place.
 pub enum Check {
     Passed,

@@ -1,5 +1,8 @@
 -- Laws that more than one proof of a public call cites. Assumes nothing.
+pub mod Behind
 pub mod Decoded
 pub mod Coded
+pub mod Carried
+pub mod Rooted
 pub mod Counting
 pub mod Made

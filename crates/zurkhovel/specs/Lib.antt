@@ -4,3 +4,6 @@ pub mod Lines
 pub mod One
 pub mod Matrix
 pub mod OneMatrix
+pub mod Rooting
+pub mod Bits
+pub mod OneBits

@@ -1,9 +1,14 @@
 // Digit codes and edge lists.
 use refusal::Answer;
 use refusal::Check;
+ghost use mathlib.Core.Path.{_≡_};
+ghost use mathlib.Core.List.{[]};
+ghost use Rattle.refusal.specs.Table.{Clear, Gives};
 ghost use Rattle.refusal.specs.Outcome.{told};
 ghost use Rattle.zurkhovel.specs.Codes.{CheckCode, DecodeCode, DecodeForm, CheckEdges, RootedCode, FormCode};
 ghost use Rattle.form.specs.Form.{nTuple, centred};
+ghost use Rattle.code.specs.Limits.{size, valence};
+ghost use Rattle.code.specs.Code.{codeRows, decode};
 
 // Whether digits lent by themselves are a right rooted code.
 pub fn check_code(code: &[u8]) -> Answer
@@ -19,6 +24,14 @@ pub fn decode_code(code: &[u8], out: &mut [u8]) -> Answer
     if let Check::Refuse(k, p) = code::check(code) {
         return Answer::Refused(k, p);
     }
+    edges_of(code, out)
+}
+
+// The edges of a right code, with row 15.
+pub(crate) fn edges_of(code: &[u8], out: &mut [u8]) -> Answer
+    requires { ⌜ Clear (codeRows size valence (now code)) ⌝ }
+    ensures { λ r. ⌜ Gives [] (λ E. E ≡ decode (now (code .entry))) (now (out .entry)) (now (out .exit)) (told r) ⌝ }
+{
     let need = 2 * (code.len() - 1);
     if out.len() < need {
         return Answer::Refused(15, need);

@@ -1,0 +1,105 @@
+// The bit-tuple: packed bytes, a whole number, a fraction.
+use fraction::Fraction;
+use refusal::Answer;
+use refusal::Check;
+use refusal::Number;
+ghost use mathlib.Core.Path.{_≡_};
+ghost use mathlib.Core.List.{[]};
+ghost use Prim.Native.Nat.{_≤_};
+ghost use lib.ListN.{length};
+ghost use Rattle.refusal.specs.Table.{Gives};
+ghost use Rattle.refusal.specs.Outcome.{told, numbered};
+ghost use Rattle.code.specs.Limits.{size};
+ghost use Rattle.fraction.specs.Outcome as fraction;
+ghost use Rattle.zurkhovel.specs.Rooting.{Rooting};
+ghost use Rattle.zurkhovel.specs.Bits.{Pack, Unpack, Whole, Unwhole, InFraction, Unfraction};
+
+// The rooted code at a vertex of a skeleton of at most `most` vertices.
+fn rooted(most: usize, n: usize, edges: &[u8], root: usize, code: &mut [u8]) -> Check
+    requires { ⌜ (most ≤ size) × (length (now code) ≡ size) ⌝ }
+    ensures { λ r. ⌜ Rooting most n (now (edges .entry)) root (now (code .exit)) r ⌝ }
+{
+    if let Check::Refuse(k, p) = skeleton::check(most, n, edges, root) {
+        return Check::Refuse(k, p);
+    }
+    coding::rooted(n, edges, root, code);
+    Check::Passed
+}
+
+// A result at the start of the lent output, with row 15.
+fn laid(result: &[u8], out: &mut [u8]) -> Answer
+    ensures { λ r. ⌜ Gives [] (λ c. c ≡ now (result .entry)) (now (out .entry)) (now (out .exit)) (told r) ⌝ }
+{
+    if out.len() < result.len() {
+        return Answer::Refused(15, result.len());
+    }
+    Answer::Done(bytes::copy(result, out))
+}
+
+// The packed form of the rooted code at a vertex.
+pub fn pack(n: usize, edges: &[u8], root: usize, out: &mut [u8]) -> Answer
+    ensures { λ r. ⌜ Pack n (now (edges .entry)) root (now (out .entry)) (now (out .exit)) (told r) ⌝ }
+{
+    let mut code = [0u8; 64];
+    if let Check::Refuse(k, p) = rooted(64, n, edges, root, &mut code) {
+        return Answer::Refused(k, p);
+    }
+    let mut packed = [0u8; 16];
+    let m = bits::pack(&code[..n], &mut packed);
+    laid(&packed[..m], out)
+}
+
+// The whole number of the rooted code at a vertex.
+pub fn whole(n: usize, edges: &[u8], root: usize) -> Number
+    ensures { λ r. ⌜ Whole n (now (edges .entry)) root (numbered r) ⌝ }
+{
+    let mut code = [0u8; 64];
+    match rooted(32, n, edges, root, &mut code) {
+        Check::Refuse(k, p) => Number::Refused(k, p),
+        Check::Passed => Number::Value(bits::number_of(&code[..n])),
+    }
+}
+
+// The fraction of the rooted code at a vertex.
+pub fn fraction(n: usize, edges: &[u8], root: usize) -> Fraction
+    ensures { λ r. ⌜ InFraction n (now (edges .entry)) root (fraction.told r) ⌝ }
+{
+    let mut code = [0u8; 64];
+    match rooted(27, n, edges, root, &mut code) {
+        Check::Refuse(k, p) => Fraction::Refused(k, p),
+        Check::Passed => Fraction::Exact(fraction::fraction_of(&code[..n])),
+    }
+}
+
+// The edges of the code in a packed code.
+pub fn unpack(bytes: &[u8], out: &mut [u8]) -> Answer
+    ensures { λ r. ⌜ Unpack (now (bytes .entry)) (now (out .entry)) (now (out .exit)) (told r) ⌝ }
+{
+    let mut digits = [0u8; 64];
+    match bits::packed_code(bytes, &mut digits) {
+        Answer::Refused(k, p) => Answer::Refused(k, p),
+        Answer::Done(n) => super::codes::edges_of(&digits[..n], out),
+    }
+}
+
+// The edges of the code in a whole number, with N beside it.
+pub fn unwhole(n: usize, value: u64, out: &mut [u8]) -> Answer
+    ensures { λ r. ⌜ Unwhole n value (now (out .entry)) (now (out .exit)) (told r) ⌝ }
+{
+    let mut digits = [0u8; 64];
+    match bits::number_code(n, value, &mut digits) {
+        Answer::Refused(k, p) => Answer::Refused(k, p),
+        Answer::Done(m) => super::codes::edges_of(&digits[..m], out),
+    }
+}
+
+// The edges of the code in a fraction.
+pub fn unfraction(x: f64, out: &mut [u8]) -> Answer
+    ensures { λ r. ⌜ Unfraction x (now (out .entry)) (now (out .exit)) (told r) ⌝ }
+{
+    let mut digits = [0u8; 64];
+    match fraction::fraction_code(x, &mut digits) {
+        Answer::Refused(k, p) => Answer::Refused(k, p),
+        Answer::Done(n) => super::codes::edges_of(&digits[..n], out),
+    }
+}
