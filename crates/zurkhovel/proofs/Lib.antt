@@ -6,3 +6,4 @@ pub mod Carried
 pub mod Rooted
 pub mod Counting
 pub mod Made
+pub mod Numbered
