@@ -68,6 +68,7 @@ pub extern "C" fn zk_whole(
             0
         }
         Number::Refused(k, p) => {
+#[no_mangle]
 pub extern "C" fn zk_decode_n_tuple(code: &[u8], out: &mut [u8], place: &mut u64) -> u32 {
     handed(zurkhovel::codes::decode_n_tuple(code, out), place)
 }

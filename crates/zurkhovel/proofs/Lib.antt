@@ -7,3 +7,5 @@ pub mod Carried
 pub mod Rooted
 pub mod Counting
 pub mod Verdicts
+pub mod Made
+pub mod Numbered

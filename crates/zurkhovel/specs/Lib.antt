@@ -5,6 +5,8 @@ pub mod Theorems
 pub mod Lines
 pub mod Alike
 pub mod One
+pub mod Matrix
+pub mod OneMatrix
 pub mod Rooting
 pub mod Bits
 pub mod OneBits

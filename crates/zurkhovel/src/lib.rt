@@ -3,4 +3,5 @@
 pub mod alike;
 pub mod bit_tuple;
 pub mod codes;
+pub mod matrix;
 pub mod text;

@@ -1,0 +1,31 @@
+-- The edges that an accepted CAM, 0A or A0 makes: how many bytes they are, and a call that writes one known result. Assumes nothing.
+use mathlib.Core.Path.{_≡_, refl, sym, ap, _∙_}
+use mathlib.Core.List.{List}
+use Prim.Native.Nat.{ℕ, _-_, _*_, _≤_, _<_}
+use native.Mathlib.Omega.{arith}
+use lib.ListN.{length}
+use Rattle.laws.specs.Laid.{laidOver}
+use Rattle.refusal.specs.Table.{Row, Clear, gives, refuses, Gives}
+use Rattle.refusal.specs.Laws.{clear-left, refused-short, given-laid}
+use Rattle.code.specs.Limits.{size, valence}
+use Rattle.adjacency.specs.Adjacency.{camEdges, zeroCam, aEdges, camRows, zeroRows, aRows, madeRows, zeroMost, aMost}
+use Rattle.adjacency.specs.Made.{made-length, long}
+use Rattle.adjacency.specs.Zero.{zero-length}
+use Rattle.adjacency.specs.Accepted.{aFront, a-long}
+
+pub cam-bytes : (N : ℕ) (c : List ℕ) → Clear (camRows size valence N c) → length (camEdges c) ≡ 2 * (N - 1)
+cam-bytes N c k = omega (arith, made-length 1 c, long N c k)
+
+pub zero-bytes : (N x : ℕ) → length (camEdges (zeroCam N x)) ≡ 2 * (N - 1)
+zero-bytes N x = omega (arith, made-length 1 (zeroCam N x), zero-length N x)
+
+pub a-bytes : (N x : ℕ) → Clear (aRows aMost valence N x) → length (aEdges N x) ≡ 2 * (N - 1)
+a-bytes N x k = a-long aMost N x (clear-left (aFront aMost N x) (madeRows valence (aEdges N x)) k)
+
+-- n: the length of the one right result
+module _ {rs : List Row} {c : List ℕ} {n : ℕ} (clear : Clear rs) (sized : length c ≡ n) {old new : List ℕ} where
+  pub known-short : length old < n → new ≡ old → Gives rs (λ d. d ≡ c) old new (refuses 15 n)
+  known-short h e = refused-short clear (λ d i. ap length i ∙ sized) refl h e
+
+  pub known-given : n ≤ length old → new ≡ laidOver c old → Gives rs (λ d. d ≡ c) old new (gives n)
+  known-given h e = given-laid clear (omega arith) (record { count = sym sized; lies = e })

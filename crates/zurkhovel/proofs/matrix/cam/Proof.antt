@@ -1,0 +1,37 @@
+-- `zurkhovel::matrix::cam` keeps its promise. Assumes nothing.
+use mathlib.Core.Path.{refl}
+use native.Mathlib.Omega.{arith}
+use denote.Ref.{now}
+use borrow.Author.Needs.{needs}
+use Rattle.refusal.specs.Table.{Clear}
+use Rattle.refusal.specs.Laws.{was-clear, was-lowest, at-least, refused-first}
+use Rattle.code.specs.Limits.{size}
+use Rattle.adjacency.specs.Plain.{numbered}
+use Rattle.adjacency.specs.Coded.{cam-length}
+use Rattle.zurkhovel.specs.Matrix.{physicalRows}
+use Rattle.zurkhovel.proofs.Made.{known-short, known-given}
+use Rattle.zurkhovel.proofs.Numbered.{physical-skeleton, physical-numbering}
+use Rattle.zurkhovel.proofs.matrix.cam.Statement.{statement}
+use Rattle.zurkhovel.proofs.matrix.cam.Tie as tie
+
+abbrev start : tie.After-enum-told → tie.Start
+start c = c .before .before .before .before .before
+
+-- what is known behind the check
+clear : (c : tie.After-enum-told) → Clear (physicalRows size (start c .args .n) (now (start c .args .edges)))
+clear c = was-clear (c .before .before .check .ensures) (c .enum-told .given .1)
+
+pub cam-spec : {M : Type 1} → statement M
+cam-spec =
+    tie.close
+    (tie.spec
+    (λ c κs. search needs)
+    (λ c. search needs)
+    (λ c. refused-first refl (was-lowest (c .before .before .before .check .ensures) (c .before .k .given .1)) refl)
+    (λ c. search needs)
+    (λ c. at-least (clear c))
+    (λ c. let d = c .before in known-short (clear d) (cam-length (start d .args .n) (now (start d .args .edges))) (c .if1 .taken) refl)
+    (λ c κs. let d = c .before .before in let s = physical-skeleton (clear d) in ((numbered s, physical-numbering (clear d)), (s .few, omega (arith, c .before .if1 .left))))
+    (λ c. search needs)
+    (λ c. let d = c .before .before .before .before .before in
+    known-given (clear d) (cam-length (start d .args .n) (now (start d .args .edges))) (c .before .before .before .before .if1 .left) (c .before .before .write-cam .ensures)))

@@ -1,0 +1,35 @@
+-- `zurkhovel::matrix::decode_a_zero` keeps its promise. Assumes nothing.
+use mathlib.Core.Path.{refl}
+use native.Mathlib.Omega.{arith}
+use borrow.Author.Needs.{needs}
+use Rattle.refusal.specs.Table.{Clear}
+use Rattle.refusal.specs.Laws.{was-clear, was-lowest, at-least, at-most, refused-first}
+use Rattle.code.specs.Limits.{valence}
+use Rattle.adjacency.specs.Adjacency.{aRows, aMost}
+use Rattle.zurkhovel.proofs.Made.{a-bytes, known-short, known-given}
+use Rattle.zurkhovel.proofs.matrix.decode_a_zero.Statement.{statement}
+use Rattle.zurkhovel.proofs.matrix.decode_a_zero.Tie as tie
+
+abbrev start : tie.After-enum-told → tie.Start
+start c = c .before .before .before .before
+
+-- what is known behind the check
+clear : (c : tie.After-enum-told) → Clear (aRows aMost valence (start c .args .n) (start c .args .value))
+clear c = was-clear (c .before .before .a-check .ensures) (c .enum-told .given .1)
+
+pub decode-a-zero-spec : {M : Type 1} → statement M
+decode-a-zero-spec =
+    tie.close
+    (tie.spec
+    (λ c κs. search needs)
+    (λ c. search needs)
+    (λ c. refused-first refl (was-lowest (c .before .before .before .a-check .ensures) (c .before .k .given .1)) refl)
+    (λ c. search needs)
+    (λ c. at-least (clear c))
+    (λ c. omega (arith, at-most (clear c)))
+    (λ c. let d = c .before in known-short (clear d) (a-bytes (start d .args .n) (start d .args .value) (clear d)) (c .if1 .taken) refl)
+    (λ c κs. let d = c .before .before in
+    (at-least (clear d), at-most (clear d), omega (arith, c .before .if1 .left, a-bytes (start d .args .n) (start d .args .value) (clear d))))
+    (λ c. search needs)
+    (λ c. let d = c .before .before .before .before .before in
+    known-given (clear d) (a-bytes (start d .args .n) (start d .args .value) (clear d)) (c .before .before .before .before .if1 .left) (c .before .before .a-edges .ensures)))

@@ -1,0 +1,38 @@
+-- `zurkhovel::matrix::decode_cam` keeps its promise. Assumes nothing.
+use mathlib.Core.Path.{refl}
+use native.Mathlib.Omega.{arith}
+use denote.Ref.{now}
+use borrow.Author.Needs.{needs}
+use Rattle.refusal.specs.Table.{Clear}
+use Rattle.refusal.specs.Laws.{was-clear, was-lowest, at-least, at-most, refused-first}
+use Rattle.code.specs.Limits.{size, valence}
+use Rattle.adjacency.specs.Adjacency.{camRows}
+use Rattle.adjacency.specs.Made.{long}
+use Rattle.zurkhovel.proofs.Made.{cam-bytes, known-short, known-given}
+use Rattle.zurkhovel.proofs.matrix.decode_cam.Statement.{statement}
+use Rattle.zurkhovel.proofs.matrix.decode_cam.Tie as tie
+
+abbrev start : tie.After-enum-told → tie.Start
+start c = c .before .before .before .before .before
+
+-- what is known behind the check
+clear : (c : tie.After-enum-told) → Clear (camRows size valence (start c .args .n) (now (start c .args .cam)))
+clear c = was-clear (c .before .before .cam-check .ensures) (c .enum-told .given .1)
+
+pub decode-cam-spec : {M : Type 1} → statement M
+decode-cam-spec =
+    tie.close
+    (tie.spec
+    (λ c κs. search needs)
+    (λ c. search needs)
+    (λ c. refused-first refl (was-lowest (c .before .before .before .cam-check .ensures) (c .before .k .given .1)) refl)
+    (λ c. search needs)
+    (λ c. at-least (clear c))
+    (λ c. omega (arith, at-most (clear c)))
+    (λ c. let d = c .before in known-short (clear d) (cam-bytes (start d .args .n) (now (start d .args .cam)) (clear d)) (c .if1 .taken) refl)
+    (λ c κs. let d = c .before .before in
+    let l = long (start d .args .n) (now (start d .args .cam)) (clear d) in
+    (omega (arith, at-most (clear d), at-least (clear d)), omega (arith, c .before .if1 .left)))
+    (λ c. search needs)
+    (λ c. let d = c .before .before .before .before .before in
+    known-given (clear d) (cam-bytes (start d .args .n) (now (start d .args .cam)) (clear d)) (c .before .before .before .before .if1 .left) (c .before .before .cam-edges .ensures)))

@@ -1,0 +1,61 @@
+-- `zurkhovel::matrix::decode_zero_a` keeps its promise. Assumes nothing.
+use mathlib.Core.Path.{_≡_, refl, sym, ap, _∙_}
+use Prim.Native.Nat.{ℕ, _-_}
+use native.Mathlib.Omega.{arith}
+use lib.ListN.{length, take, replicate}
+use borrow.Author.Needs.{needs}
+use Rattle.laws.specs.Laid.{laid-length}
+use Rattle.laws.specs.Laying.{laid-front}
+use Rattle.refusal.specs.Table.{Clear}
+use Rattle.refusal.specs.Laws.{was-clear, was-lowest, at-least, at-most, refused-first}
+use Rattle.code.specs.Limits.{valence}
+use Rattle.adjacency.specs.Adjacency.{zeroCam, zeroRows, zeroMost}
+use Rattle.adjacency.specs.Zero.{zero-length}
+use Rattle.zurkhovel.proofs.Made.{zero-bytes, known-short, known-given}
+use Rattle.zurkhovel.proofs.matrix.decode_zero_a.Statement.{statement}
+use Rattle.zurkhovel.proofs.matrix.decode_zero_a.Tie as tie
+
+abbrev start : tie.After-enum-told → tie.Start
+start c = c .before .before .before .before
+
+-- what is known behind the check
+clear : (c : tie.After-enum-told) → Clear (zeroRows zeroMost valence (start c .args .n) (start c .args .value))
+clear c = was-clear (c .before .before .zero-check .ensures) (c .enum-told .given .1)
+
+abbrev told : tie.After-zero-cam → tie.After-enum-told
+told c = c .before .before .before
+
+-- the array holds the CAM
+wide : (c : tie.After-zero-cam) → length (c .zero-cam .last .1 .1 .0) ≡ 20
+wide c =
+    let a = start (told c) .args in
+    ap length (c .zero-cam .ensures) ∙ laid-length (zeroCam (a .n) (a .value)) (replicate {A = ℕ} 20 0) (omega (arith, zero-length (a .n) (a .value), at-most (clear (told c))))
+
+held : (c : tie.After-zero-cam) → take (start (told c) .args .n - 1) (c .zero-cam .last .1 .1 .0) ≡ zeroCam (start (told c) .args .n) (start (told c) .args .value)
+held c = let a = start (told c) .args in laid-front (zeroCam (a .n) (a .value)) _ _ (a .n - 1) (c .zero-cam .ensures) (zero-length (a .n) (a .value))
+
+counted : (c : tie.After-zero-cam) → length (take (start (told c) .args .n - 1) (c .zero-cam .last .1 .1 .0)) ≡ start (told c) .args .n - 1
+counted c = let a = start (told c) .args in ap length (held c) ∙ zero-length (a .n) (a .value)
+
+pub decode-zero-a-spec : {M : Type 1} → statement M
+decode-zero-a-spec =
+    tie.close
+    (tie.spec
+    (λ c κs. search needs)
+    (λ c. search needs)
+    (λ c. refused-first refl (was-lowest (c .before .before .before .zero-check .ensures) (c .before .k .given .1)) refl)
+    (λ c. search needs)
+    (λ c. at-least (clear c))
+    (λ c. omega (arith, at-most (clear c)))
+    (λ c. let d = c .before in known-short (clear d) (zero-bytes (start d .args .n) (start d .args .value)) (c .if1 .taken) refl)
+    (λ c. search needs)
+    (λ c κs. let k = clear (c .before .before) in (at-least k, at-most k, at-most k))
+    (λ c. at-least (clear (told (c .before))))
+    (λ c. omega (arith, wide (c .before), at-most (clear (told (c .before)))))
+    (λ c. sym (counted (c .before .before)))
+    (λ c κs. let w = c .before .before .before in
+    (omega (arith, counted w, at-most (clear (told w))), omega (arith, counted w, w .before .before .if1 .left)))
+    (λ c. search needs)
+    (λ c. let w = c .before .before .before .before .before .before in
+    let d = told w in
+    known-given (clear d) (zero-bytes (start d .args .n) (start d .args .value)) (w .before .before .if1 .left) (rw (held w) at (c .before .before .cam-edges .ensures))))

@@ -1,0 +1,29 @@
+-- `zurkhovel::matrix::zero_a` keeps its promise. Assumes nothing.
+use mathlib.Core.Path.{refl}
+use denote.Ref.{now}
+use borrow.Author.Needs.{needs}
+use Rattle.refusal.specs.Table.{Clear, kept, left}
+use Rattle.refusal.specs.Laws.{was-clear, was-lowest}
+use Rattle.adjacency.specs.Adjacency.{zeroMost}
+use Rattle.zurkhovel.specs.Matrix.{physicalRows}
+use Rattle.zurkhovel.proofs.Numbered.{physical-skeleton, physical-numbering}
+use Rattle.zurkhovel.proofs.matrix.zero_a.Statement.{statement}
+use Rattle.zurkhovel.proofs.matrix.zero_a.Tie as tie
+
+abbrev start : tie.After-enum-told → tie.Start
+start c = c .before .before .before .before
+
+-- what is known behind the check
+clear : (c : tie.After-enum-told) → Clear (physicalRows zeroMost (start c .args .n) (now (start c .args .edges)))
+clear c = was-clear (c .before .before .check .ensures) (c .enum-told .given .1)
+
+pub zero-a-spec : {M : Type 1} → statement M
+zero-a-spec =
+    tie.close
+    (tie.spec
+    (λ c κs. search needs)
+    (λ c. search needs)
+    (λ c. left (was-lowest (c .before .before .before .check .ensures) (c .before .k .given .1)) refl)
+    (λ c. search needs)
+    (λ c κs. (physical-skeleton (clear c), physical-numbering (clear c)))
+    (λ c. kept (clear (c .before)) (c .zero-of .ensures)))

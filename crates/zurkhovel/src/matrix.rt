@@ -1,0 +1,170 @@
+// CAM, 0A and A0.
+use refusal::Answer;
+use refusal::Check;
+use refusal::Number;
+ghost use mathlib.Core.Path.{_≡_};
+ghost use Prim.Native.Nat.{_-_, _*_, _≤_};
+ghost use lib.ListN.{length};
+ghost use Rattle.refusal.specs.Table.{Answers, Writes};
+ghost use Rattle.refusal.specs.Outcome.{told, numbered};
+ghost use Rattle.code.specs.Limits.{size, valence};
+ghost use Rattle.tree.specs.Skeleton.{IsSkeleton};
+ghost use Rattle.adjacency.specs.Adjacency as adjacency;
+ghost use Rattle.zurkhovel.specs.Matrix.{DecodeCam, DecodeZeroA, DecodeAZero, physicalRows, Numbering, Cam, ZeroA, AZero, CamByCode, ZeroAByCode, AZeroByCode};
+
+// The edges (lower, higher) of a CAM, in order of the higher.
+pub fn decode_cam(n: usize, cam: &[u8], out: &mut [u8]) -> Answer
+    ensures { λ r. ⌜ DecodeCam n (now (cam .entry)) (now (out .entry)) (now (out .exit)) (told r) ⌝ }
+{
+    if let Check::Refuse(k, p) = adjacency::cam_check(n, cam) {
+        return Answer::Refused(k, p);
+    }
+    let need = 2 * (n - 1);
+    if out.len() < need {
+        return Answer::Refused(15, need);
+    }
+    adjacency::cam_edges(cam, out);
+    Answer::Done(need)
+}
+
+// The edges of a 0A.
+pub fn decode_zero_a(n: usize, value: u64, out: &mut [u8]) -> Answer
+    ensures { λ r. ⌜ DecodeZeroA n value (now (out .entry)) (now (out .exit)) (told r) ⌝ }
+{
+    if let Check::Refuse(k, p) = adjacency::zero_check(n, value) {
+        return Answer::Refused(k, p);
+    }
+    let need = 2 * (n - 1);
+    if out.len() < need {
+        return Answer::Refused(15, need);
+    }
+    let mut cam = [0u8; 20];
+    adjacency::zero_cam(n, value, &mut cam);
+    adjacency::cam_edges(&cam[..n - 1], out);
+    Answer::Done(need)
+}
+
+// The edges of an A0, in order of the higher, then of the lower.
+pub fn decode_a_zero(n: usize, value: u64, out: &mut [u8]) -> Answer
+    ensures { λ r. ⌜ DecodeAZero n value (now (out .entry)) (now (out .exit)) (told r) ⌝ }
+{
+    if let Check::Refuse(k, p) = adjacency::a_check(n, value) {
+        return Answer::Refused(k, p);
+    }
+    let need = 2 * (n - 1);
+    if out.len() < need {
+        return Answer::Refused(15, need);
+    }
+    adjacency::a_edges(n, value, out);
+    Answer::Done(need)
+}
+
+// Every refusal of an edge list whose numbering is to be physical, with the form's limit of N.
+fn check(most: usize, n: usize, edges: &[u8]) -> Check
+    requires { ⌜ most ≤ size ⌝ }
+    ensures { λ r. ⌜ Answers (physicalRows most n (now (edges .entry))) r ⌝ }
+{
+    if let Check::Refuse(k, p) = skeleton::check(most, n, edges, 1) {
+        return Check::Refuse(k, p);
+    }
+    adjacency::physical(n, edges)
+}
+
+// The CAM, in the caller's numbering.
+pub fn cam(n: usize, edges: &[u8], out: &mut [u8]) -> Answer
+    ensures { λ r. ⌜ Cam n (now (edges .entry)) (now (out .entry)) (now (out .exit)) (told r) ⌝ }
+{
+    if let Check::Refuse(k, p) = check(64, n, edges) {
+        return Answer::Refused(k, p);
+    }
+    let need = n - 1;
+    if out.len() < need {
+        return Answer::Refused(15, need);
+    }
+    adjacency::write_cam(n, edges, out);
+    Answer::Done(need)
+}
+
+// The 0A of a skeleton in a physical numbering.
+fn zero_of(n: usize, edges: &[u8]) -> u64
+    requires { ⌜ IsSkeleton adjacency.zeroMost valence n (now edges) × adjacency.Physical n (now edges) ⌝ }
+    ensures { λ r. ⌜ r ≡ adjacency.zeroA (adjacency.cam n (now (edges .entry))) ⌝ }
+{
+    let mut cam = [0u8; 20];
+    adjacency::write_cam(n, edges, &mut cam);
+    adjacency::zero_a(&cam[..n - 1])
+}
+
+// The 0A, in the caller's numbering.
+pub fn zero_a(n: usize, edges: &[u8]) -> Number
+    ensures { λ r. ⌜ ZeroA n (now (edges .entry)) (numbered r) ⌝ }
+{
+    if let Check::Refuse(k, p) = check(21, n, edges) {
+        return Number::Refused(k, p);
+    }
+    Number::Value(zero_of(n, edges))
+}
+
+// The A0, in the caller's numbering.
+pub fn a_zero(n: usize, edges: &[u8]) -> Number
+    ensures { λ r. ⌜ AZero n (now (edges .entry)) (numbered r) ⌝ }
+{
+    if let Check::Refuse(k, p) = skeleton::check(11, n, edges, 1) {
+        return Number::Refused(k, p);
+    }
+    Number::Value(adjacency::a_zero(n, edges))
+}
+
+// The edges of a skeleton in the numbering by code.
+fn by_code(n: usize, edges: &[u8], out: &mut [u8])
+    requires { ⌜ IsSkeleton size valence n (now edges) × (2 * (n - 1) ≤ length (now out)) ⌝ }
+    ensures { λ _. ⌜ Writes (Numbering n (now (edges .entry))) (now (out .entry)) (2 * (n - 1)) (now (out .exit)) ⌝ }
+{
+    let mut code = [0u8; 64];
+    coding::centred(n, edges, &mut code);
+    code::write_edges(&code[..n], out);
+}
+
+// The CAM by code.
+pub fn cam_by_code(n: usize, edges: &[u8], out: &mut [u8]) -> Answer
+    ensures { λ r. ⌜ CamByCode n (now (edges .entry)) (now (out .entry)) (now (out .exit)) (told r) ⌝ }
+{
+    if let Check::Refuse(k, p) = skeleton::check(64, n, edges, 1) {
+        return Answer::Refused(k, p);
+    }
+    let need = n - 1;
+    if out.len() < need {
+        return Answer::Refused(15, need);
+    }
+    let m = 2 * need;
+    let mut ends = [0u8; 126];
+    by_code(n, edges, &mut ends);
+    adjacency::write_cam(n, &ends[..m], out);
+    Answer::Done(need)
+}
+
+// The 0A by code.
+pub fn zero_a_by_code(n: usize, edges: &[u8]) -> Number
+    ensures { λ r. ⌜ ZeroAByCode n (now (edges .entry)) (numbered r) ⌝ }
+{
+    if let Check::Refuse(k, p) = skeleton::check(21, n, edges, 1) {
+        return Number::Refused(k, p);
+    }
+    let m = 2 * (n - 1);
+    let mut ends = [0u8; 126];
+    by_code(n, edges, &mut ends);
+    Number::Value(zero_of(n, &ends[..m]))
+}
+
+// The A0 by code.
+pub fn a_zero_by_code(n: usize, edges: &[u8]) -> Number
+    ensures { λ r. ⌜ AZeroByCode n (now (edges .entry)) (numbered r) ⌝ }
+{
+    if let Check::Refuse(k, p) = skeleton::check(11, n, edges, 1) {
+        return Number::Refused(k, p);
+    }
+    let m = 2 * (n - 1);
+    let mut ends = [0u8; 126];
+    by_code(n, edges, &mut ends);
+    Number::Value(adjacency::a_zero(n, &ends[..m]))
+}
