@@ -68,65 +68,6 @@ pub extern "C" fn zk_whole(
             0
         }
         Number::Refused(k, p) => {
-#[no_mangle]
-pub extern "C" fn zk_decode_n_tuple(code: &[u8], out: &mut [u8], place: &mut u64) -> u32 {
-    handed(zurkhovel::codes::decode_n_tuple(code, out), place)
-}
-
-#[no_mangle]
-pub extern "C" fn zk_decode_centred(code: &[u8], out: &mut [u8], place: &mut u64) -> u32 {
-    handed(zurkhovel::codes::decode_centred(code, out), place)
-}
-
-#[no_mangle]
-pub extern "C" fn zk_check_edges(n: usize, edges: &[u8], root: usize, place: &mut u64) -> u32 {
-    handed(zurkhovel::codes::check_edges(n, edges, root), place)
-}
-
-#[no_mangle]
-pub extern "C" fn zk_rooted_code(
-    n: usize,
-    edges: &[u8],
-    root: usize,
-    out: &mut [u8],
-    place: &mut u64,
-) -> u32 {
-    handed(zurkhovel::codes::rooted_code(n, edges, root, out), place)
-}
-
-#[no_mangle]
-pub extern "C" fn zk_n_tuple_code(n: usize, edges: &[u8], out: &mut [u8], place: &mut u64) -> u32 {
-    handed(zurkhovel::codes::n_tuple_code(n, edges, out), place)
-}
-
-#[no_mangle]
-pub extern "C" fn zk_centred_code(n: usize, edges: &[u8], out: &mut [u8], place: &mut u64) -> u32 {
-    handed(zurkhovel::codes::centred_code(n, edges, out), place)
-}
-
-// Of two edge lists: `list` is 0 where neither is refused, and `place` then 1 for the same skeleton, 0 for another.
-#[no_mangle]
-pub extern "C" fn zk_same(
-    n1: usize,
-    edges1: &[u8],
-    n2: usize,
-    edges2: &[u8],
-    list: &mut u64,
-    place: &mut u64,
-) -> u32 {
-    match zurkhovel::codes::same_skeleton(n1, edges1, n2, edges2) {
-        Verdict::Same => {
-            *list = 0;
-            *place = 1;
-            0
-        }
-        Verdict::Different => {
-            *list = 0;
-            *place = 0;
-            0
-        }
-        Verdict::Refused(i, k, p) => {
-            *list = i as u64;
             *place = p as u64;
             k as u32
         }
@@ -192,6 +133,148 @@ pub extern "C" fn zk_read_text(
 pub extern "C" fn zk_classes(n: u64, edges: &[u8], out: &mut [u8], place: &mut u64) -> u32 {
     handed(
         zurkhovel::alike::equal_vertices(n as usize, edges, out),
+        place,
+    )
+}
+
+#[no_mangle]
+pub extern "C" fn zk_decode_n_tuple(code: &[u8], out: &mut [u8], place: &mut u64) -> u32 {
+    handed(zurkhovel::codes::decode_n_tuple(code, out), place)
+}
+
+#[no_mangle]
+pub extern "C" fn zk_decode_centred(code: &[u8], out: &mut [u8], place: &mut u64) -> u32 {
+    handed(zurkhovel::codes::decode_centred(code, out), place)
+}
+
+#[no_mangle]
+pub extern "C" fn zk_check_edges(n: usize, edges: &[u8], root: usize, place: &mut u64) -> u32 {
+    handed(zurkhovel::codes::check_edges(n, edges, root), place)
+}
+
+#[no_mangle]
+pub extern "C" fn zk_rooted_code(
+    n: usize,
+    edges: &[u8],
+    root: usize,
+    out: &mut [u8],
+    place: &mut u64,
+) -> u32 {
+    handed(zurkhovel::codes::rooted_code(n, edges, root, out), place)
+}
+
+#[no_mangle]
+pub extern "C" fn zk_n_tuple_code(n: usize, edges: &[u8], out: &mut [u8], place: &mut u64) -> u32 {
+    handed(zurkhovel::codes::n_tuple_code(n, edges, out), place)
+}
+
+#[no_mangle]
+pub extern "C" fn zk_centred_code(n: usize, edges: &[u8], out: &mut [u8], place: &mut u64) -> u32 {
+    handed(zurkhovel::codes::centred_code(n, edges, out), place)
+}
+
+// Of two edge lists: `list` is 0 where neither is refused, and `place` then 1 for the same skeleton, 0 for another.
+#[no_mangle]
+pub extern "C" fn zk_same(
+    n1: usize,
+    edges1: &[u8],
+    n2: usize,
+    edges2: &[u8],
+    list: &mut u64,
+    place: &mut u64,
+) -> u32 {
+    match zurkhovel::codes::same_skeleton(n1, edges1, n2, edges2) {
+        Verdict::Same => {
+            *list = 0;
+            *place = 1;
+            0
+        }
+        Verdict::Different => {
+            *list = 0;
+            *place = 0;
+            0
+        }
+        Verdict::Refused(i, k, p) => {
+            *list = i as u64;
+            *place = p as u64;
+            k as u32
+        }
+    }
+}
+
+// A number as C takes it; the value is set only where there is one.
+fn valued(answer: Number, value: &mut u64, place: &mut u64) -> u32 {
+    match answer {
+        Number::Value(v) => {
+            *value = v;
+            *place = 0;
+            0
+        }
+        Number::Refused(k, p) => {
+            *place = p as u64;
+            k as u32
+        }
+    }
+}
+
+#[no_mangle]
+pub extern "C" fn zk_cam(n: u64, edges: &[u8], out: &mut [u8], place: &mut u64) -> u32 {
+    handed(zurkhovel::matrix::cam(n as usize, edges, out), place)
+}
+
+#[no_mangle]
+pub extern "C" fn zk_cam_by_code(n: u64, edges: &[u8], out: &mut [u8], place: &mut u64) -> u32 {
+    handed(
+        zurkhovel::matrix::cam_by_code(n as usize, edges, out),
+        place,
+    )
+}
+
+#[no_mangle]
+pub extern "C" fn zk_uncam(n: u64, cam: &[u8], out: &mut [u8], place: &mut u64) -> u32 {
+    handed(zurkhovel::matrix::decode_cam(n as usize, cam, out), place)
+}
+
+#[no_mangle]
+pub extern "C" fn zk_0a(n: u64, edges: &[u8], value: &mut u64, place: &mut u64) -> u32 {
+    valued(zurkhovel::matrix::zero_a(n as usize, edges), value, place)
+}
+
+#[no_mangle]
+pub extern "C" fn zk_0a_by_code(n: u64, edges: &[u8], value: &mut u64, place: &mut u64) -> u32 {
+    valued(
+        zurkhovel::matrix::zero_a_by_code(n as usize, edges),
+        value,
+        place,
+    )
+}
+
+#[no_mangle]
+pub extern "C" fn zk_un0a(n: u64, value: u64, out: &mut [u8], place: &mut u64) -> u32 {
+    handed(
+        zurkhovel::matrix::decode_zero_a(n as usize, value, out),
+        place,
+    )
+}
+
+#[no_mangle]
+pub extern "C" fn zk_a0(n: u64, edges: &[u8], value: &mut u64, place: &mut u64) -> u32 {
+    valued(zurkhovel::matrix::a_zero(n as usize, edges), value, place)
+}
+
+#[no_mangle]
+pub extern "C" fn zk_a0_by_code(n: u64, edges: &[u8], value: &mut u64, place: &mut u64) -> u32 {
+    valued(
+        zurkhovel::matrix::a_zero_by_code(n as usize, edges),
+        value,
+        place,
+    )
+}
+
+#[no_mangle]
+pub extern "C" fn zk_una0(n: u64, value: u64, out: &mut [u8], place: &mut u64) -> u32 {
+    handed(
+        zurkhovel::matrix::decode_a_zero(n as usize, value, out),
         place,
     )
 }
