@@ -19,6 +19,21 @@ fn handed(answer: Answer, place: &mut u64) -> u32 {
     }
 }
 
+// A number as C takes it; the value is set only where there is one.
+fn valued(answer: Number, value: &mut u64, place: &mut u64) -> u32 {
+    match answer {
+        Number::Value(v) => {
+            *value = v;
+            *place = 0;
+            0
+        }
+        Number::Refused(k, p) => {
+            *place = p as u64;
+            k as u32
+        }
+    }
+}
+
 // 0: a stands before b in the dictionary; 1: they are equal; 2: a stands after b.
 #[no_mangle]
 pub extern "C" fn zk_compare(a: &[u8], b: &[u8]) -> u32 {
@@ -60,17 +75,11 @@ pub extern "C" fn zk_whole(
     value: &mut u64,
     place: &mut u64,
 ) -> u32 {
-    match zurkhovel::bit_tuple::whole(n as usize, edges, root as usize) {
-        Number::Value(v) => {
-            *value = v;
-            *place = 0;
-            0
-        }
-        Number::Refused(k, p) => {
-            *place = p as u64;
-            k as u32
-        }
-    }
+    valued(
+        zurkhovel::bit_tuple::whole(n as usize, edges, root as usize),
+        value,
+        place,
+    )
 }
 
 #[no_mangle]
@@ -102,4 +111,66 @@ pub extern "C" fn zk_fraction(
 #[no_mangle]
 pub extern "C" fn zk_unfraction(x: f64, out: &mut [u8], place: &mut u64) -> u32 {
     handed(zurkhovel::bit_tuple::unfraction(x, out), place)
+}
+
+#[no_mangle]
+pub extern "C" fn zk_cam(n: u64, edges: &[u8], out: &mut [u8], place: &mut u64) -> u32 {
+    handed(zurkhovel::matrix::cam(n as usize, edges, out), place)
+}
+
+#[no_mangle]
+pub extern "C" fn zk_cam_by_code(n: u64, edges: &[u8], out: &mut [u8], place: &mut u64) -> u32 {
+    handed(
+        zurkhovel::matrix::cam_by_code(n as usize, edges, out),
+        place,
+    )
+}
+
+#[no_mangle]
+pub extern "C" fn zk_uncam(n: u64, cam: &[u8], out: &mut [u8], place: &mut u64) -> u32 {
+    handed(zurkhovel::matrix::decode_cam(n as usize, cam, out), place)
+}
+
+#[no_mangle]
+pub extern "C" fn zk_0a(n: u64, edges: &[u8], value: &mut u64, place: &mut u64) -> u32 {
+    valued(zurkhovel::matrix::zero_a(n as usize, edges), value, place)
+}
+
+#[no_mangle]
+pub extern "C" fn zk_0a_by_code(n: u64, edges: &[u8], value: &mut u64, place: &mut u64) -> u32 {
+    valued(
+        zurkhovel::matrix::zero_a_by_code(n as usize, edges),
+        value,
+        place,
+    )
+}
+
+#[no_mangle]
+pub extern "C" fn zk_un0a(n: u64, value: u64, out: &mut [u8], place: &mut u64) -> u32 {
+    handed(
+        zurkhovel::matrix::decode_zero_a(n as usize, value, out),
+        place,
+    )
+}
+
+#[no_mangle]
+pub extern "C" fn zk_a0(n: u64, edges: &[u8], value: &mut u64, place: &mut u64) -> u32 {
+    valued(zurkhovel::matrix::a_zero(n as usize, edges), value, place)
+}
+
+#[no_mangle]
+pub extern "C" fn zk_a0_by_code(n: u64, edges: &[u8], value: &mut u64, place: &mut u64) -> u32 {
+    valued(
+        zurkhovel::matrix::a_zero_by_code(n as usize, edges),
+        value,
+        place,
+    )
+}
+
+#[no_mangle]
+pub extern "C" fn zk_una0(n: u64, value: u64, out: &mut [u8], place: &mut u64) -> u32 {
+    handed(
+        zurkhovel::matrix::decode_a_zero(n as usize, value, out),
+        place,
+    )
 }
