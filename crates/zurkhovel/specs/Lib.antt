@@ -7,6 +7,7 @@ pub mod Alike
 pub mod One
 pub mod Matrix
 pub mod OneMatrix
+pub mod OneText
 pub mod Rooting
 pub mod Bits
 pub mod OneBits

@@ -30,7 +30,7 @@ pub one-check-edges : (N : ℕ) (E : List ℕ) (r : ℕ) (o u : Outcome ℕ) →
 one-check-edges N E r o u a b = one-check a b
 
 -- a call that writes, where what is right is one for an input that no row refuses
-one-clear :
+pub one-clear :
     {rs : List Row} {Right : List ℕ → Type 0} {old s t : List ℕ} {o u : Outcome ℕ} → (Clear rs → (c d : List ℕ) → Right c → Right d → c ≡ d)
     → Gives rs Right old s o → Gives rs Right old t u → (o ≡ u) × (s ≡ t)
 one-clear {rs} {Right} {old} {s} {t} one g h = by-cases (g .promise) (h .promise)
