@@ -11,3 +11,4 @@ pub mod OneText
 pub mod Rooting
 pub mod Bits
 pub mod OneBits
+pub mod Figures
