@@ -12,3 +12,4 @@ pub mod Rooting
 pub mod Bits
 pub mod OneBits
 pub mod Figures
+pub mod Demand
