@@ -38,35 +38,28 @@ pub record Decision (rs : List Row) (R : ℕ) (May : List Bool → Type 0) (bs :
   pub answer : Decided rs R May bs out r
   pub long : length out ≡ size
 
+-- what was read ends a code, if it was not refused
+abbrev pub Ended : List ℕ → Answer → Type 0
+Ended out (Done n) = Ends 1 (take n out) × (n ≤ size)
+Ended out (Refused k p) = Unit {0}
+
 -- what the order of siblings in the code c of n digits answers
-pub data Ordered (c : List ℕ) (n : ℕ) : Answer → Type 0 where
-  falling : Clear (row13 c ∷ []) → Ordered c n (Done n)
-  larger : {k p : ℕ} → Lowest (row13 c ∷ []) k p → Ordered c n (Refused k p)
+pub data Falling (c : List ℕ) (n : ℕ) : Answer → Type 0 where
+  falling : Clear (row13 c ∷ []) → Falling c n (Done n)
+  larger : {k p : ℕ} → Lowest (row13 c ∷ []) k p → Falling c n (Refused k p)
 
--- ---- rows 10 to 12, as a caller learns them
+-- and what it makes of the answer before it: a refusal stays
+abbrev pub Ordered : List ℕ → Answer → Answer → Type 0
+Ordered out (Done n) r = Falling (take n out) n r
+Ordered out (Refused k p) r = r ≡ Refused k p
 
-module _ {R : ℕ} {May : List Bool → Type 0} {bs : List Bool} {out : List ℕ} where
-  was-accepted : {r : Answer} {n : ℕ} → Judged R May bs out r → r ≡ Done n → Accepted R May bs out n
-  was-accepted {n = n} (accepted {n = m} t) e = let z : m ≡ n = cc in rw z at t
-  was-accepted (refused l) e = let z : _≡_ {A = ℕ} 0 1 = cc in absurd (omega arith)
+-- what the check of siblings requires
+judged-ended : {R : ℕ} {May : List Bool → Type 0} {bs : List Bool} {out : List ℕ} {r : Answer} → Judged R May bs out r → length out ≡ size → Ended out r
+judged-ended {out = out} (accepted {n} t) l = (ends-iff (take n out) .1 (t .ends), omega (arith, t .room))
+judged-ended (refused l) h = tt
 
-  was-refused : {r : Answer} {k p : ℕ} → Judged R May bs out r → r ≡ Refused k p → Lowest (bitRows R May bs) k p
-  was-refused (accepted t) e = let z : _≡_ {A = ℕ} 0 1 = cc in absurd (omega arith)
-  was-refused {k = k} {p} (refused {k = j} {p = q} l) e =
-      let a : j ≡ k = cc in
-      let b : q ≡ p = cc in
-      lowest-front (bits.row13 bs ∷ []) refl (rw (a, b) at l)
-
-  module _ {r : Answer} {n : ℕ} (s : Reading R May bs out r) (e : r ≡ Done n) where
-    code-read : Accepted R May bs out n
-    code-read = was-accepted (s .answer) e
-
-    -- what the check of siblings requires
-    pub code-ends : Ends 1 (take n out)
-    code-ends = ends-iff (take n out) .1 (code-read .ends)
-
-    pub code-most : n ≤ size
-    code-most = omega (arith, code-read .room, s .long)
+pub reading-ended : {R : ℕ} {May : List Bool → Type 0} {bs : List Bool} {out : List ℕ} {r : Answer} → Reading R May bs out r → Ended out r
+reading-ended s = judged-ended (s .answer) (s .long)
 
 -- ---- the whole table
 
@@ -76,9 +69,7 @@ size-clear l m = clear-one (λ p a. ⊎-elim (λ h. omega (arith, h)) (λ h. ome
 
 -- the rows fs stand before the bits' own, and are clear
 module _ {R : ℕ} {May : List Bool → Type 0} {bs : List Bool} {out : List ℕ} {fs : List Row} (f : Clear fs) where
-  decided :
-      {n : ℕ} {a : Answer} → Accepted R May bs out n → n ≤ size → Ordered (take n out) n a
-      → Decided (fs ++ bitRows R May bs) R May bs out a
+  decided : {n : ℕ} {a : Answer} → Accepted R May bs out n → n ≤ size → Falling (take n out) n a → Decided (fs ++ bitRows R May bs) R May bs out a
   decided {n} t m (falling c) =
       let all = was-clear (answer-ordered t (passes c)) refl in
       let right = alike-clear (alike-back (carried-alike R (t .carries) (t .ends))) all in
@@ -93,13 +84,12 @@ module _ {R : ℕ} {May : List Bool → Type 0} {bs : List Bool} {out : List ℕ
       })
   decided t m (larger l) = refuses (lowest-back f (was-lowest (answer-ordered t (fails l)) refl))
 
-  pub decide-refused : {r : Answer} {k p : ℕ} → Reading R May bs out r → r ≡ Refused k p → Decision (fs ++ bitRows R May bs) R May bs out (Refused k p)
-  decide-refused s e = record { answer = refuses (lowest-back f (was-refused (s .answer) e)); long = s .long }
+  judged : {r a : Answer} → Judged R May bs out r → length out ≡ size → Ordered out r a → Decided (fs ++ bitRows R May bs) R May bs out a
+  judged (accepted t) h o = decided t (omega (arith, t .room)) o
+  judged (refused l) h e = rw e (refuses (lowest-back f (lowest-front (bits.row13 bs ∷ []) refl l)))
 
-  pub decide-ordered :
-      {r a : Answer} {n : ℕ} → Reading R May bs out r → r ≡ Done n → Ordered (take n out) n a
-      → Decision (fs ++ bitRows R May bs) R May bs out a
-  decide-ordered s e o = record { answer = decided (was-accepted (s .answer) e) (code-most s e) o; long = s .long }
+  pub decide-ordered : {r a : Answer} → Reading R May bs out r → Ordered out r a → Decision (fs ++ bitRows R May bs) R May bs out a
+  decide-ordered s o = record { answer = judged (s .answer) (s .long) o; long = s .long }
 
 -- a row before them applies
 pub decide-front :

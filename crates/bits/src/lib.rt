@@ -2,7 +2,7 @@
 ghost use mathlib.Core.Path.{_≡_};
 ghost use mathlib.Core.List.{[], _∷_};
 ghost use Prim.Native.Nat.{_+_, _-_, _*_, _/_, _^_, _<_, _≤_};
-ghost use lib.ListN.{length, getD, take, drop};
+ghost use lib.ListN.{length, getD, drop};
 ghost use Rattle.code.specs.Limits.{size, valence};
 ghost use Rattle.bits.specs.Bits.{bytes, word, fractionBits, Fill, Nothing, Zeros, row4, packedRows, wholeRows};
 ghost use Rattle.bits.specs.Words.{lead};
@@ -12,9 +12,8 @@ ghost use Rattle.bits.specs.Answered.{Reading};
 ghost use Rattle.bits.specs.Written.{Coded, Packs, Numbers};
 ghost use Rattle.bits.specs.Writing.{Room};
 ghost use Rattle.refusal.specs.Table.{Answers, Writes, row3};
-ghost use Rattle.bits.specs.Decided.{Ordered, Decision};
+ghost use Rattle.bits.specs.Decided.{Ended, Ordered, Decision};
 ghost use Rattle.bits.specs.Limits.{packedBytes, wholeSize};
-ghost use Rattle.code.specs.Ends.{Ends};
 use refusal::Answer;
 use refusal::Check;
 
@@ -189,16 +188,18 @@ fn sized(n: usize, most: usize) -> Check
     Check::Passed
 }
 
-// 13 of the first n digits, which end a code.
-pub fn siblings(digits: &[u8], n: usize) -> Answer
-    requires { ⌜ Ends 1 (take n (now digits)) ⌝ }
-    requires { ⌜ n ≤ size ⌝ }
+// Behind rows 10 to 12: a refusal stays, and of a code that was read 13 is judged.
+pub fn siblings(read: Answer, digits: &[u8]) -> Answer
+    requires { ⌜ Ended (now digits) read ⌝ }
     requires { ⌜ length (now digits) ≡ size ⌝ }
-    ensures { λ r. ⌜ Ordered (take n (now (digits .entry))) n r ⌝ }
+    ensures { λ r. ⌜ Ordered (now (digits .entry)) read r ⌝ }
 {
-    match code::ordered(&digits[..n]) {
-        Check::Passed => Answer::Done(n),
-        Check::Refuse(k, p) => Answer::Refused(k, p),
+    match read {
+        Answer::Refused(k, p) => Answer::Refused(k, p),
+        Answer::Done(n) => match code::ordered(&digits[..n]) {
+            Check::Passed => Answer::Done(n),
+            Check::Refuse(k, p) => Answer::Refused(k, p),
+        },
     }
 }
 
@@ -210,10 +211,8 @@ pub fn packed_code(s: &[u8], out: &mut [u8]) -> Answer
     if let Check::Refuse(k, p) = sized(s.len(), 16) {
         return Answer::Refused(k, p);
     }
-    match packed(s, out) {
-        Answer::Refused(k, p) => Answer::Refused(k, p),
-        Answer::Done(n) => siblings(out, n),
-    }
+    let read = packed(s, out);
+    siblings(read, out)
 }
 
 // 4: x is outside the range of whole numbers with N = n.
@@ -238,10 +237,8 @@ pub fn number_code(n: usize, x: u64, out: &mut [u8]) -> Answer
     if let Check::Refuse(k, p) = ranged(n, x) {
         return Answer::Refused(k, p);
     }
-    match number(n, x, out) {
-        Answer::Refused(k, p) => Answer::Refused(k, p),
-        Answer::Done(e) => siblings(out, e),
-    }
+    let read = number(n, x, out);
+    siblings(read, out)
 }
 
 // x with the digit k, k ones and a zero, behind its bits.

@@ -113,8 +113,6 @@ pub fn fraction_code(x: f64, out: &mut [u8]) -> Answer
     if let Check::Refuse(k, p) = ranged(x) {
         return Answer::Refused(k, p);
     }
-    match read(x, out) {
-        Answer::Refused(k, p) => Answer::Refused(k, p),
-        Answer::Done(n) => bits::siblings(out, n),
-    }
+    let answer = read(x, out);
+    bits::siblings(answer, out)
 }
