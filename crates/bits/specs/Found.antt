@@ -1,6 +1,6 @@
 -- What a reader of digits has found, in the words of rows 10 and 12 and of a code's end, and how it comes to it.
 --
--- In order: the contract; what a reader knows when it has n digits in its output; what each way on tells. Assumes nothing.
+-- In order: the contract; what a reader knows when it has n digits in its output; one turn; what each way on tells. Assumes nothing.
 use mathlib.Core.Path.{_≡_, refl, sym, ap}
 use mathlib.Core.Bool.{Bool}
 use mathlib.Core.List.{List, [], _∷_, _++_}
@@ -15,6 +15,8 @@ use Rattle.code.specs.Limits.{size}
 use Rattle.code.specs.Code.{sum, EndsAt, cap, row12}
 use Rattle.bits.specs.declared.Found.{Found}
 use Rattle.bits.specs.declared.Found.the-variants.{Over, Short, Ended}
+use Rattle.bits.specs.declared.Turn.{Turn}
+use Rattle.bits.specs.declared.Turn.the-variants.{On, Stop}
 use Rattle.bits.specs.Bits.{whole, row10}
 use Rattle.bits.specs.Ends.{Open}
 use Rattle.bits.specs.Words.{lead}
@@ -38,6 +40,26 @@ pub record Sofar (R : ℕ) (bs : List Bool) (out : List ℕ) (n b : ℕ) : Type 
   pub goes-on : Open (take n out) n
   pub count : length (take n out) ≡ n
   pub long : length out ≡ size
+
+-- ---- one turn
+
+-- a reader of m bits stands before its next digit: two bits at least are read for each of the n before
+pub record Stands (m n b : ℕ) (out : List ℕ) : Type 0 where
+  pub few : m ≤ 2 * size
+  pub within : b < m
+  pub twice : 2 * n ≤ b
+  pub long : length out ≡ size
+
+-- what a turn came to, with out what is written then
+abbrev pub Turns : ℕ → List Bool → List ℕ → ℕ → ℕ → Turn → Type 0
+Turns R bs out n b (On e) = (b < e) × Sofar R bs out (n + 1) e
+Turns R bs out n b (Stop f) = Scanned R bs out f
+
+-- the same of any m bits in which k ones were seen from the bit b on
+abbrev pub Turned : ℕ → ℕ → ℕ → ℕ → ℕ → List ℕ → List ℕ → Turn → Type 0
+Turned R m k n b old new r = (bs : List Bool) → length bs ≡ m → Sofar R bs old n b → Near 9 k (drop b bs) → Turns R bs new n b r
+
+-- ---- what each way on tells
 
 pub sofar-none : (R : ℕ) (bs : List Bool) (out : List ℕ) → length out ≡ size → Sofar R bs out 0 0
 sofar-none R bs out h =

@@ -7,7 +7,7 @@ ghost use Rattle.code.specs.Limits.{size, valence};
 ghost use Rattle.bits.specs.Bits.{bytes, word, fractionBits, Fill, Nothing, Zeros, row4, packedRows, wholeRows};
 ghost use Rattle.bits.specs.Words.{lead};
 ghost use Rattle.bits.specs.Digit.{Near};
-ghost use Rattle.bits.specs.Found.{Scanned};
+ghost use Rattle.bits.specs.Found.{Stands, Turned, Scanned};
 ghost use Rattle.bits.specs.Answered.{Reading};
 ghost use Rattle.bits.specs.Written.{Coded, Packs, Numbers};
 ghost use Rattle.bits.specs.Writing.{Room};
@@ -25,6 +25,14 @@ pub enum Found {
     Short(usize),
     // The code ends with the digit of this number.
     Ended(usize),
+}
+
+// What one turn of a reader came to.
+enum Turn {
+    // One digit more is read, and the next begins at this bit.
+    On(usize),
+    // The reader has come to its end.
+    Stop(Found),
 }
 
 // The byte i of s, 0 past its end.
@@ -54,8 +62,27 @@ fn digit_in(x: u64, len: usize, bit: usize) -> usize
     u64::leading_zeros(!(x << (64 - len + bit))) as usize
 }
 
-// The digits of a packed code, up to its end. The bits read are the digits and their sum, so the code has ended as soon as they are
-// fewer than two for each digit.
+// One turn of a reader of m bits: the digit at the bit b has k ones and stands behind n others. The bits read are the digits and their
+// sum, so the code has ended as soon as they are fewer than two for each digit.
+fn step(k: usize, m: usize, n: usize, b: usize, out: &mut [u8]) -> Turn
+    requires { ⌜ Stands m n b (now out) ⌝ }
+    ensures { λ r. ⌜ Turned valence m k n b (now (out .entry)) (now (out .exit)) r ⌝ }
+{
+    if (code::top(n + 1) as usize) < k {
+        return Turn::Stop(Found::Over(n + 1));
+    }
+    if m <= b + k {
+        return Turn::Stop(Found::Short(n));
+    }
+    out[n] = k as u8;
+    let e = b + (k + 1);
+    if e < 2 * (n + 1) {
+        return Turn::Stop(Found::Ended(n + 1));
+    }
+    Turn::On(e)
+}
+
+// The digits of a packed code, up to its end.
 pub fn digits(s: &[u8], out: &mut [u8]) -> Found
     requires { ⌜ (length (now s) ≤ packedBytes) × (length (now out) ≡ size) ⌝ }
     ensures { λ r. ⌜ Scanned valence (bytes (now (s .entry))) (now (out .exit)) r ⌝ }
@@ -64,19 +91,11 @@ pub fn digits(s: &[u8], out: &mut [u8]) -> Found
     let mut n: usize = 0;
     let mut b: usize = 0;
     while b < m {
-        let k = digit_at(s, b);
-        if (code::top(n + 1) as usize) < k {
-            return Found::Over(n + 1);
+        match step(digit_at(s, b), m, n, b, out) {
+            Turn::Stop(found) => return found,
+            Turn::On(e) => b = e,
         }
-        if m <= b + k {
-            return Found::Short(n);
-        }
-        out[n] = k as u8;
         n += 1;
-        b += k + 1;
-        if b < 2 * n {
-            return Found::Ended(n);
-        }
     }
     Found::Short(n)
 }
@@ -89,19 +108,11 @@ pub fn word_digits(x: u64, len: usize, out: &mut [u8]) -> Found
     let mut n: usize = 0;
     let mut b: usize = 0;
     while b < len {
-        let k = digit_in(x, len, b);
-        if (code::top(n + 1) as usize) < k {
-            return Found::Over(n + 1);
+        match step(digit_in(x, len, b), len, n, b, out) {
+            Turn::Stop(found) => return found,
+            Turn::On(e) => b = e,
         }
-        if len <= b + k {
-            return Found::Short(n);
-        }
-        out[n] = k as u8;
         n += 1;
-        b += k + 1;
-        if b < 2 * n {
-            return Found::Ended(n);
-        }
     }
     Found::Short(n)
 }

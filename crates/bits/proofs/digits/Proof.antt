@@ -1,15 +1,13 @@
--- `bits::digits` meets its contract. The loop's invariant: n digits are read, and their code goes on at the bit b. Each way through the
--- body is a law of `Found`. Assumes nothing.
+-- `bits::digits` meets its contract. The loop's invariant: n digits are read, and their code goes on at the bit b. Assumes nothing.
 use mathlib.Core.Path.{sym, _∙_}
-use Prim.Native.Nat.{ℕ, _+_, _-_, _*_, _≤_, _<_}
+use Prim.Native.Nat.{_-_, _*_}
 use native.Mathlib.Omega.{arith}
-use lib.Dec.{lit<}
-use lib.ListN.{length, length-set}
+use lib.ListN.{length}
 use Rattle.code.specs.Limits.{valence}
 use Rattle.bits.specs.Bits.{bytes}
 use Rattle.bits.specs.Words.{length-bytes}
-use Rattle.bits.specs.Steps.{cap-le}
-use Rattle.bits.specs.Found.{Sofar, sofar-none, twice, sofar-over, sofar-short, sofar-out, sofar-end, sofar-on}
+use Rattle.bits.specs.Found.{Sofar, Turns, sofar-none, twice, sofar-out}
+use borrow.Author.Needs.{needs}
 use Rattle.bits.proofs.digits.Statement.{statement}
 use Rattle.bits.proofs.digits.Tie as tie
 
@@ -19,119 +17,9 @@ Inv-loop s out₀ m n₀ b₀ out n b = Sofar valence (bytes s) out n b
 abbrev μ-loop : tie.MeasureT-loop
 μ-loop s out₀ m n₀ b₀ out n b = 8 * length s - b
 
--- the digit is within its cap, and the output has room for it
-pub record Turn (k n : ℕ) : Type 0 where
-  pub small : k ≤ 4
-  pub room : n < 64
-
-turn : (c : tie.Else1 Inv-loop μ-loop) → Turn (c .before .before .digit-at .result) (c .before .before .before .before .loop .n)
-turn c =
-    let l = c .before .before .before .before .loop in
-    record { small = omega (arith, c .before .top .ensures, cap-le valence (l .n + 1)); room = omega (arith, twice (l .inv)) }
-
-mul-m : tie.Need-mul-m Inv-loop μ-loop
-mul-m c = omega arith
-
-loop-holds : tie.Need-loop-holds Inv-loop μ-loop
-loop-holds c = sofar-none _ _ _ (c .before .before .pre .1)
-
-digit-at-requires : tie.Need-digit-at-requires Inv-loop μ-loop
-digit-at-requires c κs = omega arith
-
-add-top : tie.Need-add-top Inv-loop μ-loop
-add-top c = omega (arith, twice (c .before .before .loop .inv))
-
-top-requires : tie.Need-top-requires Inv-loop μ-loop
-top-requires c κs = tt
-
-cast-if1 : tie.Need-cast-if1 Inv-loop μ-loop
-cast-if1 c = omega arith
-
-add-t12 : tie.Need-add-t12 Inv-loop μ-loop
-add-t12 c = omega (arith, twice (c .before .before .before .before .loop .inv))
-
-same-length : tie.Need-same-length Inv-loop μ-loop
-same-length c = c .before .before .before .before .loop .inv .long ∙ sym (c .before .before .before .before .before .before .before .pre .1)
-
-returns : tie.Need-returns Inv-loop μ-loop
-returns c =
-    let k = c .before .before .digit-at in
-    sofar-over (c .before .before .before .before .loop .inv) 9 (k .result) (k .ensures) (omega (arith, c .before .top .ensures))
-
-add-if2 : tie.Need-add-if2 Inv-loop μ-loop
-add-if2 c = omega (arith, turn c)
-
-same-length-2 : tie.Need-same-length-2 Inv-loop μ-loop
-same-length-2 c = c .before .before .before .before .before .loop .inv .long ∙ sym (c .before .before .before .before .before .before .before .before .pre .1)
-
-returns-2 : tie.Need-returns-2 Inv-loop μ-loop
-returns-2 c =
-    let k = c .before .before .before .digit-at in
-    let l = c .before .before .before .before .before .loop in
-    let s = c .before .before .before .before .before .before .before .before .args .s .now in
-    sofar-short (l .inv) 9 (k .result) (lit< tt) (k .ensures) (omega (arith, c .before .before .top .ensures)) (omega (arith, length-bytes s))
-
-cast-out : tie.Need-cast-out Inv-loop μ-loop
-cast-out c = omega (arith, turn (c .before))
-
-slice-write-out : tie.Need-slice-write-out Inv-loop μ-loop
-slice-write-out c = omega (arith, turn (c .before))
-
-add-n : tie.Need-add-n Inv-loop μ-loop
-add-n c = omega (arith, turn (c .before))
-
-add-b : tie.Need-add-b Inv-loop μ-loop
-add-b c = omega (arith, turn (c .before))
-
-add-b-2 : tie.Need-add-b-2 Inv-loop μ-loop
-add-b-2 c = omega (arith, turn (c .before))
-
-mul-if3 : tie.Need-mul-if3 Inv-loop μ-loop
-mul-if3 c = omega (arith, turn (c .before))
-
-same-length-3 : tie.Need-same-length-3 Inv-loop μ-loop
-same-length-3 c = simp length-set (c .before .before .before .before .before .before .loop .inv .long ∙ sym (c .before .before .before .before .before .before .before .before .before .pre .1))
-
-returns-3 : tie.Need-returns-3 Inv-loop μ-loop
-returns-3 c =
-    let k = c .before .before .before .before .digit-at in
-    let l = c .before .before .before .before .before .before .loop in
-    let s = c .before .before .before .before .before .before .before .before .before .args .s .now in
-    sofar-end
-    (l .inv)
-    9
-    (k .result)
-    (lit< tt)
-    (k .ensures)
-    (omega (arith, c .before .before .before .top .ensures))
-    (omega (arith, length-bytes s))
-    (turn (c .before .before) .room)
-    (omega arith)
-
-loop-less : tie.Need-loop-less Inv-loop μ-loop
-loop-less c = omega (arith, turn (c .before .before))
-
-loop-again : tie.Need-loop-again Inv-loop μ-loop
-loop-again c =
-    let k = c .before .before .before .before .digit-at in
-    let l = c .before .before .before .before .before .before .loop in
-    let s = c .before .before .before .before .before .before .before .before .before .args .s .now in
-    sofar-on
-    (l .inv)
-    9
-    (k .result)
-    (lit< tt)
-    (k .ensures)
-    (omega (arith, c .before .before .before .top .ensures))
-    (omega (arith, length-bytes s))
-    (turn (c .before .before) .room)
-    (omega arith)
-
-same-length-4 : tie.Need-same-length-4 Inv-loop μ-loop
-same-length-4 c = c .before .loop .inv .long ∙ sym (c .before .before .before .before .pre .1)
-
-returns-4 : tie.Need-returns-4 Inv-loop μ-loop
-returns-4 c = sofar-out (c .before .loop .inv) (omega (arith, length-bytes (c .before .before .before .before .args .s .now)))
+-- what the turn came to
+turn : (c : tie.After-step Inv-loop μ-loop) → let a = c .before .before .before .before .before .before .before .args in let l = c .before .before .before .before .loop in Turns valence (bytes (a .s .now)) (c .step .last .1 .1 .1 .1 .0) (l .n) (l .b) (c .step .result)
+turn c = let a = c .before .before .before .before .before .before .before .args in c .step .ensures (bytes (a .s .now)) (length-bytes (a .s .now)) (c .before .before .before .before .loop .inv) (c .before .before .digit-at .ensures)
 
 pub digits-spec : {M : Type 1} → statement M
 digits-spec =
@@ -139,27 +27,16 @@ digits-spec =
     (tie.spec
     Inv-loop
     μ-loop
-    mul-m
-    loop-holds
-    digit-at-requires
-    add-top
-    top-requires
-    cast-if1
-    add-t12
-    same-length
-    returns
-    add-if2
-    same-length-2
-    returns-2
-    cast-out
-    slice-write-out
-    add-n
-    add-b
-    add-b-2
-    mul-if3
-    same-length-3
-    returns-3
-    loop-less
-    loop-again
-    same-length-4
-    returns-4)
+    (λ c. omega arith)
+    (λ c. sofar-none _ _ _ (c .before .before .pre .1))
+    (λ c κs. omega arith)
+    (λ c κs. let l = c .before .before .before .loop in record { few = omega arith; within = omega arith; twice = twice (l .inv); long = l .inv .long })
+    (λ c. search needs)
+    (λ c. (rw (c .before .found .given .1) at (turn (c .before .before .before .before .before))) .long ∙ sym (c .before .before .before .before .before .before .before .before .before .before .before .before .pre .1))
+    (λ c. rw (c .before .found .given .1) at (turn (c .before .before .before .before .before)))
+    (λ c. search needs)
+    (λ c. omega (arith, twice (c .before .before .before .before .before .before .before .before .before .loop .inv)))
+    (λ c. let t = rw (c .before .e .given .1) at (turn (c .before .before .before .before .before)) in omega (arith, t .0))
+    (λ c. (rw (c .before .e .given .1) at (turn (c .before .before .before .before .before))) .1)
+    (λ c. c .before .loop .inv .long ∙ sym (c .before .before .before .before .pre .1))
+    (λ c. let a = c .before .before .before .before .args in sofar-out (c .before .loop .inv) (omega (arith, length-bytes (a .s .now)))))
