@@ -3,8 +3,8 @@ use mathlib.Core.Logic.{inl, inr}
 use mathlib.Core.List.{List, [], _∷_, _++_}
 use Prim.Native.Nat.{ℕ}
 use lib.ListN.{length}
-use Rattle.refusal.specs.Table.{Row, Applies, Clear, Lowest, Outcome, Promise, kept, left, Writes, short, Gives}
-use Rattle.refusal.specs.Laws.{clear-one, clear-both, lowest-back, never}
+use Rattle.refusal.specs.Table.{Row, Applies, Clear, Outcome, Promise, kept, left, Writes, short, Gives}
+use Rattle.refusal.specs.Laws.{clear-both, lowest-back}
 
 -- a table of no rows
 pub none : Clear []
@@ -33,3 +33,7 @@ behind {rs} {P} {Q} {old} {new} k to back g = record { promise = go (g .promise)
           applies = short-to to (length old) j p (l .applies);
           first = λ i q a. l .first i q (short-to back (length old) i q a);
         })) e
+
+-- the same, where P and Q are one
+pub behind-same : {rs : List Row} {P : List ℕ → Type 0} {old new : List ℕ} {o : Outcome ℕ} → Clear rs → Gives [] P old new o → Gives rs P old new o
+behind-same k g = behind k (λ c h. h) (λ c h. h) g

@@ -6,22 +6,15 @@ use lib.ListN.{length}
 use Rattle.refusal.specs.Table.{Clear, gives, refuses, Writes, Gives}
 use Rattle.refusal.specs.Laws.{refused-short, given}
 use Rattle.code.specs.Limits.{size, valence}
-use Rattle.tree.specs.Skeleton.{IsTree, IsSkeleton, rooted}
-use Rattle.tree.specs.Theorems as Theorems
+use Rattle.tree.specs.Skeleton.{rooted}
 use Rattle.skeleton.specs.Edges.{edgeRows}
-use Rattle.skeleton.specs.Theorems.{accepted}
 use Rattle.form.specs.Forms.{IsForm, form-size}
+use Rattle.zurkhovel.proofs.Accepted.{skeleton-of, rooted-size}
 
 module _ (N : ℕ) (E : List ℕ) (r : ℕ) (clear : Clear (edgeRows size valence N E r)) where
-  pub skeleton-of : IsSkeleton size valence N E
-  skeleton-of = accepted size valence N E r .0 clear .0
-
-  pub root-of : (1 ≤ r) × (r ≤ N)
-  root-of = accepted size valence N E r .0 clear .1
-
   -- the rooted code has N digits
   rooted-sized : (c : List ℕ) → c ≡ rooted N E r → length c ≡ N
-  rooted-sized c e = ap length e ∙ Theorems.size N E r (skeleton-of .tree) (root-of .0) (root-of .1)
+  rooted-sized c e = ap length e ∙ rooted-size E clear
 
   module _ {old new : List ℕ} where
     pub rooted-short : length old < N → new ≡ old → Gives (edgeRows size valence N E r) (λ c. c ≡ rooted N E r) old new (refuses 15 N)
@@ -34,10 +27,10 @@ module _ (N : ℕ) (E : List ℕ) (r : ℕ) (clear : Clear (edgeRows size valenc
   -- the code of a form has N digits, and there is one
   module _ (form : ℕ → List ℕ → List ℕ → Type 0) (f : IsForm form) where
     form-sized : (c : List ℕ) → form N E c → length c ≡ N
-    form-sized c x = form-size form f N E c (skeleton-of .tree) x
+    form-sized c x = form-size form f N E c (skeleton-of clear .tree) x
 
     pub form-short : {old new : List ℕ} → length old < N → new ≡ old → Gives (edgeRows size valence N E r) (form N E) old new (refuses 15 N)
-    form-short h e = refused-short clear form-sized (f .some N E (skeleton-of .tree) .1) h e
+    form-short h e = refused-short clear form-sized (f .some N E (skeleton-of clear .tree) .1) h e
 
     pub form-given : {old new : List ℕ} → N ≤ length old → Writes (form N E) old N new → Gives (edgeRows size valence N E r) (form N E) old new (gives N)
     form-given h w = given clear form-sized h w

@@ -1,7 +1,7 @@
 -- What is made of the centred code of an accepted edge list: what is known of the code, the result that is written, or the room that it would
 -- take. Assumes nothing.
 use mathlib.Core.Path.{_≡_, refl, sym, ap, _∙_, subst}
-use mathlib.Core.List.{List, _++_}
+use mathlib.Core.List.{List}
 use Prim.Native.Nat.{ℕ, _≤_, _<_}
 use native.Mathlib.Omega.{arith}
 use lib.ListN.{length, take}
@@ -17,11 +17,11 @@ use Rattle.form.specs.Forms.{centred-form, form-size}
 use Rattle.form.specs.Accepted.{form-accepted}
 use Rattle.lines.specs.Damage.{Code}
 use Rattle.lines.specs.Lawful.{lawful}
-use Rattle.zurkhovel.proofs.Coded.{skeleton-of}
+use Rattle.zurkhovel.proofs.Accepted.{skeleton-of}
 
 module _ (N : ℕ) (E : List ℕ) (clear : Clear (edgeRows size valence N E 1)) where
   centred-size : (c : List ℕ) → centred N E c → length c ≡ N
-  centred-size c x = form-size centred centred-form N E c (skeleton-of N E 1 clear .tree) x
+  centred-size c x = form-size centred centred-form N E c (skeleton-of clear .tree) x
 
   -- the code that was written, where it is read again
   module _ {old digits : List ℕ} (w : Writes (centred N E) old N digits) where
@@ -32,7 +32,7 @@ module _ (N : ℕ) (E : List ℕ) (clear : Clear (edgeRows size valence N E 1)) 
     pub code-clear : Clear (codeRows size valence (take N digits))
     code-clear =
         subst (λ (c : List ℕ). Clear (codeRows size valence c)) (sym code-is)
-        (clear-left (codeRows size valence (w .result)) _ (form-accepted centred centred-form size valence (w .result) N E (skeleton-of N E 1 clear) (w .right)))
+        (clear-left (codeRows size valence (w .result)) _ (form-accepted centred centred-form size valence (w .result) N E (skeleton-of clear) (w .right)))
 
     pub code-digits : Code (take N digits)
     code-digits = lawful valence (omega arith) (take N digits) (others code-clear)
@@ -50,7 +50,7 @@ module _ (N : ℕ) (E : List ℕ) (clear : Clear (edgeRows size valence N E 1)) 
 
     pub derived-short : {old new : List ℕ} → length old < n → new ≡ old → Gives (edgeRows size valence N E 1) (ofCentred N E f) old new (refuses 15 n)
     derived-short h e =
-        let (c, x) = centred-form .some N E (skeleton-of N E 1 clear .tree) in refused-short clear all-sized (c, x, refl) h e
+        let (c, x) = centred-form .some N E (skeleton-of clear .tree) in refused-short clear all-sized (c, x, refl) h e
 
     pub derived-given :
         {old new digits before : List ℕ} {m : ℕ} → n ≤ length old → Writes (centred N E) before N digits → Laid (f (take N digits)) old new m

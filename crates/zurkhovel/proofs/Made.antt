@@ -8,7 +8,7 @@ use Rattle.laws.specs.Laid.{laidOver}
 use Rattle.refusal.specs.Table.{Row, Clear, gives, refuses, Gives}
 use Rattle.refusal.specs.Laws.{clear-left, refused-short, given-laid}
 use Rattle.code.specs.Limits.{size, valence}
-use Rattle.adjacency.specs.Adjacency.{camEdges, zeroCam, aEdges, camRows, zeroRows, aRows, madeRows, zeroMost, aMost}
+use Rattle.adjacency.specs.Adjacency.{camEdges, zeroCam, aEdges, camRows, aRows, madeRows, aMost}
 use Rattle.adjacency.specs.Made.{made-length, long}
 use Rattle.adjacency.specs.Zero.{zero-length}
 use Rattle.adjacency.specs.Accepted.{aFront, a-long}

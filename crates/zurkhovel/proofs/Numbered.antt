@@ -5,31 +5,31 @@ use Prim.Native.Nat.{ℕ, _-_, _*_, _≤_, _<_}
 use native.Mathlib.Decide.{ℕ-discrete}
 use native.Mathlib.Omega.{arith}
 use lib.ListN.{length, take}
-use Rattle.laws.specs.Laid.{laidOver, Laid, laid-length}
+use lib.Seq.{length-take-le}
+use Rattle.laws.specs.Laid.{laidOver, Laid}
 use Rattle.laws.specs.Laying.{laid-front}
 use Rattle.refusal.specs.Table.{Clear, Writes, gives, refuses, Gives}
-use Rattle.refusal.specs.Laws.{clear-left, clear-right, never, refused-short, given}
+use Rattle.refusal.specs.Laws.{clear-left, clear-right, never, at-most, refused-short, given}
 use Rattle.code.specs.Limits.{size, valence}
 use Rattle.code.specs.Code.{codeRows, decode}
 use Rattle.code.specs.Right.{Right, right-clear}
 use Rattle.tree.specs.Skeleton.{IsSkeleton}
 use Rattle.skeleton.specs.Edges.{edgeRows}
-use Rattle.skeleton.specs.Theorems.{accepted}
 use Rattle.form.specs.Form.{centred}
 use Rattle.form.specs.Forms.{centred-form, form-size}
 use Rattle.form.specs.Accepted.{right-decoded, form-passes, form-exactly}
 use Rattle.adjacency.specs.Adjacency.{OneLower, lower, Physical, row14, cam}
 use Rattle.adjacency.specs.Coded.{cam-length}
 use Rattle.adjacency.specs.ByCode.{code-physical}
+use Rattle.coding.specs.Learnt.{written, written-length}
 use Rattle.zurkhovel.specs.Matrix.{physicalRows, Numbering, ByCode}
+use Rattle.zurkhovel.specs.Rooting.{Renumbered}
+use Rattle.zurkhovel.proofs.Accepted.{skeleton-of}
 use Rattle.zurkhovel.proofs.Decoded.{edges-length}
-
-pub accepted-skeleton : {most N : ℕ} {E : List ℕ} → Clear (edgeRows most valence N E 1) → IsSkeleton most valence N E
-accepted-skeleton {most} {N} {E} k = accepted most valence N E 1 .0 k .0
 
 module _ {most N : ℕ} {E : List ℕ} (k : Clear (physicalRows most N E)) where
   pub physical-skeleton : IsSkeleton most valence N E
-  physical-skeleton = accepted-skeleton (clear-left (edgeRows most valence N E 1) (row14 N E ∷ []) k)
+  physical-skeleton = skeleton-of (clear-left (edgeRows most valence N E 1) (row14 N E ∷ []) k)
 
   pub physical-numbering : Physical N E
   physical-numbering = record { only = λ v a b. step v a b (ℕ-discrete (length (lower E v)) 1) }
@@ -37,10 +37,6 @@ module _ {most N : ℕ} {E : List ℕ} (k : Clear (physicalRows most N E)) where
       step : (v : ℕ) → 2 ≤ v → v ≤ N → Dec (OneLower E v) → OneLower E v
       step v a b (yes e) = e
       step v a b (no n) = absurd (never (clear-right (edgeRows most valence N E 1) (row14 N E ∷ []) k) v (a, b, n))
-
--- a lower limit of N
-pub wider : {most N : ℕ} {E : List ℕ} → most ≤ size → IsSkeleton most valence N E → IsSkeleton size valence N E
-wider h s = record { tree = s .tree; few = omega (arith, s .few); degrees = s .degrees }
 
 -- two bytes for each edge
 pub skeleton-bytes : {most N : ℕ} {E : List ℕ} → IsSkeleton most valence N E → length E ≡ 2 * (N - 1)
@@ -64,45 +60,53 @@ module _ {most N : ℕ} {E F : List ℕ} (s : IsSkeleton most valence N E) (x : 
 
 -- ---- what is written
 
-module _ {R : List ℕ → Type 0} {old new : List ℕ} {n : ℕ} (w : Writes R old n new) where
-  front : take n new ≡ w .result
-  front = laid-front (w .result) old new n (w .lies) (sym (w .count))
-
-  pub written-front : R (take n new)
-  written-front = rw front (w .right)
-
-  pub written-length : length (take n new) ≡ n
-  written-length = ap length front ∙ sym (w .count)
-
-  pub written-room : n ≤ length old → n ≤ length new
-  written-room h = omega (arith, ap length (w .lies) ∙ laid-length (w .result) old (omega (arith, w .count)))
-
 -- the centred code, and its edges behind it
 module _ {N : ℕ} {E old new : List ℕ} (s : IsSkeleton size valence N E) (w : Writes (centred N E) old N new) where
+  code-right : centred N E (take N new)
+  code-right = rw (written w) (w .right)
+
   pub code-clear : Clear (codeRows size valence (take N new))
-  code-clear = right-clear size valence (take N new) (centred-right s (written-front w))
+  code-clear = right-clear size valence (take N new) (centred-right s code-right)
 
   pub code-bytes : length (decode (take N new)) ≡ 2 * (N - 1)
-  code-bytes = edges-length (take N new) code-clear ∙ ap (λ m. 2 * (m - 1)) (written-length w)
+  code-bytes = edges-length (take N new) code-clear ∙ ap (λ m. 2 * (m - 1)) (sym (written-length w))
 
-  pub code-written : {o p : List ℕ} {r : ℕ} → Laid (decode (take N new)) o p r → Writes (Numbering N E) o (2 * (N - 1)) p
-  code-written l = record {
-    result = decode (take N new);
-    right = record { code = take N new; right = written-front w; edges = refl };
-    count = sym code-bytes;
-    lies = l .lies;
-  }
+  pub code-written :
+      {most : ℕ} {o p : List ℕ} {r : ℕ} → Clear (edgeRows most valence N E 1) → Laid (decode (take N new)) o p r → length p ≡ 2 * (size - 1)
+      → Renumbered most N E p
+  code-written {o = o} {p} k l h =
+      let front : take (2 * (N - 1)) p ≡ decode (take N new) = rw (← code-bytes) (laid-front (decode (take N new)) o p _ (l .lies) refl) in
+      record { clear = k; numbering = record { code = take N new; right = code-right; edges = front }; long = h }
+
+-- the edges by code, as the writers of matrices take them
+module _ {most N : ℕ} {E ends : List ℕ} (t : Renumbered most N E ends) where
+  pub ends-within : most ≤ size → 2 * (N - 1) ≤ length ends
+  ends-within l = omega (arith, t .long, at-most (t .clear))
+
+  pub ends-length : most ≤ size → length (take (2 * (N - 1)) ends) ≡ 2 * (N - 1)
+  ends-length l = length-take-le (2 * (N - 1)) ends (ends-within l)
+
+  pub ends-skeleton : IsSkeleton most valence N (take (2 * (N - 1)) ends)
+  ends-skeleton = numbering-skeleton (skeleton-of (t .clear)) (t .numbering)
+
+  pub ends-physical : Physical N (take (2 * (N - 1)) ends)
+  ends-physical = numbering-physical (skeleton-of (t .clear)) (t .numbering)
+
+  -- what is made of them is made by code
+  pub made-by-code : {A : Type 0} (of : List ℕ → A) {a : A} → a ≡ of (take (2 * (N - 1)) ends) → ByCode of N E a
+  made-by-code of e = record { edges = take (2 * (N - 1)) ends; numbering = t .numbering; is = e }
 
 -- the CAM by code
 cam-sized : (N : ℕ) (E c : List ℕ) → ByCode (cam N) N E c → length c ≡ N - 1
 cam-sized N E c b = ap length (b .is) ∙ cam-length N (b .edges)
 
-module _ {N : ℕ} {E : List ℕ} (k : Clear (edgeRows size valence N E 1)) {old new : List ℕ} where
+module _ {N : ℕ} {E ends old new : List ℕ} (t : Renumbered size N E ends) where
   pub cam-short : length old < N - 1 → new ≡ old → Gives (edgeRows size valence N E 1) (ByCode (cam N) N E) old new (refuses 15 (N - 1))
-  cam-short h e =
-      let (c, x) = centred-form .some N E (accepted-skeleton k .tree) in
-      refused-short k (cam-sized N E) (record { edges = decode c; numbering = record { code = c; right = x; edges = refl }; is = refl }) h e
+  cam-short h e = refused-short (t .clear) (cam-sized N E) (made-by-code t (cam N) refl) h e
 
-  pub cam-given : {F : List ℕ} → N - 1 ≤ length old → Numbering N E F → new ≡ laidOver (cam N F) old → Gives (edgeRows size valence N E 1) (ByCode (cam N) N E) old new (gives (N - 1))
-  cam-given {F} h x e =
-      given k (cam-sized N E) h (record { result = cam N F; right = record { edges = F; numbering = x; is = refl }; count = sym (cam-length N F); lies = e })
+  pub cam-given :
+      N - 1 ≤ length old → new ≡ laidOver (cam N (take (2 * (N - 1)) ends)) old
+      → Gives (edgeRows size valence N E 1) (ByCode (cam N) N E) old new (gives (N - 1))
+  cam-given h e =
+      let F = take (2 * (N - 1)) ends in
+      given (t .clear) (cam-sized N E) h (record { result = cam N F; right = made-by-code t (cam N) refl; count = sym (cam-length N F); lies = e })

@@ -1,5 +1,4 @@
 -- The promise of the call on equal vertices. Assumes nothing.
-use mathlib.Core.Path.{_≡_}
 use mathlib.Core.List.{List}
 use Prim.Native.Nat.{ℕ}
 use Rattle.refusal.specs.Table.{Outcome, Gives}

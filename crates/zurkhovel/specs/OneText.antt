@@ -1,8 +1,8 @@
 -- Read from its promise alone, every call on lines, and the call on equal vertices, has one possible answer and one possible state of what it
 -- is lent. Assumes nothing.
-use mathlib.Core.Path.{_≡_, refl, sym, ap, _∙_}
+use mathlib.Core.Path.{_≡_, sym, ap, _∙_}
 use mathlib.Core.List.{List}
-use Prim.Native.Nat.{ℕ, _+_}
+use Prim.Native.Nat.{ℕ}
 use native.Mathlib.Omega.{arith}
 use Rattle.refusal.specs.Table.{Clear, Outcome}
 use Rattle.code.specs.Limits.{size, valence}

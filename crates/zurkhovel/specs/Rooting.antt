@@ -1,15 +1,26 @@
--- What the coding of a bit form knows once the edge list is judged: the rooted code, or the lowest number that applies at its first
--- place. No promise cites it. Assumes nothing.
+-- What the private helpers of the public calls know: of an edge list that is judged, its rooted code or its edges by code; of digits that
+-- a bit form was read to, their edges. No promise cites it. Assumes nothing.
 use mathlib.Core.Path.{_≡_}
 use mathlib.Core.List.{List}
-use Prim.Native.Nat.{ℕ}
+use Prim.Native.Nat.{ℕ, _-_, _*_, _≤_}
 use lib.ListN.{length, take}
-use Rattle.refusal.specs.Table.{Clear, Lowest}
+use Rattle.refusal.specs.Table.{Row, Clear, Lowest}
+use Rattle.refusal.specs.Outcome.{told}
+use Rattle.refusal.specs.declared.Answer.{Answer}
+use Rattle.refusal.specs.declared.Answer.the-variants.{Done, Refused}
 use Rattle.refusal.specs.declared.Check.{Check}
 use Rattle.refusal.specs.declared.Check.the-variants.{Passed, Refuse}
 use Rattle.code.specs.Limits.{size, valence}
+use Rattle.code.specs.Code.{codeRows}
 use Rattle.tree.specs.Skeleton.{rooted}
 use Rattle.skeleton.specs.Edges.{edgeRows}
+use Rattle.zurkhovel.specs.Codes.{LaysEdges}
+use Rattle.zurkhovel.specs.Matrix.{Numbering}
+
+-- what is Known where none of rs applies, or the lowest number that does, at its first place
+abbrev pub Judged : List Row → Type 0 → Check → Type 0
+Judged rs Known Passed = Known
+Judged rs Known (Refuse k p) = Lowest rs k p
 
 -- no row applies, and the code stands at the start of code
 pub record Rooted (most N : ℕ) (E : List ℕ) (r : ℕ) (code : List ℕ) : Type 0 where
@@ -17,6 +28,24 @@ pub record Rooted (most N : ℕ) (E : List ℕ) (r : ℕ) (code : List ℕ) : Ty
   pub digits : take N code ≡ rooted N E r
   pub long : length code ≡ size
 
-pub data Rooting (most N : ℕ) (E : List ℕ) (r : ℕ) (code : List ℕ) : Check → Type 0 where
-  coded : Rooted most N E r code → Rooting most N E r code Passed
-  refused : {k p : ℕ} → Lowest (edgeRows most valence N E r) k p → Rooting most N E r code (Refuse k p)
+abbrev pub Rooting : ℕ → ℕ → List ℕ → ℕ → List ℕ → Check → Type 0
+Rooting most N E r code a = Judged (edgeRows most valence N E r) (Rooted most N E r code) a
+
+-- no row applies, and the edges by code stand at the start of ends
+pub record Renumbered (most N : ℕ) (E ends : List ℕ) : Type 0 where
+  pub clear : Clear (edgeRows most valence N E 1)
+  pub numbering : Numbering N E (take (2 * (N - 1)) ends)
+  pub long : length ends ≡ 2 * (size - 1)
+
+abbrev pub Renumbering : ℕ → ℕ → List ℕ → List ℕ → Check → Type 0
+Renumbering most N E ends a = Judged (edgeRows most valence N E 1) (Renumbered most N E ends) a
+
+-- the digits that were read are a right code, if the form was not refused
+abbrev pub Readable : List ℕ → Answer → Type 0
+Readable digits (Done n) = Clear (codeRows size valence (take n digits)) × (n ≤ length digits)
+Readable digits (Refused k p) = Unit {0}
+
+-- their edges; a refusal stays, and nothing is written
+abbrev pub EdgesOf : List ℕ → List ℕ → List ℕ → Answer → Answer → Type 0
+EdgesOf digits old new (Done n) r = LaysEdges (take n digits) old new (told r)
+EdgesOf digits old new (Refused k p) r = (r ≡ Refused k p) × (new ≡ old)

@@ -11,7 +11,7 @@ ghost use Rattle.refusal.specs.Table.{Gives};
 ghost use Rattle.refusal.specs.Outcome.{told, numbered};
 ghost use Rattle.code.specs.Limits.{size};
 ghost use Rattle.fraction.specs.Outcome as fraction;
-ghost use Rattle.zurkhovel.specs.Rooting.{Rooting};
+ghost use Rattle.zurkhovel.specs.Rooting.{Rooting, Readable, EdgesOf};
 ghost use Rattle.zurkhovel.specs.Bits.{Pack, Unpack, Whole, Unwhole, InFraction, Unfraction};
 
 // The rooted code at a vertex of a skeleton of at most `most` vertices.
@@ -71,15 +71,24 @@ pub fn fraction(n: usize, edges: &[u8], root: usize) -> Fraction
     }
 }
 
+// The edges of the code that a form was read to; a refusal stays.
+fn edges_of(read: Answer, digits: &[u8], out: &mut [u8]) -> Answer
+    requires { ⌜ Readable (now digits) read ⌝ }
+    ensures { λ r. ⌜ EdgesOf (now (digits .entry)) (now (out .entry)) (now (out .exit)) read r ⌝ }
+{
+    match read {
+        Answer::Refused(k, p) => Answer::Refused(k, p),
+        Answer::Done(n) => super::codes::lay_edges(&digits[..n], out),
+    }
+}
+
 // The edges of the code in a packed code.
 pub fn unpack(bytes: &[u8], out: &mut [u8]) -> Answer
     ensures { λ r. ⌜ Unpack (now (bytes .entry)) (now (out .entry)) (now (out .exit)) (told r) ⌝ }
 {
     let mut digits = [0u8; 64];
-    match bits::packed_code(bytes, &mut digits) {
-        Answer::Refused(k, p) => Answer::Refused(k, p),
-        Answer::Done(n) => super::codes::lay_edges(&digits[..n], out),
-    }
+    let read = bits::packed_code(bytes, &mut digits);
+    edges_of(read, &digits, out)
 }
 
 // The edges of the code in a whole number, with N beside it.
@@ -87,10 +96,8 @@ pub fn unwhole(n: usize, value: u64, out: &mut [u8]) -> Answer
     ensures { λ r. ⌜ Unwhole n value (now (out .entry)) (now (out .exit)) (told r) ⌝ }
 {
     let mut digits = [0u8; 64];
-    match bits::number_code(n, value, &mut digits) {
-        Answer::Refused(k, p) => Answer::Refused(k, p),
-        Answer::Done(m) => super::codes::lay_edges(&digits[..m], out),
-    }
+    let read = bits::number_code(n, value, &mut digits);
+    edges_of(read, &digits, out)
 }
 
 // The edges of the code in a fraction.
@@ -98,8 +105,6 @@ pub fn unfraction(x: f64, out: &mut [u8]) -> Answer
     ensures { λ r. ⌜ Unfraction x (now (out .entry)) (now (out .exit)) (told r) ⌝ }
 {
     let mut digits = [0u8; 64];
-    match fraction::fraction_code(x, &mut digits) {
-        Answer::Refused(k, p) => Answer::Refused(k, p),
-        Answer::Done(n) => super::codes::lay_edges(&digits[..n], out),
-    }
+    let read = fraction::fraction_code(x, &mut digits);
+    edges_of(read, &digits, out)
 }

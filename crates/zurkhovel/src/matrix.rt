@@ -5,12 +5,13 @@ use refusal::Number;
 ghost use mathlib.Core.Path.{_≡_};
 ghost use Prim.Native.Nat.{_-_, _*_, _≤_};
 ghost use lib.ListN.{length};
-ghost use Rattle.refusal.specs.Table.{Answers, Writes};
+ghost use Rattle.refusal.specs.Table.{Answers};
 ghost use Rattle.refusal.specs.Outcome.{told, numbered};
 ghost use Rattle.code.specs.Limits.{size, valence};
 ghost use Rattle.tree.specs.Skeleton.{IsSkeleton};
 ghost use Rattle.adjacency.specs.Adjacency as adjacency;
-ghost use Rattle.zurkhovel.specs.Matrix.{DecodeCam, DecodeZeroA, DecodeAZero, physicalRows, Numbering, Cam, ZeroA, AZero, CamByCode, ZeroAByCode, AZeroByCode};
+ghost use Rattle.zurkhovel.specs.Rooting.{Renumbering};
+ghost use Rattle.zurkhovel.specs.Matrix.{DecodeCam, DecodeZeroA, DecodeAZero, physicalRows, Cam, ZeroA, AZero, CamByCode, ZeroAByCode, AZeroByCode};
 
 // The edges (lower, higher) of a CAM, in order of the higher.
 pub fn decode_cam(n: usize, cam: &[u8], out: &mut [u8]) -> Answer
@@ -115,21 +116,26 @@ pub fn a_zero(n: usize, edges: &[u8]) -> Number
     Number::Value(adjacency::a_zero(n, edges))
 }
 
-// The edges of a skeleton in the numbering by code.
-fn by_code(n: usize, edges: &[u8], out: &mut [u8])
-    requires { ⌜ IsSkeleton size valence n (now edges) × (2 * (n - 1) ≤ length (now out)) ⌝ }
-    ensures { λ _. ⌜ Writes (Numbering n (now (edges .entry))) (now (out .entry)) (2 * (n - 1)) (now (out .exit)) ⌝ }
+// The edges in the numbering by code of a skeleton of at most `most` vertices.
+fn by_code(most: usize, n: usize, edges: &[u8], ends: &mut [u8]) -> Check
+    requires { ⌜ (most ≤ size) × (length (now ends) ≡ 2 * (size - 1)) ⌝ }
+    ensures { λ r. ⌜ Renumbering most n (now (edges .entry)) (now (ends .exit)) r ⌝ }
 {
+    if let Check::Refuse(k, p) = skeleton::check(most, n, edges, 1) {
+        return Check::Refuse(k, p);
+    }
     let mut code = [0u8; 64];
     coding::centred(n, edges, &mut code);
-    code::write_edges(&code[..n], out);
+    code::write_edges(&code[..n], ends);
+    Check::Passed
 }
 
 // The CAM by code.
 pub fn cam_by_code(n: usize, edges: &[u8], out: &mut [u8]) -> Answer
     ensures { λ r. ⌜ CamByCode n (now (edges .entry)) (now (out .entry)) (now (out .exit)) (told r) ⌝ }
 {
-    if let Check::Refuse(k, p) = skeleton::check(64, n, edges, 1) {
+    let mut ends = [0u8; 126];
+    if let Check::Refuse(k, p) = by_code(64, n, edges, &mut ends) {
         return Answer::Refused(k, p);
     }
     let need = n - 1;
@@ -137,8 +143,6 @@ pub fn cam_by_code(n: usize, edges: &[u8], out: &mut [u8]) -> Answer
         return Answer::Refused(15, need);
     }
     let m = 2 * need;
-    let mut ends = [0u8; 126];
-    by_code(n, edges, &mut ends);
     adjacency::write_cam(n, &ends[..m], out);
     Answer::Done(need)
 }
@@ -147,12 +151,11 @@ pub fn cam_by_code(n: usize, edges: &[u8], out: &mut [u8]) -> Answer
 pub fn zero_a_by_code(n: usize, edges: &[u8]) -> Number
     ensures { λ r. ⌜ ZeroAByCode n (now (edges .entry)) (numbered r) ⌝ }
 {
-    if let Check::Refuse(k, p) = skeleton::check(21, n, edges, 1) {
+    let mut ends = [0u8; 126];
+    if let Check::Refuse(k, p) = by_code(21, n, edges, &mut ends) {
         return Number::Refused(k, p);
     }
     let m = 2 * (n - 1);
-    let mut ends = [0u8; 126];
-    by_code(n, edges, &mut ends);
     Number::Value(zero_of(n, &ends[..m]))
 }
 
@@ -160,11 +163,10 @@ pub fn zero_a_by_code(n: usize, edges: &[u8]) -> Number
 pub fn a_zero_by_code(n: usize, edges: &[u8]) -> Number
     ensures { λ r. ⌜ AZeroByCode n (now (edges .entry)) (numbered r) ⌝ }
 {
-    if let Check::Refuse(k, p) = skeleton::check(11, n, edges, 1) {
+    let mut ends = [0u8; 126];
+    if let Check::Refuse(k, p) = by_code(11, n, edges, &mut ends) {
         return Number::Refused(k, p);
     }
     let m = 2 * (n - 1);
-    let mut ends = [0u8; 126];
-    by_code(n, edges, &mut ends);
     Number::Value(adjacency::a_zero(n, &ends[..m]))
 }

@@ -9,7 +9,7 @@ use Rattle.code.specs.Limits.{size, valence}
 use Rattle.skeleton.specs.Edges.{edgeRows}
 use Rattle.vertices.specs.Vertices.{classes}
 use Rattle.vertices.specs.Theorems.{classes-numbered}
-use Rattle.zurkhovel.proofs.Coded.{skeleton-of}
+use Rattle.zurkhovel.proofs.Accepted.{skeleton-of}
 use Rattle.zurkhovel.proofs.Derived.{code-clear, code-size, derived-short, derived-given}
 use Rattle.zurkhovel.proofs.alike.equal_vertices.Statement.{statement}
 use Rattle.zurkhovel.proofs.alike.equal_vertices.Tie as tie
@@ -31,7 +31,7 @@ equal-vertices-spec =
     (λ c. search needs)
     (λ c. let d = c .before in derived-short (start d .args .n) (now (start d .args .edges)) (clear d) classes (start d .args .n) (λ x e. classes-numbered x .count ∙ e) (c .if1 .taken) refl)
     (λ c. search needs)
-    (λ c κs. let d = c .before .before in (skeleton-of (start d .args .n) (now (start d .args .edges)) 1 (clear d), omega (arith, at-most (clear d))))
+    (λ c κs. let d = c .before .before in (skeleton-of (clear d), omega (arith, at-most (clear d))))
     (λ c. let d = c .before .before .before .before in omega (arith, at-most (clear d)))
     (λ c. let d = c .before .before .before .before .before in sym (code-size (start d .args .n) (now (start d .args .edges)) (clear d) (c .before .before .centred .ensures)))
     (λ c κs. let d = c .before .before .before .before .before .before in

@@ -4,7 +4,7 @@ use native.Mathlib.Omega.{arith}
 use borrow.Author.Needs.{needs}
 use Rattle.refusal.specs.Table.{left}
 use Rattle.fraction.specs.Fraction.{IsFraction}
-use Rattle.zurkhovel.proofs.Rooted.{was-refused, was-rooted, digits-length, digits-within, digits-coded, value-given}
+use Rattle.zurkhovel.proofs.Rooted.{digits-length, digits-within, digits-coded, value-given}
 use Rattle.zurkhovel.proofs.bit_tuple.fraction.Statement.{statement}
 use Rattle.zurkhovel.proofs.bit_tuple.fraction.Tie as tie
 
@@ -16,9 +16,9 @@ fraction-spec =
     (λ c κs. search needs)
     (λ c. search needs)
     (λ c. search needs)
-    (λ c. let t = was-rooted (c .before .before .before .rooted .ensures) (c .enum-told .given .1) in omega (arith, digits-within t (omega arith), t .long))
-    (λ c. let e = c .before in sym (digits-length (was-rooted (e .before .before .before .rooted .ensures) (e .enum-told .given .1))))
-    (λ c κs. let e = c .before in digits-coded (was-rooted (e .before .before .before .rooted .ensures) (e .enum-told .given .1)))
-    (λ c. left (was-refused (c .before .before .before .before .rooted .ensures) (c .before .k .given .1)) refl)
+    (λ c. let t = rw (c .enum-told .given .1) at (c .before .before .before .rooted .ensures) in omega (arith, digits-within t (omega arith), t .long))
+    (λ c. let e = c .before in sym (digits-length (rw (e .enum-told .given .1) at (e .before .before .before .rooted .ensures))))
+    (λ c κs. let e = c .before in digits-coded (rw (e .enum-told .given .1) at (e .before .before .before .rooted .ensures)))
+    (λ c. left (rw (c .before .k .given .1) at (c .before .before .before .before .rooted .ensures)) refl)
     (λ c. let e = c .before .before in
-    value-given IsFraction (was-rooted (e .before .before .before .rooted .ensures) (e .enum-told .given .1)) (c .fraction-of .ensures)))
+    value-given IsFraction (rw (e .enum-told .given .1) at (e .before .before .before .rooted .ensures)) (c .fraction-of .ensures)))

@@ -1,7 +1,5 @@
 -- `zurkhovel::bit_tuple::laid` meets its contract. Assumes nothing.
 use mathlib.Core.Path.{refl, ap}
-use mathlib.Core.List.{[]}
-use native.Mathlib.Omega.{arith}
 use lib.ListN.{length}
 use borrow.Author.Needs.{needs}
 use Rattle.refusal.specs.Laws.{refused-short, given-laid}

@@ -3,8 +3,8 @@ use native.Mathlib.Omega.{arith}
 use denote.Ref.{now}
 use borrow.Author.Needs.{needs}
 use Rattle.refusal.specs.Laws.{was-clear, was-lowest}
-use Rattle.zurkhovel.specs.Rooting.{refused}
-use Rattle.zurkhovel.proofs.Rooted.{as-skeleton, as-root, coded-at}
+use Rattle.zurkhovel.proofs.Accepted.{skeleton-of, root-of, wider}
+use Rattle.zurkhovel.proofs.Rooted.{coded-at}
 use Rattle.zurkhovel.proofs.bit_tuple.rooted.Statement.{statement}
 use Rattle.zurkhovel.proofs.bit_tuple.rooted.Tie as tie
 
@@ -14,14 +14,13 @@ rooted-spec =
     (tie.spec
     (λ c κs. search needs)
     (λ c. search needs)
-    (λ c. refused (was-lowest (c .before .before .before .check .ensures) (c .before .k .given .1)))
+    (λ c. was-lowest (c .before .before .before .check .ensures) (c .before .k .given .1))
     (λ c. search needs)
     (λ c κs. let s = c .before .before .before .before .before .before in
     let k = was-clear (c .before .before .before .check .ensures) (c .before .enum-told .given .1) in
-    let t = as-skeleton (s .args .most) (s .args .n) (now (s .args .edges)) (s .args .root) k (s .pre .0) in
-    let i = as-root (s .args .most) (s .args .n) (now (s .args .edges)) (s .args .root) k in
+    let t = wider (s .pre .0) (skeleton-of k) in
+    let i = root-of (now (s .args .edges)) k in
     (t, (i .0, i .1, omega (arith, t .few, s .pre .1))))
     (λ c. search needs)
     (λ c. let d = c .before .before .before .before in
-    let s = d .before .before .before .before .before in
-    coded-at (s .args .most) (s .args .n) (now (s .args .edges)) (s .args .root) (was-clear (d .before .before .check .ensures) (d .enum-told .given .1)) (c .before .before .rooted .ensures) (search needs)))
+    coded-at _ (was-clear (d .before .before .check .ensures) (d .enum-told .given .1)) (c .before .before .rooted .ensures) (search needs)))

@@ -4,7 +4,8 @@ use denote.Ref.{now}
 use borrow.Author.Needs.{needs}
 use Rattle.refusal.specs.Laws.{was-clear, was-lowest, refused-first}
 use Rattle.form.specs.Form.{centred}
-use Rattle.zurkhovel.proofs.Decoded.{right-of, given-behind}
+use Rattle.zurkhovel.proofs.Behind.{behind-same}
+use Rattle.zurkhovel.proofs.Decoded.{right-of}
 use Rattle.zurkhovel.proofs.codes.decode_centred.Statement.{statement}
 use Rattle.zurkhovel.proofs.codes.decode_centred.Tie as tie
 
@@ -18,4 +19,4 @@ decode-centred-spec =
     (λ c. search needs)
     (λ c κs. right-of centred (now (c .before .before .before .before .before .before .args .code)) (was-clear (c .before .before .before .check .ensures) (c .before .enum-told .given .1)))
     (λ c. search needs)
-    (λ c. let d = c .before .before .before .before in given-behind (was-clear (d .before .before .check .ensures) (d .enum-told .given .1)) (c .before .before .lay-edges .ensures)))
+    (λ c. let d = c .before .before .before .before in behind-same (was-clear (d .before .before .check .ensures) (d .enum-told .given .1)) (c .before .before .lay-edges .ensures)))

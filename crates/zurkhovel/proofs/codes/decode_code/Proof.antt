@@ -2,7 +2,7 @@
 use mathlib.Core.Path.{refl}
 use borrow.Author.Needs.{needs}
 use Rattle.refusal.specs.Laws.{was-clear, was-lowest, refused-first}
-use Rattle.zurkhovel.proofs.Decoded.{given-behind}
+use Rattle.zurkhovel.proofs.Behind.{behind-same}
 use Rattle.zurkhovel.proofs.codes.decode_code.Statement.{statement}
 use Rattle.zurkhovel.proofs.codes.decode_code.Tie as tie
 
@@ -16,4 +16,4 @@ decode-code-spec =
     (λ c. search needs)
     (λ c κs. was-clear (c .before .before .before .check .ensures) (c .before .enum-told .given .1))
     (λ c. search needs)
-    (λ c. let d = c .before .before .before .before in given-behind (was-clear (d .before .before .check .ensures) (d .enum-told .given .1)) (c .before .before .lay-edges .ensures)))
+    (λ c. let d = c .before .before .before .before in behind-same (was-clear (d .before .before .check .ensures) (d .enum-told .given .1)) (c .before .before .lay-edges .ensures)))

@@ -4,7 +4,8 @@ use denote.Ref.{now}
 use borrow.Author.Needs.{needs}
 use Rattle.refusal.specs.Laws.{was-clear, was-lowest, refused-first}
 use Rattle.form.specs.Form.{nTuple}
-use Rattle.zurkhovel.proofs.Decoded.{right-of, given-behind}
+use Rattle.zurkhovel.proofs.Behind.{behind-same}
+use Rattle.zurkhovel.proofs.Decoded.{right-of}
 use Rattle.zurkhovel.proofs.codes.decode_n_tuple.Statement.{statement}
 use Rattle.zurkhovel.proofs.codes.decode_n_tuple.Tie as tie
 
@@ -18,4 +19,4 @@ decode-n-tuple-spec =
     (λ c. search needs)
     (λ c κs. right-of nTuple (now (c .before .before .before .before .before .before .args .code)) (was-clear (c .before .before .before .check-n-tuple .ensures) (c .before .enum-told .given .1)))
     (λ c. search needs)
-    (λ c. let d = c .before .before .before .before in given-behind (was-clear (d .before .before .check-n-tuple .ensures) (d .enum-told .given .1)) (c .before .before .lay-edges .ensures)))
+    (λ c. let d = c .before .before .before .before in behind-same (was-clear (d .before .before .check-n-tuple .ensures) (d .enum-told .given .1)) (c .before .before .lay-edges .ensures)))

@@ -7,7 +7,7 @@ use Rattle.refusal.specs.Laws.{was-clear, was-lowest}
 use Rattle.code.specs.Limits.{valence}
 use Rattle.skeleton.specs.Edges.{edgeRows}
 use Rattle.adjacency.specs.Adjacency.{aMost}
-use Rattle.zurkhovel.proofs.Numbered.{accepted-skeleton}
+use Rattle.zurkhovel.proofs.Accepted.{skeleton-of}
 use Rattle.zurkhovel.proofs.matrix.a_zero.Statement.{statement}
 use Rattle.zurkhovel.proofs.matrix.a_zero.Tie as tie
 
@@ -26,5 +26,5 @@ a-zero-spec =
     (λ c. search needs)
     (λ c. left (was-lowest (c .before .before .before .check .ensures) (c .before .k .given .1)) refl)
     (λ c. search needs)
-    (λ c κs. accepted-skeleton (clear c))
+    (λ c κs. skeleton-of (clear c))
     (λ c. kept (clear (c .before)) (c .a-zero .ensures)))

@@ -1,51 +1,31 @@
 -- `zurkhovel::matrix::a_zero_by_code` keeps its promise. Assumes nothing.
 use mathlib.Core.Path.{refl, sym}
-use Prim.Native.Nat.{_-_, _*_}
 use native.Mathlib.Omega.{arith}
-use lib.ListN.{take}
 use denote.Ref.{now}
 use borrow.Author.Needs.{needs}
-use Rattle.refusal.specs.Table.{Clear, kept, left}
-use Rattle.refusal.specs.Laws.{was-clear, was-lowest, at-least, at-most}
-use Rattle.code.specs.Limits.{valence}
-use Rattle.skeleton.specs.Edges.{edgeRows}
-use Rattle.tree.specs.Skeleton.{IsSkeleton}
+use Rattle.refusal.specs.Table.{kept, left}
+use Rattle.refusal.specs.Laws.{at-least, at-most}
 use Rattle.adjacency.specs.Adjacency.{aMost}
-use Rattle.zurkhovel.specs.Matrix.{Numbering}
-use Rattle.zurkhovel.proofs.Numbered.{accepted-skeleton, wider, numbering-skeleton, written-front, written-length, written-room}
+use Rattle.zurkhovel.specs.Rooting.{Renumbered}
+use Rattle.zurkhovel.proofs.Numbered.{ends-within, ends-length, ends-skeleton, made-by-code}
 use Rattle.zurkhovel.proofs.matrix.a_zero_by_code.Statement.{statement}
 use Rattle.zurkhovel.proofs.matrix.a_zero_by_code.Tie as tie
 
-abbrev start : tie.After-enum-told → tie.Start
-start c = c .before .before .before .before
-
--- what is known behind the check
-clear : (c : tie.After-enum-told) → Clear (edgeRows aMost valence (start c .args .n) (now (start c .args .edges)) 1)
-clear c = was-clear (c .before .before .check .ensures) (c .enum-told .given .1)
-
-abbrev told : tie.After-by-code → tie.After-enum-told
-told c = c .before .before
-
-found : (c : tie.After-by-code) → IsSkeleton aMost valence (start (told c) .args .n) (now (start (told c) .args .edges))
-found c = accepted-skeleton (clear (told c))
-
--- the array holds the edges by code
-ends : (c : tie.After-by-code) → Numbering (start (told c) .args .n) (now (start (told c) .args .edges)) (take (2 * (start (told c) .args .n - 1)) (c .by-code .last .1 .1 .0))
-ends c = written-front (c .by-code .ensures)
+known : (c : tie.After-enum-told) → Renumbered aMost (c .before .before .before .before .before .before .args .n) (now (c .before .before .before .before .before .before .args .edges)) (c .before .before .before .by-code .last .1 .1 .1 .0)
+known c = rw (c .enum-told .given .1) at (c .before .before .before .by-code .ensures)
 
 pub a-zero-by-code-spec : {M : Type 1} → statement M
 a-zero-by-code-spec =
     tie.close
     (tie.spec
+    (λ c. search needs)
     (λ c κs. search needs)
     (λ c. search needs)
-    (λ c. left (was-lowest (c .before .before .before .check .ensures) (c .before .k .given .1)) refl)
+    (λ c. left (rw (c .before .k .given .1) at (c .before .before .before .before .by-code .ensures)) refl)
     (λ c. search needs)
-    (λ c. at-least (clear c))
-    (λ c. omega (arith, at-most (clear c)))
-    (λ c. search needs)
-    (λ c κs. let s = accepted-skeleton (clear (c .before)) in (wider (omega arith) s, omega (arith, s .few)))
-    (λ c. written-room (c .before .by-code .ensures) (omega (arith, found (c .before) .few)))
-    (λ c. sym (written-length (c .before .before .by-code .ensures)))
-    (λ c κs. let w = c .before .before in numbering-skeleton (found w) (ends w))
-    (λ c. let w = c .before .before .before in kept (clear (told w)) (record { edges = _; numbering = ends w; is = c .a-zero .ensures })))
+    (λ c. at-least (known c .clear))
+    (λ c. omega (arith, at-most (known c .clear)))
+    (λ c. ends-within (known c) (omega arith))
+    (λ c. sym (ends-length (known (c .before)) (omega arith)))
+    (λ c κs. let t = known (c .before) in ends-skeleton t)
+    (λ c. let t = known (c .before .before) in kept (t .clear) (made-by-code t _ (c .a-zero .ensures))))

@@ -1,24 +1,40 @@
 -- `zurkhovel::matrix::by_code` meets its contract. Assumes nothing.
-use mathlib.Core.Path.{sym}
 use native.Mathlib.Omega.{arith}
+use denote.Ref.{now}
 use borrow.Author.Needs.{needs}
-use Rattle.zurkhovel.proofs.Numbered.{written-length, code-clear, code-bytes, code-written}
+use Rattle.refusal.specs.Table.{Clear}
+use Rattle.refusal.specs.Laws.{was-clear, was-lowest}
+use Rattle.code.specs.Limits.{size, valence}
+use Rattle.tree.specs.Skeleton.{IsSkeleton}
+use Rattle.skeleton.specs.Edges.{edgeRows}
+use Rattle.coding.specs.Learnt.{written-room, written-length}
+use Rattle.zurkhovel.proofs.Accepted.{skeleton-of, wider}
+use Rattle.zurkhovel.proofs.Numbered.{code-clear, code-bytes, code-written}
 use Rattle.zurkhovel.proofs.matrix.by_code.Statement.{statement}
 use Rattle.zurkhovel.proofs.matrix.by_code.Tie as tie
 
-abbrev start : tie.After-centred → tie.Start
-start c = c .before .before .before .before
+abbrev start : tie.After-enum-told → tie.Start
+start c = c .before .before .before .before .before
+
+-- what is known behind the check
+clear : (c : tie.After-enum-told) → Clear (edgeRows (start c .args .most) valence (start c .args .n) (now (start c .args .edges)) 1)
+clear c = was-clear (c .before .before .check .ensures) (c .enum-told .given .1)
+
+found : (c : tie.After-enum-told) → IsSkeleton size valence (start c .args .n) (now (start c .args .edges))
+found c = wider (start c .pre .0) (skeleton-of (clear c))
 
 pub by-code-spec : {M : Type 1} → statement M
 by-code-spec =
     tie.close
     (tie.spec
-    (λ c. search needs)
     (λ c κs. search needs)
     (λ c. search needs)
-    (λ c. sym (written-length (c .before .before .centred .ensures)))
-    (λ c κs. let w = c .before .before .before in
-    let p = start w .pre in
-    (code-clear (p .0) (w .centred .ensures), omega (arith, p .1, code-bytes (p .0) (w .centred .ensures))))
+    (λ c. was-lowest (c .before .before .before .check .ensures) (c .before .k .given .1))
     (λ c. search needs)
-    (λ c. let w = c .before .before .before .before .before .before in code-written (start w .pre .0) (w .centred .ensures) (c .before .before .write-edges .ensures)))
+    (λ c. search needs)
+    (λ c κs. let s = found (c .before) in (s, s .few))
+    (λ c. written-room (c .before .centred .ensures))
+    (λ c. written-length (c .before .before .centred .ensures))
+    (λ c κs. let d = c .before .before .before .before .before in let w = c .before .before .before .centred .ensures in (code-clear (found d) w, omega (arith, start d .pre .1, code-bytes (found d) w, found d .few)))
+    (λ c. search needs)
+    (λ c. let d = c .before .before .before .before .before .before .before .before in code-written (found d) (c .before .before .before .before .before .before .centred .ensures) (clear d) (c .before .before .write-edges .ensures) (search needs)))

@@ -4,7 +4,7 @@ use native.Mathlib.Omega.{arith}
 use borrow.Author.Needs.{needs}
 use Rattle.refusal.specs.Laws.{was-clear, stops, goes-on}
 use Rattle.adjacency.specs.Plain.{numbered}
-use Rattle.zurkhovel.proofs.Numbered.{accepted-skeleton}
+use Rattle.zurkhovel.proofs.Accepted.{skeleton-of}
 use Rattle.zurkhovel.proofs.matrix.check.Statement.{statement}
 use Rattle.zurkhovel.proofs.matrix.check.Tie as tie
 
@@ -16,5 +16,5 @@ check-spec =
     (λ c. search needs)
     (λ c. stops _ refl (c .before .before .before .check .ensures) (c .before .k .given .1))
     (λ c. search needs)
-    (λ c κs. let s = accepted-skeleton (was-clear (c .before .before .check .ensures) (c .enum-told .given .1)) in (numbered s, omega (arith, s .few, c .before .before .before .before .pre)))
+    (λ c κs. let s = skeleton-of (was-clear (c .before .before .check .ensures) (c .enum-told .given .1)) in (numbered s, omega (arith, s .few, c .before .before .before .before .pre)))
     (λ c. goes-on (c .before .before .before .check .ensures) (c .before .enum-told .given .1) (c .physical .ensures)))

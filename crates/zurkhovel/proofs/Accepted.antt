@@ -1,0 +1,27 @@
+-- What an accepted edge list is: a skeleton, and a root among its vertices. Assumes nothing.
+use mathlib.Core.Path.{_≡_}
+use mathlib.Core.List.{List}
+use Prim.Native.Nat.{ℕ, _≤_}
+use native.Mathlib.Omega.{arith}
+use lib.ListN.{length}
+use Rattle.refusal.specs.Table.{Clear}
+use Rattle.code.specs.Limits.{size, valence}
+use Rattle.tree.specs.Skeleton.{IsSkeleton, rooted}
+use Rattle.tree.specs.Theorems as Theorems
+use Rattle.skeleton.specs.Edges.{edgeRows}
+use Rattle.skeleton.specs.Theorems.{accepted}
+
+pub skeleton-of : {most N r : ℕ} {E : List ℕ} → Clear (edgeRows most valence N E r) → IsSkeleton most valence N E
+skeleton-of {most} {N} {r} {E} k = accepted most valence N E r .0 k .0
+
+module _ {most N r : ℕ} (E : List ℕ) (k : Clear (edgeRows most valence N E r)) where
+  pub root-of : (1 ≤ r) × (r ≤ N)
+  root-of = accepted most valence N E r .0 k .1
+
+  -- its code has N digits
+  pub rooted-size : length (rooted N E r) ≡ N
+  rooted-size = Theorems.size N E r (skeleton-of k .tree) (root-of .0) (root-of .1)
+
+-- a lower limit of N
+pub wider : {most N : ℕ} {E : List ℕ} → most ≤ size → IsSkeleton most valence N E → IsSkeleton size valence N E
+wider h s = record { tree = s .tree; few = omega (arith, s .few); degrees = s .degrees }
