@@ -29,8 +29,8 @@ down-none a b v p q = record { is = lower-pass a b v [] p q ∙ lower-nil v; sma
 
 -- ---- the edges before p
 
-pub lower-next : (E : List ℕ) (p : ℕ) {v a b u : ℕ} → Edge E p → a ≡ one E p → b ≡ other E p → Gives a b v u → lower (before E (p + 1)) v ≡ lower (before E p) v ++ found u
-lower-next E p {v} h ea eb d = lower-more E p v h ∙ rw (← ea, ← eb, d .is)
+pub lower-next : (E : List ℕ) (p : ℕ) {v u : ℕ} → Edge E p → Gives (one E p) (other E p) v u → lower (before E (p + 1)) v ≡ lower (before E p) v ++ found u
+lower-next E p {v} h d = lower-more E p v h ∙ rw (d .is)
 
 -- w is what they give
 pub record Sofar (E : List ℕ) (v p w : ℕ) : Type 0 where
@@ -42,9 +42,9 @@ pub record Sofar (E : List ℕ) (v p w : ℕ) : Type 0 where
 pub sofar-none : (E : List ℕ) (v : ℕ) → Sofar E v 1 0
 sofar-none E v = record { low = omega arith; high = omega arith; is = lower-none E v; small = omega arith }
 
-module _ {E : List ℕ} {v p w : ℕ} (s : Sofar E v p w) (h : Edge E p) {a b u : ℕ} (ea : a ≡ one E p) (eb : b ≡ other E p) (d : Gives a b v u) where
+module _ {E : List ℕ} {v p w : ℕ} (s : Sofar E v p w) (h : Edge E p) {u : ℕ} (d : Gives (one E p) (other E p) v u) where
   now : lower (before E (p + 1)) v ≡ found w ++ found u
-  now = lower-next E p h ea eb d ∙ ap (λ l. l ++ found u) (s .is)
+  now = lower-next E p h d ∙ ap (λ l. l ++ found u) (s .is)
 
   pub sofar-miss : u ≡ 0 → Sofar E v (p + 1) w
   sofar-miss z = record { low = omega arith; high = omega (arith, h .1); is = now ∙ rw (z, append-nil); small = s .small }

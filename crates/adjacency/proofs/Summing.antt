@@ -51,13 +51,13 @@ summed-none E v = record { low = omega arith; high = omega arith; is = rw (lower
 pub power-small : {u : ℕ} → u ≤ 11 → 2 ^ (u - 1) ≤ 1024
 power-small {u} h = pow-mono (let k : u - 1 ≤ 10 = omega arith in k)
 
-module _ {E : List ℕ} {v p b : ℕ} (s : Summed E v p b) (h : Edge E p) {x y u : ℕ} (ex : x ≡ one E p) (ey : y ≡ other E p) (d : Gives x y v u) where
+module _ {E : List ℕ} {v p b : ℕ} (s : Summed E v p b) (h : Edge E p) {u : ℕ} (d : Gives (one E p) (other E p) v u) where
   pub summed-miss : u ≡ 0 → Summed E v (p + 1) b
   summed-miss z =
       record {
         low = omega arith;
         high = omega (arith, h .1);
-        is = s .is ∙ sym (ap bits (lower-next E p h ex ey d ∙ rw (z, append-nil)));
+        is = s .is ∙ sym (ap bits (lower-next E p h d ∙ rw (z, append-nil)));
         small = omega (arith, s .small);
       }
 
@@ -66,7 +66,7 @@ module _ {E : List ℕ} {v p b : ℕ} (s : Summed E v p b) (h : Edge E p) {x y u
       record {
         low = omega arith;
         high = omega (arith, h .1);
-        is = rw (lower-next E p h ex ey d, found-some k, bits-append, bits-one u, ← s .is);
+        is = rw (lower-next E p h d, found-some k, bits-append, bits-one u, ← s .is);
         small = omega (arith, s .small, power-small (let j : u ≤ 11 = omega (arith, d .small) in j));
       }
 

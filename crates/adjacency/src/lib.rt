@@ -11,13 +11,14 @@ const ZERO_SIZE: usize = 21;
 const A_SIZE: usize = 11;
 
 ghost use mathlib.Core.Path.{_≡_};
-ghost use mathlib.Core.List.{List, [], _∷_};
-ghost use Prim.Native.Nat.{ℕ, _+_, _-_, _*_, _/_, _^_, _≤_, _<_};
+ghost use mathlib.Core.List.{[], _∷_};
+ghost use Prim.Native.Nat.{_+_, _-_, _*_, _/_, _^_, _≤_, _<_};
 ghost use lib.ListN.{length};
 ghost use Rattle.laws.specs.Laid.{laidOver};
 ghost use Rattle.refusal.specs.Table.{Answers, Clear, row3};
 ghost use Rattle.code.specs.Limits.{size, valence};
 ghost use Rattle.tree.specs.Skeleton.{IsSkeleton};
+ghost use Rattle.skeleton.specs.Edges.{Edge, one, other};
 ghost use Rattle.adjacency.specs.Adjacency.{lower, Physical, row14, cam, camEdges, zeroA, factorial, zeroCam, zeroMost, row4, row5-cam, row6-cam, madeRows, camRows, zeroRows, bits, aZero, rows, aEdges, aMost, row5-ones, aRows};
 ghost use Rattle.adjacency.specs.Entries.{Entries};
 ghost use Rattle.adjacency.specs.Made.{camFront};
@@ -42,6 +43,14 @@ fn down(a: usize, b: usize, v: usize) -> usize
     0
 }
 
+// The lower neighbour that edge p gives to v, or 0.
+fn lower_at(edges: &[u8], p: usize, v: usize) -> usize
+    requires { ⌜ Numbered (now edges) × Edge (now edges) p ⌝ }
+    ensures { λ r. ⌜ Gives (one (now (edges .entry)) p) (other (now (edges .entry)) p) v r ⌝ }
+{
+    down(skeleton::one(edges, p), skeleton::other(edges, p), v)
+}
+
 // The only lower neighbour of v, or 0.
 fn only(edges: &[u8], v: usize) -> usize
     requires { ⌜ Numbered (now edges) ⌝ }
@@ -51,7 +60,7 @@ fn only(edges: &[u8], v: usize) -> usize
     let mut w: usize = 0;
     let mut p: usize = 1;
     while p <= m {
-        let u = down(skeleton::one(edges, p), skeleton::other(edges, p), v);
+        let u = lower_at(edges, p, v);
         p += 1;
         if u != 0 {
             if w != 0 {
@@ -242,7 +251,7 @@ fn bin(edges: &[u8], v: usize) -> u64
     let mut b: u64 = 0;
     let mut p: usize = 1;
     while p <= m {
-        let u = down(skeleton::one(edges, p), skeleton::other(edges, p), v);
+        let u = lower_at(edges, p, v);
         p += 1;
         if u != 0 {
             b += 1u64 << (u - 1);
