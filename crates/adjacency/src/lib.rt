@@ -104,11 +104,8 @@ pub fn write_cam(n: usize, edges: &[u8], out: &mut [u8])
 fn cam_sizes(n: usize, cam: &[u8]) -> Check
     ensures { λ r. ⌜ Answers (row3 size n ∷ row5-cam n (now (cam .entry)) ∷ []) r ⌝ }
 {
-    if n == 0 {
-        return Check::Refuse(3, 0);
-    }
-    if SIZE < n {
-        return Check::Refuse(3, 0);
+    if let Check::Refuse(k, p) = refusal::sized(n, SIZE) {
+        return Check::Refuse(k, p);
     }
     if cam.len() != n - 1 {
         return Check::Refuse(5, 0);
@@ -218,11 +215,8 @@ pub fn zero_cam(n: usize, x: u64, out: &mut [u8])
 fn zero_sizes(n: usize, x: u64) -> Check
     ensures { λ r. ⌜ Answers (row3 zeroMost n ∷ row4 (factorial (n - 1)) x ∷ []) r ⌝ }
 {
-    if n == 0 {
-        return Check::Refuse(3, 0);
-    }
-    if ZERO_SIZE < n {
-        return Check::Refuse(3, 0);
+    if let Check::Refuse(k, p) = refusal::sized(n, ZERO_SIZE) {
+        return Check::Refuse(k, p);
     }
     if factorial(n - 1) <= x {
         return Check::Refuse(4, 0);
@@ -314,11 +308,8 @@ pub fn a_edges(n: usize, x: u64, out: &mut [u8])
 fn a_sizes(n: usize, x: u64) -> Check
     ensures { λ r. ⌜ Answers (row3 aMost n ∷ row4 (2 ^ (n * (n - 1) / 2)) x ∷ row5-ones n x ∷ []) r ⌝ }
 {
-    if n == 0 {
-        return Check::Refuse(3, 0);
-    }
-    if A_SIZE < n {
-        return Check::Refuse(3, 0);
+    if let Check::Refuse(k, p) = refusal::sized(n, A_SIZE) {
+        return Check::Refuse(k, p);
     }
     if (1u64 << (n * (n - 1) / 2)) <= x {
         return Check::Refuse(4, 0);

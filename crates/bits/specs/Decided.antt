@@ -2,14 +2,13 @@
 --
 -- In order: the contracts; the order of siblings behind rows 10 to 12; the rows that stand before them. Assumes nothing.
 use mathlib.Core.Path.{_≡_, refl}
-use mathlib.Core.Logic.{⊎-elim}
 use mathlib.Core.Bool.{Bool, true}
 use mathlib.Core.List.{List, [], _∷_, _++_}
 use Prim.Native.Nat.{ℕ, _≤_}
 use native.Mathlib.Omega.{arith}
 use lib.ListN.{length, take}
 use Rattle.refusal.specs.Table.{Row, Clear, Lowest, passes, fails, row3}
-use Rattle.refusal.specs.Laws.{clear-one, clear-both, lowest-front, lowest-back, was-clear, was-lowest, under}
+use Rattle.refusal.specs.Laws.{clear-both, size-clear, lowest-front, lowest-back, was-clear, was-lowest, under}
 use Rattle.refusal.specs.declared.Answer.{Answer}
 use Rattle.refusal.specs.declared.Answer.the-variants.{Done, Refused}
 use Rattle.code.specs.Limits.{size}
@@ -62,10 +61,6 @@ pub reading-ended : {R : ℕ} {May : List Bool → Type 0} {bs : List Bool} {out
 reading-ended s = judged-ended (s .answer) (s .long)
 
 -- ---- the whole table
-
--- a number from 1 to most is not refused 3
-pub size-clear : {most n : ℕ} → 1 ≤ n → n ≤ most → Clear (row3 most n ∷ [])
-size-clear l m = clear-one (λ p a. ⊎-elim (λ h. omega (arith, h)) (λ h. omega (arith, h)) (a .1))
 
 -- the rows fs stand before the bits' own, and are clear
 module _ {R : ℕ} {May : List Bool → Type 0} {bs : List Bool} {out : List ℕ} {fs : List Row} (f : Clear fs) where

@@ -11,7 +11,7 @@ ghost use Rattle.bits.specs.Found.{Stands, Turned, Scanned};
 ghost use Rattle.bits.specs.Answered.{Reading};
 ghost use Rattle.bits.specs.Written.{Coded, Packs, Numbers};
 ghost use Rattle.bits.specs.Writing.{Room};
-ghost use Rattle.refusal.specs.Table.{Answers, Writes, row3};
+ghost use Rattle.refusal.specs.Table.{Answers, Writes};
 ghost use Rattle.bits.specs.Decided.{Ended, Ordered, Decision};
 ghost use Rattle.bits.specs.Limits.{packedBytes, wholeSize};
 use refusal::Answer;
@@ -186,19 +186,6 @@ pub fn fraction(x: u64, rest: bool, out: &mut [u8]) -> Answer
     zeros_behind(x, 53, out)
 }
 
-// 3: n is 0 or above most.
-fn sized(n: usize, most: usize) -> Check
-    ensures { λ r. ⌜ Answers (row3 most n ∷ []) r ⌝ }
-{
-    if n == 0 {
-        return Check::Refuse(3, 0);
-    }
-    if most < n {
-        return Check::Refuse(3, 0);
-    }
-    Check::Passed
-}
-
 // Behind rows 10 to 12: a refusal stays, and of a code that was read 13 is judged.
 pub fn siblings(read: Answer, digits: &[u8]) -> Answer
     requires { ⌜ Ended (now digits) read ⌝ }
@@ -219,7 +206,7 @@ pub fn packed_code(s: &[u8], out: &mut [u8]) -> Answer
     requires { ⌜ length (now out) ≡ size ⌝ }
     ensures { λ r. ⌜ Decision (packedRows packedBytes valence (now (s .entry))) valence Fill (bytes (now (s .entry))) (now (out .exit)) r ⌝ }
 {
-    if let Check::Refuse(k, p) = sized(s.len(), 16) {
+    if let Check::Refuse(k, p) = refusal::sized(s.len(), 16) {
         return Answer::Refused(k, p);
     }
     let read = packed(s, out);
@@ -242,7 +229,7 @@ pub fn number_code(n: usize, x: u64, out: &mut [u8]) -> Answer
     requires { ⌜ length (now out) ≡ size ⌝ }
     ensures { λ r. ⌜ Decision (wholeRows wholeSize valence n x) valence Nothing (word (2 * n - 1) x) (now (out .exit)) r ⌝ }
 {
-    if let Check::Refuse(k, p) = sized(n, 32) {
+    if let Check::Refuse(k, p) = refusal::sized(n, 32) {
         return Answer::Refused(k, p);
     }
     if let Check::Refuse(k, p) = ranged(n, x) {

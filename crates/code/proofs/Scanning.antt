@@ -1,23 +1,21 @@
 -- The steps of the functions that look for row 13: passing the children of a digit by the ends that are known, comparing one with the
 -- next, and keeping the lowest place. Assumes nothing.
-use mathlib.Core.Path.{_≡_, refl, sym, ap, _∙_, subst}
-use mathlib.Core.Logic.{_⊎_, inl, inr}
-use mathlib.Core.List.{List, []}
+use mathlib.Core.Path.{_≡_, _∙_, subst}
+use mathlib.Core.List.{List}
 use Prim.Native.Nat.{ℕ, suc, _+_, _-_, _≤_, _<_}
 use native.Mathlib.Nat.{le-antisymm}
 use native.Mathlib.Numerals.{add-one}
-use native.Mathlib.Decide.{decLt, ℕ-discrete}
+use native.Mathlib.Decide.{ℕ-discrete}
 use native.Mathlib.Omega.{arith}
-use lib.ListN.{length, getD, set, drop, length-set}
+use lib.ListN.{length, getD, set, length-set}
 use lib.Seq.{getD-set-same, getD-set-other}
 use Rattle.laws.specs.Order.{_≽_}
 use Rattle.laws.specs.Part.{part}
 use Rattle.code.specs.Limits.{size}
-use Rattle.code.specs.Code.{codes, LargerOf, Larger}
 use Rattle.code.specs.Ends.{Ends}
 use Rattle.code.specs.Parts.{Ending, Passing, enough, pass-none, pass-one, more-left, end-here}
 use Rattle.code.specs.Siblings.{Fall, none-larger, falls-on, larger-here, no-earlier}
-use Rattle.code.specs.Search.{Known, FirstOf, Lower}
+use Rattle.code.specs.Search.{Known, FirstOf}
 
 -- the first child begins behind the digit
 pub begin : {c : List ℕ} {i : ℕ} → i < length c → Passing c i 0 (i + 1)

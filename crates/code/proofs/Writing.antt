@@ -1,15 +1,15 @@
 -- Decoding digit by digit: what is written, what is still to be written, and the open places between them. Assumes nothing.
-use mathlib.Core.Path.{_≡_, refl, sym, ap, ap₂, _∙_, subst}
+use mathlib.Core.Path.{_≡_, refl, sym, ap, _∙_, subst}
 use mathlib.Core.List.{List, [], _∷_, _++_, append-assoc, append-nil}
 use Prim.Native.Nat.{ℕ, zero, suc, _+_, _-_, _*_, _≤_, _<_}
-use native.Mathlib.Nat.{add-comm}
 use native.Mathlib.Numerals.{add-one}
 use native.Mathlib.Omega.{arith}
-use lib.ListN.{length, getD, set, take, drop, replicate, length-append, drop-of-length-le}
+use lib.ListN.{length, getD, set, drop, replicate, length-append, drop-of-length-le}
 use lib.Seq.{drop-cons}
-use Rattle.laws.specs.Laid.{laidOver, Laid, laid-none, laid-length, laid-more}
+use Rattle.laws.specs.Laid.{laidOver, Laid, laid-length}
+use Rattle.laws.specs.Laying.{laid-none, laid-more}
 use Rattle.code.specs.Limits.{size, valence}
-use Rattle.code.specs.Code.{digit, cap, decode, edgesFrom}
+use Rattle.code.specs.Code.{cap, decode, edgesFrom}
 use Rattle.code.specs.Ends.{Ends}
 use Rattle.code.specs.Stack.{stack, Pushed}
 use Rattle.code.specs.Right.{Right}
@@ -48,7 +48,7 @@ decoding-first {c} {old} {s} {places} {t} r l p =
       some = omega arith;
       within = r .some;
       parts = ap decode head ∙ ap (λ (w : List ℕ). edgesFrom w 2 (drop 1 c)) (sym (p .places ∙ append-nil _));
-      lies = sym (laid-none old);
+      lies = laid-none old;
       count = refl;
       few = omega (arith, p .count, digit-most r 0 (r .some));
       long = p .long ∙ l;
@@ -117,10 +117,9 @@ module _ {c old out places : List ℕ} {t at i : ℕ} (r : Right size valence c)
   unfolding written
   laid-two =
       let p : ℕ = getD places (t - 1) 0 in
-      let e : at + 1 ≡ length (d .done ++ (p ∷ [])) = omega (arith, d .count, length-append (d .done) (p ∷ [])) in
-      ap₂ (λ (o : List ℕ) (n : ℕ). set (set o n p) (at + 1) (i + 1)) (d .lies) (d .count)
-      ∙ ap₂ (λ (o : List ℕ) (n : ℕ). set o n (i + 1)) (laid-more (d .done) old p (omega (arith, two-more, d .count))) e
-      ∙ laid-more (d .done ++ (p ∷ [])) old (i + 1) (omega (arith, two-more, d .count, length-append (d .done) (p ∷ [])))
+      let e : length (d .done ++ (p ∷ [])) ≡ at + 1 = omega (arith, d .count, length-append (d .done) (p ∷ [])) in
+      let first = laid-more (d .done) old out at p (d .lies) (sym (d .count)) (omega (arith, two-more)) in
+      laid-more (d .done ++ (p ∷ [])) old (set out at p) (at + 1) (i + 1) first e (omega (arith, two-more))
       ∙ ap (λ (w : List ℕ). laidOver w old) (append-assoc (d .done) (p ∷ []) ((i + 1) ∷ []))
 
   ends-more : {n : ℕ} → n ≡ t - 1 + getD c i 0 → Ends n (drop (i + 1) c)

@@ -3,9 +3,8 @@
 --
 -- What the rooted code of a skeleton is, and that a right digit code is one, is in the crate `tree`. Assumes nothing.
 use mathlib.Core.Path.{_≡_}
-use mathlib.Core.Logic.{_⊎_}
 use mathlib.Core.List.{List, [], _∷_, _++_, flatten}
-use Prim.Native.Nat.{ℕ, zero, suc, _+_, _-_, _*_, _≤_, _<_}
+use Prim.Native.Nat.{ℕ, zero, suc, _+_, _-_, _≤_, _<_}
 use lib.ListN.{length, getD, take, drop, replicate}
 use Rattle.laws.specs.Order.{_≽_}
 use Rattle.refusal.specs.Table.{Row, row3}

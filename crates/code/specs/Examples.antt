@@ -1,8 +1,7 @@
 -- The definitions, run on document 01's own figures. Assumes nothing.
 use mathlib.Core.Path.{_≡_, refl}
 use mathlib.Core.Logic.{inl, inr, ⊎-elim}
-use mathlib.Core.List.{List, [], _∷_, flatten}
-use Prim.Native.Nat.{ℕ}
+use mathlib.Core.List.{[], _∷_, flatten}
 use native.Mathlib.Omega.{arith}
 use Rattle.code.specs.Code.{codes, decode, edgesFrom}
 use Rattle.code.specs.Ordered.{Ordered}

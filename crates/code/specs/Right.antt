@@ -8,7 +8,7 @@ use mathlib.Core.List.{List, [], _∷_, _++_}
 use Prim.Native.Nat.{ℕ, _+_, _≤_, _<_}
 use native.Mathlib.Omega.{arith}
 use lib.ListN.{length}
-use Rattle.refusal.specs.Table.{Row, Clear, row3}
+use Rattle.refusal.specs.Table.{Clear, row3}
 use Rattle.refusal.specs.Laws.{clear-one, clear-both, clear-left, never, others, at-most, at-least}
 use Rattle.code.specs.Code.{digit, sum, EndsAt, cap, row10, row11, row12, row13, codeRows}
 use Rattle.code.specs.Ends.{Ends, ends-iff, ends-sum, prefix-free}

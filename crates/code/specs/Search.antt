@@ -2,7 +2,7 @@
 -- two places. Assumes nothing.
 use mathlib.Core.Path.{_≡_}
 use mathlib.Core.List.{List}
-use Prim.Native.Nat.{ℕ, suc, _≤_, _<_}
+use Prim.Native.Nat.{ℕ, _≤_, _<_}
 use lib.ListN.{length, getD}
 use Rattle.code.specs.Limits.{size}
 use Rattle.code.specs.Code.{LargerOf}

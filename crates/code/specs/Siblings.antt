@@ -1,15 +1,15 @@
 -- Row 13 by places: the children of a digit compared one with the next. Places count from 0 here, digits from 1.
 -- Assumes nothing.
-use mathlib.Core.Path.{_≡_, refl, sym, ap, _∙_, subst, subst₂}
-use mathlib.Core.List.{List, [], _∷_, _++_, flatten}
-use Prim.Native.Nat.{ℕ, zero, suc, _+_, _-_, _≤_, _<_}
+use mathlib.Core.Path.{_≡_, sym, ap, _∙_, subst, subst₂}
+use mathlib.Core.List.{List, [], flatten}
+use Prim.Native.Nat.{ℕ, suc, _+_, _-_, _≤_, _<_}
 use native.Mathlib.Decide.{decLt}
 use native.Mathlib.Omega.{arith}
 use lib.ListN.{length, getD, take, drop, length-append}
 use lib.Seq.{take-take, getD-take, length-take-le, take-add}
 use Rattle.laws.specs.Order.{_≽_}
 use Rattle.laws.specs.Part.{part}
-use Rattle.code.specs.Code.{codes, childCodes, LargerOf, Larger}
+use Rattle.code.specs.Code.{codes, childCodes, LargerOf}
 use Rattle.code.specs.Ends.{Ends}
 use Rattle.code.specs.Parts.{Ending, Passing, child-is, pass-one, enough, flatten-append}
 

@@ -1,7 +1,7 @@
 -- Codes within a code: codes that stand one behind the other, and that each part of a right code is a right code. Assumes nothing.
 use mathlib.Core.Path.{_≡_, refl, sym, ap, ap₂, _∙_, subst}
 use mathlib.Core.List.{List, [], _∷_, _++_, append-nil, flatten}
-use Prim.Native.Nat.{ℕ, zero, suc, _+_, _-_, _≤_, _<_}
+use Prim.Native.Nat.{ℕ, zero, suc, _+_, _-_, _≤_}
 use native.Mathlib.Nat.{add-zero, zero-add, suc-add, add-assoc}
 use native.Mathlib.Numerals.{one-add}
 use native.Mathlib.Omega.{arith}

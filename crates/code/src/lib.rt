@@ -4,7 +4,7 @@ ghost use mathlib.Core.Path.{_≡_};
 ghost use mathlib.Core.List.{[], _∷_};
 ghost use Prim.Native.Nat.{suc, _+_, _≤_, _<_};
 ghost use lib.ListN.{length};
-ghost use Rattle.refusal.specs.Table.{Answers, Clear, row3};
+ghost use Rattle.refusal.specs.Table.{Answers, Clear};
 ghost use Rattle.laws.specs.Laid.{Laid};
 ghost use Rattle.code.specs.Limits.{size, valence};
 ghost use Rattle.code.specs.Code.{cap, row10, row11, row12, row13, codeRows, decode};
@@ -55,19 +55,6 @@ pub fn falls(a: &[u8], b: &[u8]) -> bool
         Order::Equal => true,
         Order::Greater => true,
     }
-}
-
-// 3: empty, or over 64 digits.
-fn sized(code: &[u8]) -> Check
-    ensures { λ r. ⌜ Answers (row3 size (length (now (code .entry))) ∷ []) r ⌝ }
-{
-    if code.len() == 0 {
-        return Check::Refuse(3, 0);
-    }
-    if 64 < code.len() {
-        return Check::Refuse(3, 0);
-    }
-    Check::Passed
 }
 
 // The most that digit number p may be.
@@ -201,7 +188,7 @@ pub fn ordered(code: &[u8]) -> Check
 pub fn check(code: &[u8]) -> Check
     ensures { λ r. ⌜ Answers (codeRows size valence (now (code .entry))) r ⌝ }
 {
-    if let Check::Refuse(k, p) = sized(code) {
+    if let Check::Refuse(k, p) = refusal::sized(code.len(), 64) {
         return Check::Refuse(k, p);
     }
     if let Check::Refuse(k, p) = capped(code) {

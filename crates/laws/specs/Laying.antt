@@ -5,7 +5,7 @@ use mathlib.Core.List.{List, [], _∷_, _++_, map, map-append, append-assoc, app
 use Prim.Native.Nat.{ℕ, _+_, _-_, _≤_, _<_}
 use native.Mathlib.Numerals.{add-one}
 use native.Mathlib.Omega.{arith}
-use lib.ListN.{length, getD, take, drop, set, length-set, length-append, length-take, length-drop, length-map, drop-of-length-le}
+use lib.ListN.{length, getD, take, drop, set, length-set, length-append, length-take, length-map, drop-of-length-le}
 use lib.Seq.{take-suc, take-all, take-at, drop-at, drop-drop}
 use borrow.Rule.Slice.PartMut.{midOf, putMid}
 use Rattle.laws.specs.Laid.{laidOver}
@@ -13,10 +13,6 @@ use Rattle.laws.specs.Laid.{laidOver}
 pub laid-none : (old : List ℕ) → old ≡ laidOver [] old
 unfolding laidOver
 laid-none old = refl
-
-pub length-laid : (c old : List ℕ) → length c ≤ length old → length (laidOver c old) ≡ length old
-unfolding laidOver
-length-laid c old h = simp (length-append, length-drop) (omega arith)
 
 -- what is written stands at the front
 pub laid-front : (c old out : List ℕ) (n : ℕ) → out ≡ laidOver c old → length c ≡ n → take n out ≡ c

@@ -2,12 +2,11 @@
 --
 -- Here: the dictionary's order of lists of numbers, and sorting by it, largest first. Laws of both are in `Sorting`.
 -- Assumes nothing.
-use mathlib.Core.Path.{_≡_, refl}
+use mathlib.Core.Path.{_≡_}
 use mathlib.Core.Logic.{_⊎_, inl, inr, ite}
 use mathlib.Core.List.{List, [], _∷_}
 use Prim.Native.Nat.{ℕ, _<_}
 use native.Mathlib.Decide.{decLt, ℕ-discrete}
-use native.Mathlib.Omega.{arith}
 
 infix 40 _≽_
 -- xs stands at or after ys in the dictionary; a proper prefix stands before

@@ -8,10 +8,9 @@ use native.Mathlib.Omega.{arith}
 use lib.ListN.{length, set, length-set, length-append, length-take, length-drop}
 use lib.Seq.{append-snoc}
 use borrow.Rule.Slice.PartMut.{midOf, putMid}
-use Rattle.laws.specs.Laid.{laidOver}
-use Rattle.laws.specs.Laying.{laid-none, laid-more, laid-part, length-laid}
+use Rattle.laws.specs.Laid.{laidOver, Laid, laid-length}
+use Rattle.laws.specs.Laying.{laid-none, laid-more, laid-part}
 use Rattle.lines.specs.Line.{figures, decimal, body, line}
-use Rattle.lines.specs.Form.{Written}
 use Rattle.lines.specs.Bodies.{length-figures}
 
 decimal-short : (n : ℕ) → n < 10 → decimal n ≡ (48 + n) ∷ []
@@ -35,12 +34,12 @@ length-line c = simp (length-append, length-figures) (omega arith)
 -- ---- the count
 
 module _ (n : ℕ) (old : List ℕ) (room : length (decimal n) ≤ length old) where
-  pub one-written : n < 10 → Written (decimal n) old 1 (set old 0 (48 + n))
+  pub one-written : n < 10 → Laid (decimal n) old (set old 0 (48 + n)) 1
   one-written h =
       let k = length-short n h in
       record { count = sym k; lies = rw (decimal-short n h) (laid-more [] old old 0 (48 + n) (laid-none old) refl (omega arith)) }
 
-  pub two-written : 10 ≤ n → Written (decimal n) old 2 (set (set old 0 (48 + n / 10)) 1 (48 + n % 10))
+  pub two-written : 10 ≤ n → Laid (decimal n) old (set (set old 0 (48 + n / 10)) 1 (48 + n % 10)) 2
   two-written h =
       let k = length-long n h in
       let e = laid-more [] old old 0 (48 + n / 10) (laid-none old) refl (omega arith) in
@@ -60,12 +59,12 @@ joined out at ys = putMid (at + 1) (length (spaced out at) - (at + 1)) (spaced o
 abbrev pub behind : List ℕ → ℕ → List ℕ
 behind out at = midOf (at + 1) (length (spaced out at) - (at + 1)) (spaced out at)
 
-module _ (code old : List ℕ) (room : length (line code) ≤ length old) {at : ℕ} {out : List ℕ} (w : Written (decimal (length code)) old at out) where
+module _ (code old : List ℕ) (room : length (line code) ≤ length old) {at : ℕ} {out : List ℕ} (w : Laid (decimal (length code)) old out at) where
   pub sizes : (at + length code + 2 ≤ length old) × (length out ≡ length old)
   sizes =
       let n = length-line code in
       let k = w .count in
-      (omega arith, ap length (w .lies) ∙ length-laid (decimal (length code)) old (omega arith))
+      (omega arith, ap length (w .lies) ∙ laid-length (decimal (length code)) old (omega arith))
 
   pub room-behind : length code ≤ length (behind out at)
   room-behind = let h = sizes in simp (length-take, length-drop, length-set) (omega arith)
@@ -88,12 +87,12 @@ module _ (code old : List ℕ) (room : length (line code) ≤ length old) {at : 
         ∙ ap (λ (l : List ℕ). laidOver l old) (append-snoc (decimal (length code)) 32 (figures code))
 
     pub long-joined : length (joined out at ys) ≡ length old
-    long-joined = let h = sizes in ap length body-lies ∙ length-laid (body code) old (omega (arith, body-length))
+    long-joined = let h = sizes in ap length body-lies ∙ laid-length (body code) old (omega (arith, body-length))
 
     pub long-written : (i b : ℕ) → length (set (joined out at ys) i b) ≡ length old
     long-written i b = length-set (joined out at ys) i b ∙ long-joined
 
-    pub line-written : Written (line code) old (at + length code + 2) (set (joined out at ys) (at + 1 + length code) 10)
+    pub line-written : Laid (line code) old (set (joined out at ys) (at + 1 + length code) 10) (at + length code + 2)
     unfolding line
     line-written =
         let h = sizes in

@@ -8,7 +8,7 @@ use native.Mathlib.Omega.{arith}
 use lib.ListN.{length, take, drop, length-append, length-drop}
 use lib.Seq.{take-append-add, drop-append-add, length-take-le}
 use borrow.Rule.Slice.PartMut.{midOf, putMid}
-use Rattle.laws.specs.Laying.{length-laid}
+use Rattle.laws.specs.Laid.{laid-length}
 use Rattle.refusal.specs.Table.{gives, refuses, kept, left}
 use Rattle.lines.specs.Line.{DigitRow, LineAnswers, TextAnswers, Reply}
 use Rattle.lines.specs.Reading.{block, blocks, Taken, none, unfinished, next}
@@ -92,7 +92,7 @@ module _ (most : ℕ) (rows : List DigitRow) {w : ℕ} (room : most ≤ w) where
 
 length-block : (o : Reply) (w : ℕ) (old : List ℕ) → Fit w o → length old ≡ w → length (block o old) ≡ w
 unfolding block
-length-block (gives ds) w old f e = length-laid ds old (omega arith) ∙ e
+length-block (gives ds) w old f e = laid-length ds old (omega arith) ∙ e
 length-block (refuses k p) w old f e = e
 
 module _ (w : ℕ) where

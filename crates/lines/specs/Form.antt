@@ -4,7 +4,6 @@ use mathlib.Core.Bool.{Bool, true, false}
 use mathlib.Core.List.{List, _∷_, _++_, map}
 use Prim.Native.Nat.{ℕ, _+_, _-_, _≤_, _<_}
 use lib.ListN.{length, getD, take, drop}
-use Rattle.laws.specs.Laid.{laidOver}
 use Rattle.laws.specs.Part.{part}
 use Rattle.refusal.specs.Table.{Lowest}
 use Rattle.lines.specs.declared.Opening.{Opening}
@@ -59,11 +58,6 @@ pub data Opens (b : List ℕ) : Opening → Type 0 where
 pub data Forms (b : List ℕ) : Opening → Type 0 where
   formed : {n s : ℕ} → s ≤ length b → Figures (drop s b) → Formed b n (values (drop s b)) → Forms b (At n s)
   unformed : ((n : ℕ) (ds : List ℕ) → Formed b n ds → ⊥) → Forms b Nothing
-
--- c is written from the start of what was lent, and n is its length
-pub record Written (c old : List ℕ) (n : ℕ) (new : List ℕ) : Type 0 where
-  pub count : n ≡ length c
-  pub lies : new ≡ laidOver c old
 
 -- The digits of t's first line stand from s to e, and rows 1, 2, 3 and 5 do not refuse it.
 pub record Stands (most : ℕ) (t : List ℕ) (s e : ℕ) : Type 0 where

@@ -8,8 +8,8 @@ use native.Mathlib.Decide.{decLt, ℕ-discrete}
 use native.Mathlib.Omega.{arith}
 use lib.ListN.{length, drop, set, length-append, length-drop, length-map, drop-of-length-le}
 use borrow.Rule.Slice.PartMut.{midOf, putMid}
-use Rattle.laws.specs.Laid.{laidOver}
-use Rattle.laws.specs.Laying.{laid-none, laid-more, length-laid}
+use Rattle.laws.specs.Laid.{laidOver, laid-length}
+use Rattle.laws.specs.Laying.{laid-none, laid-more}
 use Rattle.refusal.specs.Table.{Outcome}
 use Rattle.lines.specs.Line.{DigitRow, LineAnswers, TextAnswers, Reply}
 use Rattle.lines.specs.Form.{UpTo}
@@ -120,6 +120,6 @@ read-lengths {most} {rows} {w} {rec = rec} {num} {pla} fits g =
     let n = g .count in
     let x = g .room in (
       ap length (g .records) ∙ length-blocks w (g .answers) rec (taken-fit most rows fits (g .taken)) (rw (← n) (x .0)),
-      ap length (g .numbers) ∙ length-laid (map (λ o. numberOf (counted o)) (g .answers)) num (rw length-map (omega arith)),
-      ap length (g .places) ∙ length-laid (map (λ o. placeOf (counted o)) (g .answers)) pla (rw length-map (omega arith)),
+      ap length (g .numbers) ∙ laid-length (map (λ o. numberOf (counted o)) (g .answers)) num (rw length-map (omega arith)),
+      ap length (g .places) ∙ laid-length (map (λ o. placeOf (counted o)) (g .answers)) pla (rw length-map (omega arith)),
     )

@@ -6,14 +6,14 @@ ghost use mathlib.Core.Path.{_≡_};
 ghost use mathlib.Core.List.{List, _∷_};
 ghost use Prim.Native.Nat.{ℕ, _≤_, _<_};
 ghost use lib.ListN.{length, set};
-ghost use Rattle.laws.specs.Laid.{laidOver};
+ghost use Rattle.laws.specs.Laid.{laidOver, Laid};
 ghost use Rattle.code.specs.Limits.{size};
 ghost use Rattle.refusal.specs.Table.{Answers, row3};
 ghost use Rattle.refusal.specs.Outcome.{told};
 ghost use Rattle.lines.specs.Line.{Digits, figures, decimal, line, judged};
 ghost use Rattle.lines.specs.Judged.{digitTable};
 ghost use Rattle.lines.specs.Reading.{ReadLine, numberOf, placeOf, Behind, Room, ReadText};
-ghost use Rattle.lines.specs.Form.{UpTo, Value, Figures, values, Figured, Opens, Forms, Located, Written};
+ghost use Rattle.lines.specs.Form.{UpTo, Value, Figures, values, Figured, Opens, Forms, Located};
 
 // How a line begins.
 pub enum Opening {
@@ -183,7 +183,7 @@ fn write_digits(code: &[u8], out: &mut [u8])
 fn write_count(n: usize, out: &mut [u8]) -> usize
     requires few { ⌜ n ≤ 99 ⌝ }
     requires room { ⌜ length (decimal n) ≤ length (now out) ⌝ }
-    ensures { λ r. ⌜ Written (decimal n) (now (out .entry)) r (now (out .exit)) ⌝ }
+    ensures { λ r. ⌜ Laid (decimal n) (now (out .entry)) (now (out .exit)) r ⌝ }
 {
     if n < 10 {
         out[0] = 48 + n as u8;
@@ -199,7 +199,7 @@ pub fn write(code: &[u8], out: &mut [u8]) -> usize
     requires few { ⌜ length (now code) ≤ 99 ⌝ }
     requires digits { ⌜ Digits (now code) ⌝ }
     requires room { ⌜ length (line (now code)) ≤ length (now out) ⌝ }
-    ensures { λ r. ⌜ Written (line (now (code .entry))) (now (out .entry)) r (now (out .exit)) ⌝ }
+    ensures { λ r. ⌜ Laid (line (now (code .entry))) (now (out .entry)) (now (out .exit)) r ⌝ }
 {
     let n = code.len();
     let at = write_count(n, out);

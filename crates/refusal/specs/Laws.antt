@@ -36,14 +36,20 @@ one-answer (passes c) (fails l) = absurd (c .nowhere _ _ (l .applies))
 one-answer (fails l) (passes c) = absurd (c .nowhere _ _ (l .applies))
 one-answer (fails l) (fails m) = let e = one-lowest l m in ap₂ Refuse (e .0) (e .1)
 
--- of a call: where what is right is one, the answer is one, and so is what the lent output holds then
+-- of a call: where what is right is one of an input that no row refuses, the answer is one, and so is what the lent output holds then
+pub one-accepted :
+    {A S : Type 0} {rs : List Row} {right : A → S → Type 0} {old s t : S} {o u : Outcome A}
+    → (Clear rs → (a b : A) → right a s → right b t → (a ≡ b) × (s ≡ t)) → Promise rs right old s o → Promise rs right old t u → (o ≡ u) × (s ≡ t)
+one-accepted one (kept {a} c r) (kept {a = b} d q) = let e = one c a b r q in (ap gives (e .0), e .1)
+one-accepted one (kept c r) (left l e) = absurd (c .nowhere _ _ (l .applies))
+one-accepted one (left l e) (kept c r) = absurd (c .nowhere _ _ (l .applies))
+one-accepted one (left l e) (left m f) = let n = one-lowest l m in (ap₂ refuses (n .0) (n .1), e ∙ sym f)
+
+-- and where it is one of any input
 pub one-result :
     {A S : Type 0} {rs : List Row} {right : A → S → Type 0} {old s t : S} {o u : Outcome A}
     → ((a b : A) → right a s → right b t → (a ≡ b) × (s ≡ t)) → Promise rs right old s o → Promise rs right old t u → (o ≡ u) × (s ≡ t)
-one-result one (kept {a} c r) (kept {a = b} d q) = let e = one a b r q in (ap gives (e .0), e .1)
-one-result one (kept c r) (left l e) = absurd (c .nowhere _ _ (l .applies))
-one-result one (left l e) (kept c r) = absurd (c .nowhere _ _ (l .applies))
-one-result one (left l e) (left m f) = let n = one-lowest l m in (ap₂ refuses (n .0) (n .1), e ∙ sym f)
+one-result one p q = one-accepted (λ c. one) p q
 
 -- what is written is one, where the right result is one
 pub one-written :
@@ -175,6 +181,10 @@ at-most {most} {n} c = let z : most < n → ⊥ = λ l. never c 0 (refl, inr l) 
 pub at-least : {most n : ℕ} {rs : List Row} → Clear (row3 most n ∷ rs) → 1 ≤ n
 at-least {most} {n} c = let z : n ≡ 0 → ⊥ = λ e. never c 0 (refl, inl e) in omega arith
 
+-- and where it is, 3 does not apply
+pub size-clear : {most n : ℕ} → 1 ≤ n → n ≤ most → Clear (row3 most n ∷ [])
+size-clear l m = clear-one (λ p a. ⊎-elim (λ h. omega (arith, h)) (λ h. omega (arith, h)) (a .1))
+
 -- 15 applies nowhere where the output has room
 pub room : {need lent : ℕ} → need ≤ lent → Clear (row15 need lent ∷ [])
 room h = clear-one (λ p a. let n : ⊥ = omega (arith, a .1) in n)
@@ -194,11 +204,18 @@ check-answered {rs} (fails l) e = subst (Answered rs (λ n. n ≡ 0)) (sym e) (l
 
 -- ---- a call that writes
 
--- one answer and one output, where a right result is one
+-- one answer and one output, where a right result of an input that no row refuses is one
+pub one-clear :
+    {rs : List Row} {Right : List ℕ → Type 0} {old s t : List ℕ} {o u : Outcome ℕ} → (Clear rs → (c d : List ℕ) → Right c → Right d → c ≡ d)
+    → Gives rs Right old s o → Gives rs Right old t u → (o ≡ u) × (s ≡ t)
+one-clear {rs} {Right} {old} one g h =
+    one-accepted (λ c. one-written (one (clear-left rs (short Right (length old) ∷ []) c))) (g .promise) (h .promise)
+
+-- where it is one of any input
 pub one-given :
     {rs : List Row} {Right : List ℕ → Type 0} {old s t : List ℕ} {o u : Outcome ℕ} → ((c d : List ℕ) → Right c → Right d → c ≡ d)
     → Gives rs Right old s o → Gives rs Right old t u → (o ≡ u) × (s ≡ t)
-one-given one g h = one-result (one-written one) (g .promise) (h .promise)
+one-given one g h = one-clear (λ c. one) g h
 
 module _ {rs : List Row} {Right : List ℕ → Type 0} {old : List ℕ} where
   -- a refusal by a lower row

@@ -1,6 +1,8 @@
 // What a call answers. The meaning of each case, and of "the lowest number, then its first place", is in specs/Table.antt.
 
 ghost use mathlib.Core.Path.{_≡_};
+ghost use mathlib.Core.List.{[], _∷_};
+ghost use Rattle.refusal.specs.Table.{Answers, row3};
 ghost use Rattle.refusal.specs.Outcome.{told, checked};
 
 // Of a call that writes a result into a lent output, or only looks at its input.
@@ -33,4 +35,17 @@ pub fn handed(check: Check) -> Answer
         Check::Passed => Answer::Done(0),
         Check::Refuse(k, p) => Answer::Refused(k, p),
     }
+}
+
+// 3: n is 0 or above most.
+pub fn sized(n: usize, most: usize) -> Check
+    ensures { λ r. ⌜ Answers (row3 most n ∷ []) r ⌝ }
+{
+    if n == 0 {
+        return Check::Refuse(3, 0);
+    }
+    if most < n {
+        return Check::Refuse(3, 0);
+    }
+    Check::Passed
 }

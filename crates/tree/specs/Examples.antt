@@ -1,8 +1,7 @@
 -- The definitions, run on document 01's own figures. Assumes nothing.
 use mathlib.Core.Path.{_≡_, refl}
 use mathlib.Core.Logic.{Dec·not}
-use mathlib.Core.List.{List, [], _∷_, flatten}
-use Prim.Native.Nat.{ℕ}
+use mathlib.Core.List.{[], _∷_, flatten}
 use native.Mathlib.Decide.{ℕ-discrete, decLt}
 use Rattle.laws.specs.Order.{dec≽, insert, sort}
 use Rattle.tree.specs.Skeleton.{arcs, neighbours, children, join, codeAt, rooted}

@@ -2,7 +2,7 @@
 -- sibling, so that every function and every lemma is one recursion of two clauses. Assumes nothing.
 use mathlib.Core.Path.{_≡_}
 use mathlib.Core.List.{List, [], _∷_, _++_, List·Memᴰ, List·Permᴰ}
-use Prim.Native.Nat.{ℕ, zero, suc, _+_, _≤_}
+use Prim.Native.Nat.{ℕ, suc, _+_, _≤_}
 use Rattle.tree.specs.Skeleton.{Arc, arcs}
 
 -- a vertex, its children, and the trees beside it

@@ -6,8 +6,8 @@ use native.Mathlib.Nat.{le-antisymm}
 use native.Mathlib.Numerals.{add-one}
 use native.Mathlib.Omega.{arith}
 use lib.ListN.{length, take, set}
-use Rattle.laws.specs.Laid.{laidOver, Laid}
-use Rattle.laws.specs.Laying.{laid-none, length-laid, laid-front, laid-more}
+use Rattle.laws.specs.Laid.{laidOver, Laid, laid-length}
+use Rattle.laws.specs.Laying.{laid-none, laid-front, laid-more}
 use Rattle.vertices.specs.Numbering.{greatest, classOf, numbering}
 use Rattle.vertices.specs.Appearance.{greatest-more, numbering-length, numbering-most}
 
@@ -26,7 +26,7 @@ module _ {R : ℕ → ℕ → Type 0} (R? : (u v : ℕ) → Dec (R u v)) where
   module _ {N : ℕ} {old out : List ℕ} {top i : ℕ} (w : Writing N old out top i) where
     -- the output keeps its length
     pub writing-length : length out ≡ length old
-    writing-length = ap length (w .lies) ∙ length-laid (numbering R? i) old (omega (arith, w .within, w .room, numbering-length R? i))
+    writing-length = ap length (w .lies) ∙ laid-length (numbering R? i) old (omega (arith, w .within, w .room, numbering-length R? i))
 
     -- no class is above the number of vertices
     pub writing-low : top ≤ i

@@ -1,11 +1,10 @@
 -- Read from its promise alone, every public call has one possible answer and one possible state of its lent output. Each is a case of
 -- one law, `one-result`, by way of `one-given` where the call writes. The verdict on two edge lists is a law of its own. Assumes nothing.
 use mathlib.Core.Path.{_≡_, refl, sym, ap₂, _∙_}
-use mathlib.Core.List.{List, [], _∷_, _++_}
+use mathlib.Core.List.{List}
 use Prim.Native.Nat.{ℕ}
-use lib.ListN.{length}
-use Rattle.refusal.specs.Table.{Row, Clear, Lowest, Outcome, refuses, Promise, kept, left, Answered, Writes, short, Gives}
-use Rattle.refusal.specs.Laws.{one-lowest, one-result, one-written, one-given, clear-left}
+use Rattle.refusal.specs.Table.{Row, Clear, Lowest, Outcome, Answered}
+use Rattle.refusal.specs.Laws.{one-lowest, one-result, one-given, one-clear}
 use Rattle.form.specs.Form.{nTuple, centred}
 use Rattle.form.specs.Forms.{IsForm, n-tuple-form, centred-form}
 use Rattle.zurkhovel.specs.Codes.{CheckCode, DecodeCode, DecodeForm, CheckEdges, RootedCode, FormCode}
@@ -28,20 +27,6 @@ one-decode-code c old s t o u a b = one-given (equal _) a b
 
 pub one-check-edges : (N : ℕ) (E : List ℕ) (r : ℕ) (o u : Outcome ℕ) → CheckEdges N E r o → CheckEdges N E r u → o ≡ u
 one-check-edges N E r o u a b = one-check a b
-
--- a call that writes, where what is right is one for an input that no row refuses
-pub one-clear :
-    {rs : List Row} {Right : List ℕ → Type 0} {old s t : List ℕ} {o u : Outcome ℕ} → (Clear rs → (c d : List ℕ) → Right c → Right d → c ≡ d)
-    → Gives rs Right old s o → Gives rs Right old t u → (o ≡ u) × (s ≡ t)
-one-clear {rs} {Right} {old} {s} {t} one g h = by-cases (g .promise) (h .promise)
-  where
-    rows : List Row
-    rows = rs ++ (short Right (length old) ∷ [])
-
-    by-cases : {o u : Outcome ℕ} → Promise rows (Writes Right old) old s o → Promise rows (Writes Right old) old t u → (o ≡ u) × (s ≡ t)
-    by-cases (kept c r) q = one-result (one-written (one (clear-left rs _ c))) (kept c r) q
-    by-cases (left l e) (kept c r) = absurd (c .nowhere _ _ (l .applies))
-    by-cases (left l e) (left m f) = let n = one-lowest l m in (ap₂ refuses (n .0) (n .1), e ∙ sym f)
 
 pub one-rooted-code :
     (N : ℕ) (E : List ℕ) (r : ℕ) (old s t : List ℕ) (o u : Outcome ℕ) → RootedCode N E r old s o → RootedCode N E r old t u → (o ≡ u) × (s ≡ t)

@@ -5,6 +5,7 @@ use mathlib.Core.List.{List}
 use Prim.Native.Nat.{ℕ}
 use native.Mathlib.Omega.{arith}
 use Rattle.refusal.specs.Table.{Clear, Outcome}
+use Rattle.refusal.specs.Laws.{one-clear}
 use Rattle.code.specs.Limits.{size, valence}
 use Rattle.skeleton.specs.Edges.{edgeRows}
 use Rattle.form.specs.Form.{ofCentred}
@@ -13,7 +14,6 @@ use Rattle.lines.specs.Judged.{digitTable}
 use Rattle.lines.specs.Theorems as Lines
 use Rattle.zurkhovel.specs.Lines.{ReadLine, WriteLine, ReadText, Counted}
 use Rattle.zurkhovel.specs.Alike.{EqualVertices}
-use Rattle.zurkhovel.specs.One.{one-clear}
 use Rattle.zurkhovel.specs.Theorems.{tree-of}
 
 pub one-read-line : (t old new new′ : List ℕ) (o u : Outcome ℕ) → ReadLine t old new o → ReadLine t old new′ u → (o ≡ u) × (new ≡ new′)

@@ -1,14 +1,13 @@
 -- `adjacency::a_sizes` meets its contract: 3 is tested before 4, so that the range fits a word, and 4 before 5. Assumes nothing.
 use mathlib.Core.Path.{_≡_, refl}
-use mathlib.Core.Logic.{inl, inr}
 use Prim.Native.Nat.{ℕ, _-_, _*_, _/_, _^_, _≤_, _<_, _%_}
 use lib.Count.{ones-le}
-use Rattle.refusal.specs.Table.{Row, Answers, passes, fails, row3}
+use Rattle.refusal.specs.Table.{Row, Clear, Answers, passes, fails, row3}
 use Rattle.refusal.specs.declared.Check.the-variants.{Passed}
 use mathlib.Core.List.{[], _∷_}
-use Rattle.refusal.specs.Laws.{stops, goes-on, clear-one, first-place}
+use Rattle.refusal.specs.Laws.{was-clear, stops, goes-on, clear-one, first-place, at-least, at-most}
 use Rattle.adjacency.specs.Adjacency.{aMost, row4}
-use Rattle.adjacency.proofs.Sizes.{three, next, fine}
+use Rattle.adjacency.proofs.Sizes.{next, fine}
 use Rattle.adjacency.proofs.Summing.{rows-few, shift-one}
 use native.Mathlib.Omega.{arith}
 use borrow.Author.Needs.{needs}
@@ -19,64 +18,35 @@ use Rattle.adjacency.proofs.a_sizes.Tie as tie
 abbrev top : ℕ → ℕ → Row
 top n x = row4 (2 ^ (n * (n - 1) / 2)) x
 
-few : (c : tie.Else2) → c .before .before .args .n * (c .before .before .args .n - 1) ≤ 110
-few c = rows-few (c .if2 .left)
+-- 3 does not apply
+clear : (c : tie.After-enum-told) → Clear (row3 aMost (c .before .before .before .args .n) ∷ [])
+clear c = was-clear (c .before .before .sized .ensures) (c .enum-told .given .1)
 
-whole : (c : tie.Else2) → (1 * 2 ^ (c .before .before .args .n * (c .before .before .args .n - 1) / 2)) % 2 ^ 64 ≡ 2 ^ (c .before .before .args .n * (c .before .before .args .n - 1) / 2)
-whole c = shift-one (let k : c .before .before .args .n * (c .before .before .args .n - 1) / 2 < 64 = omega (arith, few c) in k)
+few : (c : tie.After-enum-told) → let n = c .before .before .before .args .n in n * (n - 1) ≤ 110
+few c = rows-few (at-most (clear c))
 
-in-range : (c : tie.Else3) → Answers (row3 aMost (c .before .before .before .args .n) ∷ top (c .before .before .before .args .n) (c .before .before .before .args .x) ∷ []) Passed
+whole : (c : tie.After-enum-told) → let n = c .before .before .before .args .n in (1 * 2 ^ (n * (n - 1) / 2)) % 2 ^ 64 ≡ 2 ^ (n * (n - 1) / 2)
+whole c = let n = c .before .before .before .args .n in shift-one (let k : n * (n - 1) / 2 < 64 = omega (arith, few c) in k)
+
+in-range : (c : tie.Else1) → let a = c .before .before .before .before .args in Answers (row3 aMost (a .n) ∷ top (a .n) (a .x) ∷ []) Passed
 in-range c =
     let s = c .before in
-    let a = s .before .before .args in
-    fine _ (a .n) (top (a .n) (a .x)) (s .before .if1 .left) (s .if2 .left) (λ p h. let z : ⊥ = omega (arith, h .1, rw (whole s) at (c .if3 .left)) in z)
-
-returns : tie.Need-returns
-returns c = let a = c .before .args in stops _ refl (three _ (a .n) (top (a .n) (a .x)) refl (inl (c .if1 .taken))) refl
-
-returns-2 : tie.Need-returns-2
-returns-2 c = let a = c .before .before .args in stops _ refl (three _ (a .n) (top (a .n) (a .x)) refl (inr (c .if2 .taken))) refl
-
-sub-if3 : tie.Need-sub-if3
-sub-if3 c = search needs
-
-mul-if3 : tie.Need-mul-if3
-mul-if3 c = omega (arith, few c)
-
-shl-if3 : tie.Need-shl-if3
-shl-if3 c = omega (arith, few c)
-
-returns-3 : tie.Need-returns-3
-returns-3 c =
-    let s = c .before in
-    let a = s .before .before .args in
-    stops _ refl (next _ (a .n) (top (a .n) (a .x)) (s .before .if1 .left) (s .if2 .left) (refl, rw (whole s) at (c .if3 .taken))) refl
-
-cast-if4 : tie.Need-cast-if4
-cast-if4 c = let s = c .before .before .before in omega (arith, ones-le 64 (s .args .x) (omega (arith, s .fits .x)))
-
-sub-if4 : tie.Need-sub-if4
-sub-if4 c = search needs
-
-returns-4 : tie.Need-returns-4
-returns-4 c =
-    goes-on (in-range (c .before)) refl (fails (first-place (refl, c .if4 .taken) (λ q l a. let z : ⊥ = omega arith in z)))
-
-returns-5 : tie.Need-returns-5
-returns-5 c =
-    goes-on (in-range (c .before)) refl (passes (clear-one (λ p h. h .1 (omega (arith, c .if4 .left)))))
+    let a = s .before .before .before .args in
+    fine (clear s) (top (a .n) (a .x)) (λ p h. let z : ⊥ = omega (arith, h .1, rw (whole s) at (c .if1 .left)) in z)
 
 pub a-sizes-spec : {M : Type 1} → statement M
 a-sizes-spec =
     tie.close
     (tie.spec
-    returns
-    returns-2
-    sub-if3
-    mul-if3
-    shl-if3
-    returns-3
-    cast-if4
-    sub-if4
-    returns-4
-    returns-5)
+    (λ c κs. search needs)
+    (λ c. search needs)
+    (λ c. stops _ refl (c .before .before .before .sized .ensures) (c .before .k .given .1))
+    (λ c. search needs)
+    (λ c. at-least (clear c))
+    (λ c. omega (arith, few c))
+    (λ c. omega (arith, few c))
+    (λ c. let s = c .before in let a = s .before .before .before .args in stops _ refl (next (clear s) (top (a .n) (a .x)) (refl, rw (whole s) at (c .if1 .taken))) refl)
+    (λ c. let s = c .before .before .before .before in omega (arith, ones-le 64 (s .args .x) (omega (arith, s .fits .x))))
+    (λ c. at-least (clear (c .before)))
+    (λ c. goes-on (in-range (c .before)) refl (fails (first-place (refl, c .if2 .taken) (λ q l a. let z : ⊥ = omega arith in z))))
+    (λ c. goes-on (in-range (c .before)) refl (passes (clear-one (λ p h. h .1 (omega (arith, c .if2 .left)))))))

@@ -1,6 +1,6 @@
 -- `adjacency::zero_check` meets its contract: a check that refuses answers for the whole table, and behind it the CAM is written and its edges checked. Assumes nothing.
 use mathlib.Core.Path.{_≡_, refl, sym, ap, _∙_}
-use Rattle.refusal.specs.Laws.{stops, goes-on, was-clear, clear-one, clear-both, at-least, at-most}
+use Rattle.refusal.specs.Laws.{stops, goes-on, was-clear, clear-one, clear-both, at-least, at-most, size-clear}
 use mathlib.Core.List.{[], _∷_, _++_}
 use Prim.Native.Nat.{ℕ, _-_, _≤_}
 use lib.ListN.{length, take, drop, replicate}
@@ -8,14 +8,11 @@ use Rattle.refusal.specs.Table.{Clear, row3}
 use Rattle.adjacency.specs.Adjacency.{zeroMost, row4, factorial, zeroCam}
 use Rattle.adjacency.specs.Zero.{zero-length, zero-entries}
 use Rattle.adjacency.specs.Made.{entries-clear}
-use Rattle.adjacency.proofs.Sizes.{right}
 use Rattle.adjacency.proofs.Behind.{front-length, array-length, front-is, front-laid}
 use native.Mathlib.Omega.{arith}
 use borrow.Author.Needs.{needs}
 use Rattle.adjacency.proofs.zero_check.Statement.{statement}
 use Rattle.adjacency.proofs.zero_check.Tie as tie
-use Rattle.adjacency.proofs.zero_cam.Reads as zero-cam-reads
-use Rattle.adjacency.proofs.zero_sizes.Reads as zero-sizes-reads
 
 -- N is from 1 to 21
 known :
@@ -81,7 +78,7 @@ made-requires c κs =
     let a = w .before .before .before .before .before .args in
     let k = known (w .before .before) in
     rw (lent w)
-    (clear-both (right (λ e. let z : ⊥ = omega (arith, at-least k) in z) (omega (arith, at-most k)))
+    (clear-both (size-clear (at-least k) (omega (arith, at-most k)))
     (clear-both (clear-one (λ p h. h .1 (zero-length (a .n) (a .x)))) (entries-clear (zero-entries (a .n) (a .x)))))
 
 returns-2 : tie.Need-returns-2

@@ -1,9 +1,6 @@
 -- `code::push` meets its contract. Assumes nothing.
-use mathlib.Core.Path.{_≡_, refl, subst}
 use Prim.Native.Nat.{_-_, _≤_}
-use native.Mathlib.Nat.{le-antisymm}
 use native.Mathlib.Omega.{arith}
-use lib.ListN.{length}
 use Rattle.code.specs.Stack.{Pushed, push-none, push-one, push-all}
 use Rattle.code.proofs.push.Statement.{statement}
 use Rattle.code.proofs.push.Tie as tie

@@ -1,11 +1,10 @@
 -- `code::write_edges` meets its contract: the loop keeps what is written and which places are open. Assumes nothing.
-use mathlib.Core.Path.{_≡_, refl, sym}
+use mathlib.Core.Path.{refl, sym}
 use Prim.Native.Nat.{_-_}
 use native.Mathlib.Omega.{arith}
 use denote.Ref.{now}
 use lib.ListN.{length, length-set}
 use Rattle.code.specs.Limits.{size, valence}
-use Rattle.code.specs.Code.{codeRows}
 use Rattle.code.specs.Right.{Right, clear-right}
 use Rattle.code.proofs.Writing.{Decoding, Turn, turn, digit-most, decoding-first, decoding-next, decoded, decoding-length}
 use Rattle.code.proofs.write_edges.Statement.{statement}

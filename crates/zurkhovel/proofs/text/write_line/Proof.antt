@@ -43,6 +43,5 @@ write-line-spec =
     (λ c. search needs)
     (λ c. let e = c .before .before .before .before .before .before .before .before .before in
     let d = e .before in
-    let l = c .before .before .write .ensures in
     derived-given (start d .args .n) (now (start d .args .edges)) (clear d) line (e .extent .result) (e .extent .ensures) (c .before .before .before .before .before .before .before .before .if1 .left)
-    (c .before .before .before .before .before .before .centred .ensures) (record { count = l .count; lies = l .lies })))
+    (c .before .before .before .before .before .before .centred .ensures) (c .before .before .write .ensures)))
