@@ -13,3 +13,7 @@ pub mod Bits
 pub mod OneBits
 pub mod Figures
 pub mod Demand
+pub mod Round
+pub mod RoundBits
+pub mod RoundMatrix
+pub mod RoundText

@@ -1,18 +1,18 @@
--- `figures::written` is safe and ends. Assumes nothing.
+-- `figures::shown::list` is safe and ends. Assumes nothing.
 use Prim.Native.Nat.{_-_, _≤_}
 use native.Mathlib.Omega.{arith}
 use borrow.Author.Needs.{needs}
 use lib.ListN.{length}
-use Rattle.figures.proofs.written.Statement.{statement}
-use Rattle.figures.proofs.written.Tie as tie
+use Rattle.figures.proofs.shown.list.Statement.{statement}
+use Rattle.figures.proofs.shown.list.Tie as tie
 
 abbrev Inv-loop : tie.InvT-loop
-Inv-loop out i₀ i = i ≤ length out
+Inv-loop s i₀ i = i ≤ length s
 
 abbrev μ-loop : tie.MeasureT-loop
-μ-loop out i₀ i = length out - i
+μ-loop s i₀ i = length s - i
 
-pub written-spec : {M : Type 1} → statement M
-written-spec =
+pub list-spec : {M : Type 1} → statement M
+list-spec =
     tie.close
     (tie.spec Inv-loop μ-loop (λ c. omega arith) (λ c. omega arith) (λ c κs. search needs) (λ c. omega arith) (λ c. omega arith) (λ c. omega arith) (λ c. search needs))

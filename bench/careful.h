@@ -1,0 +1,42 @@
+/* A careful C implementation of six of the library's calls, as a C programmer would ship it: the same inputs, the same checks, the same refusal numbers and places.
+ * Each function returns the refusal number, 0 for success; `*place` is the place of a refusal, or the number of bytes written. */
+#ifndef CAREFUL_H
+#define CAREFUL_H
+
+#include <stddef.h>
+#include <stdint.h>
+
+enum { SIZE = 64, VALENCE = 4 };
+
+/* A checked skeleton: vertices from 1, each with its neighbours. */
+struct tree {
+    unsigned n;
+    uint8_t degree[SIZE + 1];
+    uint8_t near[SIZE + 1][VALENCE];
+};
+
+/* The tree of an edge list: rows 3 and 5 to 9. */
+uint32_t tree_read(struct tree *t, uint64_t n, const uint8_t *edges, size_t len, uint64_t root, uint64_t *place);
+
+/* Dictionary order of two runs of n digits. They mostly differ early, so a call of memcmp would cost more. */
+static inline int digits_compare(const uint8_t *a, const uint8_t *b, size_t n) {
+    for (size_t i = 0; i < n; i++)
+        if (a[i] != b[i])
+            return a[i] < b[i] ? -1 : 1;
+    return 0;
+}
+
+/* Codes of a tree, n digits each. */
+void code_rooted(const struct tree *t, unsigned root, uint8_t *out);
+void code_centred(const struct tree *t, uint8_t *out);
+void code_n_tuple(const struct tree *t, uint8_t *out);
+
+/* The calls. */
+uint32_t c_read_line(const uint8_t *text, size_t len, uint8_t *out, size_t out_len, uint64_t *place);
+uint32_t c_write_line(uint64_t n, const uint8_t *edges, size_t len, uint8_t *out, size_t out_len, uint64_t *place);
+uint32_t c_centred_code(uint64_t n, const uint8_t *edges, size_t len, uint8_t *out, size_t out_len, uint64_t *place);
+uint32_t c_n_tuple_code(uint64_t n, const uint8_t *edges, size_t len, uint8_t *out, size_t out_len, uint64_t *place);
+uint32_t c_same(uint64_t n1, const uint8_t *e1, size_t l1, uint64_t n2, const uint8_t *e2, size_t l2, uint64_t *list, uint64_t *place);
+uint32_t c_pack(uint64_t n, const uint8_t *edges, size_t len, uint64_t root, uint8_t *out, size_t out_len, uint64_t *place);
+
+#endif

@@ -1,0 +1,228 @@
+/* measure check N          both sides on the same inputs, whole and damaged: every answer, place and byte of output alike
+ * measure CALL WHO N       one call on TREES random trees of N vertices; WHO is proved, c, or none (all but the call)
+ * measure graph6 - N       the same trees in graph6, one to a line
+ *
+ * A tree: each new vertex hangs on a random earlier one with fewer than four neighbours; then vertices get random numbers, edges a random order and a random direction. */
+#include "../tests/second/zurkhovel.h"
+#include "careful.h"
+#include <stdio.h>
+#include <stdlib.h>
+#include <string.h>
+
+enum { TREES = 500, EDGES = 2 * (SIZE - 1), LINE = SIZE + 4, PACKED = SIZE / 4 };
+
+struct input {
+    unsigned n;
+    uint8_t edges[EDGES], other[EDGES]; /* other: the same tree under other numbers for every even input, another tree for every odd one */
+    uint8_t line[LINE];
+    uint64_t line_len;
+};
+static struct input inputs[TREES];
+
+/* what a call gave */
+struct result {
+    uint32_t number;
+    uint64_t place, list;
+    uint8_t out[LINE];
+};
+
+static uint64_t state = 20011;
+
+/* a random number below k */
+static unsigned below(unsigned k) {
+    state += 0x9e3779b97f4a7c15u;
+    uint64_t z = state;
+    z = (z ^ (z >> 30)) * 0xbf58476d1ce4e5b9u;
+    z = (z ^ (z >> 27)) * 0x94d049bb133111ebu;
+    return (unsigned)((z ^ (z >> 31)) % k);
+}
+
+static void grow(unsigned n, uint8_t *edges) {
+    unsigned degree[SIZE + 1] = {0};
+    for (unsigned v = 2; v <= n; v++) {
+        unsigned u;
+        do
+            u = 1 + below(v - 1);
+        while (degree[u] == VALENCE);
+        degree[u]++;
+        degree[v]++;
+        edges[2 * v - 4] = (uint8_t)u;
+        edges[2 * v - 3] = (uint8_t)v;
+    }
+}
+
+static void swap(uint8_t *a, uint8_t *b) {
+    uint8_t x = *a;
+    *a = *b;
+    *b = x;
+}
+
+static void shuffle(unsigned n, const uint8_t *from, uint8_t *edges) {
+    uint8_t name[SIZE + 1];
+    for (unsigned v = 1; v <= n; v++)
+        name[v] = (uint8_t)v;
+    for (unsigned v = n; v > 1; v--)
+        swap(&name[v], &name[1 + below(v)]);
+    for (unsigned i = 0; i < 2 * (n - 1); i++)
+        edges[i] = name[from[i]];
+    for (unsigned p = n - 1; p > 0; p--) {
+        unsigned q = below(p);
+        swap(&edges[2 * p - 2], &edges[2 * q]);
+        swap(&edges[2 * p - 1], &edges[2 * q + 1]);
+        if (below(2))
+            swap(&edges[2 * p - 2], &edges[2 * p - 1]);
+    }
+}
+
+static void make(struct input *x, unsigned n, int same) {
+    uint8_t plain[EDGES];
+    x->n = n;
+    grow(n, plain);
+    shuffle(n, plain, x->edges);
+    if (!same)
+        grow(n, plain);
+    shuffle(n, plain, x->other);
+    if (c_write_line(n, x->edges, 2 * (n - 1), x->line, LINE, &x->line_len))
+        exit(2);
+}
+
+/* ---- The calls, each by both sides ---- */
+
+enum side { NONE, PROVED, PLAIN };
+
+static void read_line(enum side s, const struct input *x, struct result *r) {
+    if (s == PROVED)
+        r->number = zk_read_line(x->line, x->line_len, r->out, SIZE, &r->place);
+    else if (s == PLAIN)
+        r->number = c_read_line(x->line, x->line_len, r->out, SIZE, &r->place);
+}
+
+static void write_line(enum side s, const struct input *x, struct result *r) {
+    if (s == PROVED)
+        r->number = zk_write_line(x->n, x->edges, 2 * (x->n - 1), r->out, LINE, &r->place);
+    else if (s == PLAIN)
+        r->number = c_write_line(x->n, x->edges, 2 * (x->n - 1), r->out, LINE, &r->place);
+}
+
+static void centred(enum side s, const struct input *x, struct result *r) {
+    if (s == PROVED)
+        r->number = zk_centred_code(x->n, x->edges, 2 * (x->n - 1), r->out, SIZE, &r->place);
+    else if (s == PLAIN)
+        r->number = c_centred_code(x->n, x->edges, 2 * (x->n - 1), r->out, SIZE, &r->place);
+}
+
+static void n_tuple(enum side s, const struct input *x, struct result *r) {
+    if (s == PROVED)
+        r->number = zk_n_tuple_code(x->n, x->edges, 2 * (x->n - 1), r->out, SIZE, &r->place);
+    else if (s == PLAIN)
+        r->number = c_n_tuple_code(x->n, x->edges, 2 * (x->n - 1), r->out, SIZE, &r->place);
+}
+
+static void verdict(enum side s, const struct input *x, struct result *r) {
+    if (s == PROVED)
+        r->number = zk_same(x->n, x->edges, 2 * (x->n - 1), x->n, x->other, 2 * (x->n - 1), &r->list, &r->place);
+    else if (s == PLAIN)
+        r->number = c_same(x->n, x->edges, 2 * (x->n - 1), x->n, x->other, 2 * (x->n - 1), &r->list, &r->place);
+}
+
+static void packed(enum side s, const struct input *x, struct result *r) {
+    if (s == PROVED)
+        r->number = zk_pack(x->n, x->edges, 2 * (x->n - 1), 1, r->out, PACKED, &r->place);
+    else if (s == PLAIN)
+        r->number = c_pack(x->n, x->edges, 2 * (x->n - 1), 1, r->out, PACKED, &r->place);
+}
+
+static const struct call {
+    const char *name;
+    void (*run)(enum side, const struct input *, struct result *);
+} calls[] = {{"read_line", read_line}, {"write_line", write_line}, {"centred_code", centred}, {"n_tuple_code", n_tuple}, {"verdict", verdict}, {"packed", packed}};
+enum { CALLS = sizeof calls / sizeof *calls };
+
+/* ---- What the program does ---- */
+
+static unsigned refused;
+
+static void compare(const struct input *x) {
+    for (unsigned c = 0; c < CALLS; c++) {
+        struct result a = {0}, b = {0};
+        calls[c].run(PROVED, x, &a);
+        calls[c].run(PLAIN, x, &b);
+        if (a.number != b.number || a.place != b.place || a.list != b.list || memcmp(a.out, b.out, LINE) != 0) {
+            printf("%s: %u at %llu, and %u at %llu in C\n", calls[c].name, a.number, (unsigned long long)a.place, b.number, (unsigned long long)b.place);
+            exit(1);
+        }
+        refused += a.number != 0;
+    }
+}
+
+static void check(void) {
+    for (int i = 0; i < TREES; i++) {
+        compare(&inputs[i]);
+        for (int j = 0; j < 20; j++) {
+            struct input x = inputs[i];
+            x.edges[below(2 * (x.n - 1))] = (uint8_t)below(x.n + 2);
+            x.line[below((unsigned)x.line_len)] = (uint8_t)(j % 5 ? '0' + below(5) : below(256));
+            compare(&x);
+        }
+    }
+    if (refused == 0)
+        exit(1);
+    printf("%d trees of %u vertices, whole and with 20 damages each: both sides answer alike, %u refusals among them\n", TREES, inputs[0].n, refused);
+}
+
+static void measure(const char *name, const char *who) {
+    enum side s = strcmp(who, "proved") == 0 ? PROVED : strcmp(who, "c") == 0 ? PLAIN : NONE;
+    uint64_t sum = 0;
+    for (unsigned c = 0; c < CALLS; c++) {
+        if (strcmp(calls[c].name, name) != 0)
+            continue;
+        for (int i = 0; i < TREES; i++) {
+            struct result r = {0};
+            calls[c].run(s, &inputs[i], &r);
+            sum += r.number + r.place + r.out[0];
+        }
+    }
+    printf("%llu\n", (unsigned long long)sum);
+}
+
+/* graph6: the size, and the upper triangle of the adjacency matrix by columns, six bits to a byte */
+static void graph6(const struct input *x) {
+    static uint8_t joined[SIZE + 1][SIZE + 1];
+    unsigned held = 0, bits = 0;
+    memset(joined, 0, sizeof joined);
+    for (unsigned p = 0; p + 1 < x->n; p++)
+        joined[x->edges[2 * p]][x->edges[2 * p + 1]] = joined[x->edges[2 * p + 1]][x->edges[2 * p]] = 1;
+    if (x->n > 62)
+        printf("~?%c%c", 63 + x->n / 64, 63 + x->n % 64);
+    else
+        putchar((int)(63 + x->n));
+    for (unsigned v = 2; v <= x->n; v++)
+        for (unsigned u = 1; u < v; u++) {
+            held = 2 * held + joined[u][v];
+            if (++bits == 6) {
+                putchar((int)(63 + held));
+                held = bits = 0;
+            }
+        }
+    if (bits)
+        putchar((int)(63 + (held << (6 - bits))));
+    putchar('\n');
+}
+
+int main(int argc, char **argv) {
+    if (argc < 3)
+        return 2;
+    unsigned n = (unsigned)atoi(argv[argc - 1]);
+    if (n < 2 || n > SIZE)
+        return 2;
+    for (int i = 0; i < TREES; i++)
+        make(&inputs[i], n, i % 2 == 0);
+    if (strcmp(argv[1], "check") == 0)
+        check();
+    else if (strcmp(argv[1], "graph6") == 0)
+        for (int i = 0; i < TREES; i++)
+            graph6(&inputs[i]);
+    else
+        measure(argv[1], argv[2]);
+    return 0;
+}

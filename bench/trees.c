@@ -1,0 +1,223 @@
+/* Edge lists, and the codes of a tree. */
+#include "careful.h"
+#include <string.h>
+
+static unsigned head(uint8_t *up, unsigned v) {
+    while (up[v] != v) {
+        up[v] = up[up[v]];
+        v = up[v];
+    }
+    return v;
+}
+
+uint32_t tree_read(struct tree *t, uint64_t n, const uint8_t *edges, size_t len, uint64_t root, uint64_t *place) {
+    uint8_t up[SIZE + 1];
+    size_t joined = 0, full = 0;
+    *place = 0;
+    if (n == 0 || n > SIZE)
+        return 3;
+    if (len != 2 * (n - 1))
+        return 5;
+    if (root == 0 || root > n)
+        return 6;
+    for (size_t i = 0; i < len; i++)
+        if (edges[i] == 0 || edges[i] > n) {
+            *place = i / 2 + 1;
+            return 6;
+        }
+    t->n = (unsigned)n;
+    memset(t->degree, 0, sizeof t->degree);
+    for (unsigned v = 0; v <= n; v++)
+        up[v] = (uint8_t)v;
+    /* one pass: a loop is refused at once, the first edge of a ring and the first of a full vertex are kept until then */
+    for (size_t p = 1; p < n; p++) {
+        unsigned a = edges[2 * p - 2], b = edges[2 * p - 1];
+        if (a == b) {
+            *place = p;
+            return 7;
+        }
+        unsigned x = head(up, a), y = head(up, b);
+        if (x == y) {
+            if (!joined)
+                joined = p;
+        } else
+            up[y] = (uint8_t)x;
+        if (t->degree[a] == VALENCE || t->degree[b] == VALENCE) {
+            if (!full)
+                full = p;
+        } else {
+            t->near[a][t->degree[a]++] = (uint8_t)b;
+            t->near[b][t->degree[b]++] = (uint8_t)a;
+        }
+    }
+    if (joined || full) {
+        *place = joined ? joined : full;
+        return joined ? 8 : 9;
+    }
+    return 0;
+}
+
+/* The code of what hangs at v; its length. The children's codes are written one behind the other, and then put in order where they are not. A leaf's
+ * code is the smallest: leaves are only counted, and their digits come last. */
+static unsigned subtree(const struct tree *t, unsigned v, unsigned parent, uint8_t *out) {
+    const uint8_t *child[VALENCE];
+    unsigned length[VALENCE], k = 0, at = 1, leaves = 0, moved = 0;
+    for (unsigned i = 0; i < t->degree[v]; i++) {
+        unsigned w = t->near[v][i];
+        if (w == parent)
+            continue;
+        if (t->degree[w] == 1) {
+            leaves++;
+            continue;
+        }
+        const uint8_t *code = out + at;
+        unsigned len = subtree(t, w, v, out + at), j = k++;
+        for (; j > 0; j--) {
+            if (digits_compare(child[j - 1], code, len < length[j - 1] ? len : length[j - 1]) >= 0)
+                break;
+            child[j] = child[j - 1];
+            length[j] = length[j - 1];
+            moved = 1;
+        }
+        child[j] = code;
+        length[j] = len;
+        at += len;
+    }
+    out[0] = (uint8_t)(k + leaves);
+    if (moved) {
+        uint8_t sorted[SIZE];
+        unsigned m = 0;
+        for (unsigned j = 0; j < k; j++) {
+            memcpy(sorted + m, child[j], length[j]);
+            m += length[j];
+        }
+        memcpy(out + 1, sorted, m);
+    }
+    for (; leaves > 0; leaves--)
+        out[at++] = 0;
+    return at;
+}
+
+void code_rooted(const struct tree *t, unsigned root, uint8_t *out) {
+    subtree(t, root, 0, out);
+}
+
+/* The middle of the longest paths, one vertex twice or two: leaves are taken off, round by round. */
+static void centre(const struct tree *t, unsigned *first, unsigned *second) {
+    uint8_t degree[SIZE + 1], queue[SIZE];
+    unsigned from = 0, to = 0, left = t->n;
+    memcpy(degree, t->degree, sizeof degree);
+    for (unsigned v = 1; v <= t->n; v++)
+        if (degree[v] < 2)
+            queue[to++] = (uint8_t)v;
+    while (left > 2) {
+        unsigned end = to;
+        left -= end - from;
+        for (; from < end; from++) {
+            unsigned v = queue[from];
+            for (unsigned i = 0; i < t->degree[v]; i++) {
+                unsigned w = t->near[v][i];
+                if (--degree[w] == 1)
+                    queue[to++] = (uint8_t)w;
+            }
+        }
+    }
+    *first = queue[from];
+    *second = queue[to - 1];
+}
+
+void code_centred(const struct tree *t, uint8_t *out) {
+    unsigned first, second;
+    centre(t, &first, &second);
+    code_rooted(t, first, out);
+    if (first != second) {
+        uint8_t other[SIZE];
+        code_rooted(t, second, other);
+        if (digits_compare(out, other, t->n) < 0)
+            memcpy(out, other, t->n);
+    }
+}
+
+void code_n_tuple(const struct tree *t, uint8_t *out) {
+    uint8_t other[SIZE];
+    unsigned most = 0, any = 0;
+    for (unsigned v = 1; v <= t->n; v++)
+        if (t->degree[v] > most)
+            most = t->degree[v];
+    for (unsigned v = 1; v <= t->n; v++) {
+        if (t->degree[v] != most)
+            continue;
+        code_rooted(t, v, any ? other : out);
+        if (any && digits_compare(out, other, t->n) < 0)
+            memcpy(out, other, t->n);
+        any = 1;
+    }
+}
+
+/* An edge list and a lent output of `need` bytes: every row that can refuse. */
+static uint32_t begin(struct tree *t, uint64_t n, const uint8_t *edges, size_t len, uint64_t root, size_t need, size_t out_len, uint64_t *place) {
+    uint32_t refused = tree_read(t, n, edges, len, root, place);
+    if (refused)
+        return refused;
+    *place = need;
+    return out_len < need ? 15 : 0;
+}
+
+uint32_t c_centred_code(uint64_t n, const uint8_t *edges, size_t len, uint8_t *out, size_t out_len, uint64_t *place) {
+    struct tree t;
+    uint32_t refused = begin(&t, n, edges, len, 1, n, out_len, place);
+    if (!refused)
+        code_centred(&t, out);
+    return refused;
+}
+
+uint32_t c_n_tuple_code(uint64_t n, const uint8_t *edges, size_t len, uint8_t *out, size_t out_len, uint64_t *place) {
+    struct tree t;
+    uint32_t refused = begin(&t, n, edges, len, 1, n, out_len, place);
+    if (!refused)
+        code_n_tuple(&t, out);
+    return refused;
+}
+
+uint32_t c_same(uint64_t n1, const uint8_t *e1, size_t l1, uint64_t n2, const uint8_t *e2, size_t l2, uint64_t *list, uint64_t *place) {
+    struct tree a, b;
+    uint8_t x[SIZE], y[SIZE];
+    uint32_t refused = tree_read(&a, n1, e1, l1, 1, place);
+    *list = 1;
+    if (refused)
+        return refused;
+    *list = 2;
+    refused = tree_read(&b, n2, e2, l2, 1, place);
+    if (refused)
+        return refused;
+    *list = 0;
+    *place = 0;
+    if (n1 != n2)
+        return 0;
+    code_centred(&a, x);
+    code_centred(&b, y);
+    *place = digits_compare(x, y, n1) == 0;
+    return 0;
+}
+
+uint32_t c_pack(uint64_t n, const uint8_t *edges, size_t len, uint64_t root, uint8_t *out, size_t out_len, uint64_t *place) {
+    struct tree t;
+    uint8_t code[SIZE];
+    uint32_t refused = begin(&t, n, edges, len, root, (2 * n + 6) / 8, out_len, place);
+    if (refused)
+        return refused;
+    code_rooted(&t, (unsigned)root, code);
+    uint64_t held = 0;
+    unsigned bits = 0, at = 0;
+    for (unsigned i = 0; i < n; i++) {
+        held = held << (code[i] + 1) | ((2u << code[i]) - 2);
+        bits += code[i] + 1u;
+        if (bits >= 8) {
+            bits -= 8;
+            out[at++] = (uint8_t)(held >> bits);
+        }
+    }
+    if (bits)
+        out[at] = (uint8_t)(held << (8 - bits));
+    return 0;
+}

@@ -1,0 +1,17 @@
+-- `figures::shown::front` is safe and ends. Assumes nothing.
+use mathlib.Core.Path.{sym}
+use native.Mathlib.Omega.{arith}
+use denote.Ref.{now}
+use borrow.Author.Needs.{needs}
+use lib.Seq.{length-take-le}
+use Rattle.figures.proofs.shown.front.Statement.{statement}
+use Rattle.figures.proofs.shown.front.Tie as tie
+
+pub front-spec : {M : Type 1} → statement M
+front-spec =
+    tie.close
+    (tie.spec
+    (λ c. search needs)
+    (λ c. let s = c .before .before .before in sym (length-take-le (s .args .n) (now (s .args .out)) (omega arith)))
+    (λ c κs. search needs)
+    (λ c. search needs))

@@ -1,0 +1,193 @@
+// One worked example for each public call, as docs/CALLS.md shows it.
+use super::shown::answer;
+use super::shown::given;
+use super::shown::number;
+use super::shown::numbered;
+use super::shown::refused;
+use super::shown::sized;
+use super::shown::text;
+use super::shown::value;
+use fraction::Fraction;
+use zurkhovel::codes::Verdict;
+
+// A call with N, an edge list and a root.
+fn rooted(name: &[u8], n: usize, edges: &[u8], root: usize) {
+    sized(name, n, edges);
+    text(b", ");
+    number(root as u64);
+}
+
+fn digit_codes() {
+    let mut out = [0u8; 126];
+    given(b"check_code", &[2, 0, 1, 0]);
+    answer(zurkhovel::codes::check_code(&[2, 0, 1, 0]), &[]);
+    given(b"decode_code", &[1, 2, 0, 0]);
+    let a = zurkhovel::codes::decode_code(&[1, 2, 0, 0], &mut out);
+    answer(a, &out);
+    given(b"decode_n_tuple", &[3, 1, 1, 0, 0, 0]);
+    let b = zurkhovel::codes::decode_n_tuple(&[3, 1, 1, 0, 0, 0], &mut out);
+    answer(b, &out);
+    given(b"decode_centred", &[2, 2, 0, 0, 1, 0]);
+    let c = zurkhovel::codes::decode_centred(&[2, 2, 0, 0, 1, 0], &mut out);
+    answer(c, &out);
+    given(b"decode_centred", &[3, 1, 1, 0, 0, 0]);
+    let d = zurkhovel::codes::decode_centred(&[3, 1, 1, 0, 0, 0], &mut out);
+    answer(d, &out);
+}
+
+// Of 2-methylpentane.
+fn edge_codes(edges: &[u8]) {
+    let mut out = [0u8; 64];
+    rooted(b"check_edges", 3, &[1, 2, 1, 2], 1);
+    answer(zurkhovel::codes::check_edges(3, &[1, 2, 1, 2], 1), &[]);
+    rooted(b"rooted_code", 6, edges, 1);
+    let a = zurkhovel::codes::rooted_code(6, edges, 1, &mut out);
+    answer(a, &out);
+    sized(b"n_tuple_code", 6, edges);
+    let b = zurkhovel::codes::n_tuple_code(6, edges, &mut out);
+    answer(b, &out);
+    sized(b"centred_code", 6, edges);
+    let c = zurkhovel::codes::centred_code(6, edges, &mut out);
+    answer(c, &out);
+    sized(b"equal_vertices", 6, edges);
+    let d = zurkhovel::alike::equal_vertices(6, edges, &mut out);
+    answer(d, &out);
+}
+
+fn same(n1: usize, edges1: &[u8], n2: usize, edges2: &[u8]) {
+    sized(b"same_skeleton", n1, edges1);
+    sized(b",", n2, edges2);
+    match zurkhovel::codes::same_skeleton(n1, edges1, n2, edges2) {
+        Verdict::Same => text(b" = Same\n"),
+        Verdict::Different => text(b" = Different\n"),
+        Verdict::Refused(list, k, p) => {
+            text(b" = Refused(");
+            number(list as u64);
+            text(b", ");
+            number(k as u64);
+            text(b", ");
+            number(p as u64);
+            text(b")\n");
+        }
+    }
+}
+
+// Of 002's example.
+fn bits_of(edges: &[u8]) {
+    let mut out = [0u8; 16];
+    rooted(b"pack", 8, edges, 1);
+    let a = zurkhovel::bit_tuple::pack(8, edges, 1, &mut out);
+    answer(a, &out);
+    rooted(b"whole", 8, edges, 1);
+    value(zurkhovel::bit_tuple::whole(8, edges, 1));
+    rooted(b"fraction", 8, edges, 1);
+    match zurkhovel::bit_tuple::fraction(8, edges, 1) {
+        Fraction::Exact(x) => {
+            if x == 0.926025390625 {
+                text(b" = Exact(0.926025390625)\n");
+            }
+        }
+        Fraction::Refused(k, p) => refused(k, p),
+    }
+}
+
+fn bits_read() {
+    let mut out = [0u8; 126];
+    given(b"unpack", &[237, 16]);
+    let a = zurkhovel::bit_tuple::unpack(&[237, 16], &mut out);
+    answer(a, &out);
+    numbered(b"unwhole", 8, 30344);
+    let b = zurkhovel::bit_tuple::unwhole(8, 30344, &mut out);
+    answer(b, &out);
+    text(b"unfraction 0.5");
+    let c = zurkhovel::bit_tuple::unfraction(0.5, &mut out);
+    answer(c, &out);
+}
+
+// Of 001's example.
+fn matrices(edges: &[u8]) {
+    let mut out = [0u8; 63];
+    sized(b"cam", 7, edges);
+    let a = zurkhovel::matrix::cam(7, edges, &mut out);
+    answer(a, &out);
+    sized(b"zero_a", 7, edges);
+    value(zurkhovel::matrix::zero_a(7, edges));
+    sized(b"a_zero", 7, edges);
+    value(zurkhovel::matrix::a_zero(7, edges));
+    sized(b"cam_by_code", 7, edges);
+    let b = zurkhovel::matrix::cam_by_code(7, edges, &mut out);
+    answer(b, &out);
+    sized(b"zero_a_by_code", 7, edges);
+    value(zurkhovel::matrix::zero_a_by_code(7, edges));
+    sized(b"a_zero_by_code", 7, edges);
+    value(zurkhovel::matrix::a_zero_by_code(7, edges));
+}
+
+fn matrices_read() {
+    let mut out = [0u8; 126];
+    sized(b"decode_cam", 7, &[1, 2, 2, 3, 1, 6]);
+    let a = zurkhovel::matrix::decode_cam(7, &[1, 2, 2, 3, 1, 6], &mut out);
+    answer(a, &out);
+    numbered(b"decode_zero_a", 7, 545);
+    let b = zurkhovel::matrix::decode_zero_a(7, 545, &mut out);
+    answer(b, &out);
+    numbered(b"decode_a_zero", 7, 1646688);
+    let c = zurkhovel::matrix::decode_a_zero(7, 1646688, &mut out);
+    answer(c, &out);
+}
+
+// Of 2-methylpentane.
+fn line(edges: &[u8]) {
+    let mut out = [0u8; 68];
+    sized(b"write_line", 6, edges);
+    let a = zurkhovel::text::write_line(6, edges, &mut out);
+    answer(a, &out);
+    given(b"read_line", b"6 220010\n");
+    let b = zurkhovel::text::read_line(b"6 220010\n", &mut out);
+    answer(b, &out);
+}
+
+// Three lines, the second of which is no centred code.
+fn lines() {
+    let mut records = [0u8; 192];
+    let mut numbers = [0u8; 3];
+    let mut places = [0usize; 3];
+    let p = zurkhovel::text::read_text(
+        b"6 220010\n6 311000\n1 0\n",
+        &mut records,
+        &mut numbers,
+        &mut places,
+    );
+    text(b"read_text of the lines '6 220010', '6 311000' and '1 0' = lines ");
+    number(p.lines as u64);
+    text(b", at ");
+    number(p.at as u64);
+    given(b"; numbers", &numbers);
+    text(b"; places ");
+    number(places[0] as u64);
+    text(b" ");
+    number(places[1] as u64);
+    text(b" ");
+    number(places[2] as u64);
+    text(b"\n");
+    let t = zurkhovel::text::count(&numbers);
+    given(b"count", &numbers);
+    text(b" = read ");
+    number(t.read as u64);
+    text(b", refused ");
+    number(t.refused as u64);
+    text(b"\n");
+}
+
+pub(crate) fn examples() {
+    digit_codes();
+    edge_codes(&[1, 2, 2, 3, 3, 4, 4, 5, 2, 6]);
+    same(4, &[1, 2, 2, 3, 3, 4], 4, &[1, 4, 4, 2, 2, 3]);
+    same(4, &[1, 2, 2, 3, 3, 4], 3, &[1, 2, 1, 2]);
+    bits_of(&[1, 2, 2, 3, 3, 4, 2, 5, 1, 6, 6, 7, 1, 8]);
+    bits_read();
+    matrices(&[1, 2, 2, 3, 2, 4, 3, 5, 1, 6, 6, 7]);
+    matrices_read();
+    line(&[1, 2, 2, 3, 3, 4, 4, 5, 2, 6]);
+    lines();
+}

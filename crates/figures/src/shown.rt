@@ -1,0 +1,92 @@
+// Writing what a call was handed, and what it answered.
+use libc::STDOUT_FILENO;
+use refusal::Answer;
+use refusal::Number;
+
+pub(crate) fn text(s: &[u8]) {
+    io::write_all(STDOUT_FILENO, s);
+}
+
+pub(crate) fn number(n: u64) {
+    io::print_decimal(STDOUT_FILENO, n);
+}
+
+fn byte(b: u8) {
+    text(b" ");
+    number(b as u64);
+}
+
+// Bytes by their values.
+pub(crate) fn list(s: &[u8]) {
+    let mut i = 0;
+    while i < s.len() {
+        byte(s[i]);
+        i += 1;
+    }
+}
+
+// The first n bytes of an output.
+fn front(out: &[u8], n: usize) {
+    if out.len() < n {
+        return;
+    }
+    list(&out[..n]);
+}
+
+// A call by its name, with a list that it is handed.
+pub(crate) fn given(name: &[u8], s: &[u8]) {
+    text(name);
+    list(s);
+}
+
+// With N and a list.
+pub(crate) fn sized(name: &[u8], n: usize, s: &[u8]) {
+    text(name);
+    text(b" ");
+    number(n as u64);
+    text(b",");
+    list(s);
+}
+
+// With N and a number.
+pub(crate) fn numbered(name: &[u8], n: usize, value: u64) {
+    text(name);
+    text(b" ");
+    number(n as u64);
+    text(b", ");
+    number(value);
+}
+
+// A refusal: its number, and its place.
+pub(crate) fn refused(k: u8, p: usize) {
+    text(b" = Refused(");
+    number(k as u64);
+    text(b", ");
+    number(p as u64);
+    text(b")\n");
+}
+
+// An answer, and what was written.
+pub(crate) fn answer(a: Answer, out: &[u8]) {
+    match a {
+        Answer::Done(n) => {
+            text(b" = Done(");
+            number(n as u64);
+            text(b")");
+            front(out, n);
+            text(b"\n");
+        }
+        Answer::Refused(k, p) => refused(k, p),
+    }
+}
+
+pub(crate) fn value(a: Number) {
+    match a {
+        Number::Value(v) => {
+            text(b" = Value(");
+            number(v);
+            text(b")\n");
+        }
+        Number::Refused(k, p) => refused(k, p),
+    }
+}

@@ -1,0 +1,176 @@
+-- Demand 2, said of the public calls: "Decoding an accepted code and coding again in the same form gives that code; coding and decoding
+-- gives the same skeleton under other numbers." What a call gave is the n bytes at the start of its lent output; where the next call's
+-- output has room, it gives what is said here and nothing else.
+--
+-- In order: what a call gave, and what it must give; rooted codes; N-tuple and centred codes, once for both. The bit-tuple's forms are in
+-- `RoundBits`, CAM, 0A and A0 in `RoundMatrix`, lines in `RoundText`. Assumes nothing.
+use mathlib.Core.Path.{_≡_, refl, sym, ap, subst, _∙_}
+use mathlib.Core.List.{List, [], _∷_, _++_}
+use Prim.Native.Nat.{ℕ, _≤_}
+use native.Mathlib.Omega.{arith}
+use lib.ListN.{length, take}
+use Rattle.laws.specs.Laid.{laidOver}
+use Rattle.laws.specs.Laying.{laid-front}
+use Rattle.refusal.specs.Table.{Row, Clear, Outcome, gives, Promise, kept, Answered, Writes, short, Gives}
+use Rattle.refusal.specs.Laws.{one-result, one-given, given, clear-left}
+use Rattle.code.specs.Limits.{size, valence}
+use Rattle.code.specs.Code.{codeRows, decode}
+use Rattle.code.specs.Right.{clear-right, right-clear}
+use Rattle.tree.specs.Skeleton.{IsTree, IsSkeleton, Renumbering, rooted}
+use Rattle.tree.specs.Theorems as Tree
+use Rattle.tree.specs.Accepted.{code-passes}
+use Rattle.skeleton.specs.Edges.{edgeRows}
+use Rattle.skeleton.specs.Theorems.{accepted}
+use Rattle.form.specs.Form.{nTuple, centred}
+use Rattle.form.specs.Forms.{IsForm, form-decoded, form-ends, form-size, n-tuple-form, centred-form}
+use Rattle.form.specs.Accepted.{right-decoded, form-accepted, form-passes}
+use Rattle.zurkhovel.specs.Codes.{DecodeCode, RootedCode, FormCode, DecodeForm}
+
+-- ---- what a call gave, and what it must give
+
+-- c is given: its length is told, and it is written from the start of the output
+abbrev pub Given : List ℕ → List ℕ → List ℕ → Outcome ℕ → Type 0
+Given c old new o = (o ≡ gives (length c)) × (new ≡ laidOver c old)
+
+-- the skeleton of N vertices with the edges E is given, under other numbers
+abbrev pub Renumbered : ℕ → List ℕ → List ℕ → Outcome ℕ → Type 0
+Renumbered N E new o = (o ≡ gives (length E)) × Renumbering N E (take (length E) new)
+
+-- no row refused, what stands at the start of the output is right, and its length was told
+pub gave :
+    {rs : List Row} {Right : List ℕ → Type 0} {old new : List ℕ} {n : ℕ} → Gives rs Right old new (gives n)
+    → Clear rs × Right (take n new) × (length (take n new) ≡ n)
+gave {rs} {Right} {old} {new} {n} g = by-cases (g .promise)
+  where
+    by-cases :
+        Promise (rs ++ (short Right (length old) ∷ [])) (Writes Right old) old new (gives n) → Clear rs × Right (take n new) × (length (take n new) ≡ n)
+    by-cases (kept k w) =
+        let e = laid-front (w .result) old new n (w .lies) (sym (w .count)) in
+        (clear-left rs _ k, subst Right (sym e) (w .right), ap length e ∙ sym (w .count))
+
+-- the same of a value
+pub gave-value : {A : Type 0} {rs : List Row} {Right : A → Type 0} {a : A} → Answered rs Right (gives a) → Clear rs × Right a
+gave-value (kept k r) = (k, r)
+
+-- where no row refuses and c alone is right, c is given
+module _ {rs : List Row} (k : Clear rs) where
+  pub must-give :
+      {Right : List ℕ → Type 0} {old new : List ℕ} {o : Outcome ℕ} (c : List ℕ) → Right c → ((d : List ℕ) → Right d → d ≡ c) → length c ≤ length old
+      → Gives rs Right old new o → Given c old new o
+  must-give c r one h g =
+      one-given (λ d e x y. one d x ∙ sym (one e y)) g
+      (given k (λ d x. ap length (one d x)) h (record { result = c; right = r; count = refl; lies = refl }))
+
+  pub must-answer : {A : Type 0} {Right : A → Type 0} {o : Outcome A} (a : A) → Right a → ((b : A) → Right b → b ≡ a) → Answered rs Right o → o ≡ gives a
+  must-answer a r one g = one-result (λ x y p q. (one x p ∙ sym (one y q), refl)) g (kept k r) .0
+
+-- ---- a right code decoded, and edges read back
+
+-- a right rooted code makes a skeleton that no row refuses, whose code at vertex 1 it is
+module _ (c : List ℕ) (k : Clear (codeRows size valence c)) where
+  pub its-skeleton : IsSkeleton size valence (length c) (decode c)
+  its-skeleton = right-decoded size valence c (clear-right size valence c k)
+
+  pub its-rows : (most : ℕ) → length c ≤ most → Clear (edgeRows most valence (length c) (decode c) 1)
+  its-rows most h =
+      let s = its-skeleton in
+      accepted most valence (length c) (decode c) 1 .1
+      (record { tree = s .tree; few = h; degrees = s .degrees }, (omega arith, clear-right size valence c k .some))
+
+  pub its-code : rooted (length c) (decode c) 1 ≡ c
+  its-code = Tree.decode-code c .0 (code-passes size valence c .0 k .0) .1
+
+-- the rooted code at a vertex of a skeleton is right, and decodes to the skeleton under other numbers
+module _ {most N : ℕ} {E : List ℕ} (s : IsSkeleton most valence N E) {r : ℕ} (a : 1 ≤ r) (b : r ≤ N) where
+  pub code-clear : Clear (codeRows most valence (rooted N E r))
+  code-clear =
+      code-passes most valence (rooted N E r) .1
+      (record { number = N; edges = E; root = r; tree = s .tree; inside = (a, b); is = refl }, s)
+
+  pub code-tree : IsTree N (decode (rooted N E r))
+  code-tree =
+      subst (λ n. IsTree n (decode (rooted N E r))) (Tree.size N E r (s .tree) a b)
+      (Tree.decoded-tree (rooted N E r) (Tree.decode-code (rooted N E r) .0 (Tree.right N E r (s .tree) a b) .0))
+
+  pub code-numbers : Renumbering N E (decode (rooted N E r))
+  code-numbers = Tree.code-decode N E r (s .tree) a b .0
+
+-- a reader that no row stops, and for which the edges F alone are right, gives them; they are as many as those of another tree of N vertices
+pub edges-given :
+    {N : ℕ} {E F : List ℕ} {rs : List Row} {Right : List ℕ → Type 0} {old new : List ℕ} {o : Outcome ℕ} → IsTree N E → IsTree N F → Clear rs
+    → Right F → ((G : List ℕ) → Right G → G ≡ F) → length E ≤ length old → Gives rs Right old new o → (o ≡ gives (length E)) × (take (length E) new ≡ F)
+edges-given {E = E} {F} {old = old} {new} t u k r one h g =
+    let l : length F ≡ length E = omega (arith, t .edges, u .edges) in
+    let (a, b) = must-give k F r one (omega arith) g in
+    (a ∙ ap gives l, laid-front F old new (length E) b l)
+
+-- where these are the same skeleton under other numbers, so is what is given
+pub edges-back :
+    {N : ℕ} {E F : List ℕ} {rs : List Row} {Right : List ℕ → Type 0} {old new : List ℕ} {o : Outcome ℕ} → IsTree N E → IsTree N F
+    → Renumbering N E F → Clear rs → Right F → ((G : List ℕ) → Right G → G ≡ F) → length E ≤ length old → Gives rs Right old new o
+    → Renumbered N E new o
+edges-back {N} {E} t u ρ k r one h g = let (a, b) = edges-given t u k r one h g in (a, subst (Renumbering N E) (sym b) ρ)
+
+-- ---- rooted codes
+
+-- decoded and coded at vertex 1, an accepted code is itself
+pub rooted-again :
+    (c old new : List ℕ) (m : ℕ) (old′ new′ : List ℕ) (o : Outcome ℕ) → DecodeCode c old new (gives m) → length c ≤ length old′
+    → RootedCode (length c) (take m new) 1 old′ new′ o → Given c old′ new′ o
+rooted-again c old new m old′ new′ o d h g =
+    let (k, e, _) = gave d in
+    must-give (its-rows c k size (clear-right size valence c k .few)) c (sym (its-code c k)) (λ b x. x ∙ its-code c k) h
+    (subst (λ F. RootedCode (length c) F 1 old′ new′ o) e g)
+
+-- coded at a vertex and decoded, a skeleton is the same under other numbers
+pub rooted-back :
+    (N : ℕ) (E : List ℕ) (r : ℕ) (old new : List ℕ) (n : ℕ) (old′ new′ : List ℕ) (o : Outcome ℕ) → RootedCode N E r old new (gives n)
+    → length E ≤ length old′ → DecodeCode (take n new) old′ new′ o → Renumbered N E new′ o
+rooted-back N E r old new n old′ new′ o c h g =
+    let (k, e, _) = gave c in
+    let (s, (a, b)) = accepted size valence N E r .0 k in
+    edges-back (s .tree) (code-tree s a b) (code-numbers s a b) (code-clear s a b) refl (λ F z. z) h (subst (λ d. DecodeCode d old′ new′ o) e g)
+
+-- ---- N-tuple and centred codes
+
+module _ (form : ℕ → List ℕ → List ℕ → Type 0) (f : IsForm form) where
+  form-again :
+      (c old new : List ℕ) (m : ℕ) (old′ new′ : List ℕ) (o : Outcome ℕ) → DecodeForm form c old new (gives m) → length c ≤ length old′
+      → FormCode form (length c) (take m new) old′ new′ o → Given c old′ new′ o
+  form-again c old new m old′ new′ o d h g =
+      let (k, e, _) = gave d in
+      let (r, x) = form-passes form f size valence c .0 k in
+      let l = right-clear size valence c r in
+      must-give (its-rows c l size (r .few)) c x (λ b y. f .one (its-skeleton c l .tree) y x) h
+      (subst (λ F. FormCode form (length c) F old′ new′ o) e g)
+
+  form-back :
+      (N : ℕ) (E old new : List ℕ) (n : ℕ) (old′ new′ : List ℕ) (o : Outcome ℕ) → FormCode form N E old new (gives n) → length E ≤ length old′
+      → DecodeForm form (take n new) old′ new′ o → Renumbered N E new′ o
+  form-back N E old new n old′ new′ o c h g =
+      let (k, x, _) = gave c in
+      let (s, i) = accepted size valence N E 1 .0 k in
+      let d = take n new in
+      let a = form-accepted form f size valence d N E s x in
+      let u = subst (λ m. IsTree m (decode d)) (form-size form f N E d (s .tree) x) (Tree.decoded-tree d (form-ends form f N E d (s .tree) x)) in
+      edges-back (s .tree) u (form-decoded form f N E d (s .tree) x) a refl (λ F z. z) h g
+
+pub n-tuple-again :
+    (c old new : List ℕ) (m : ℕ) (old′ new′ : List ℕ) (o : Outcome ℕ) → DecodeForm nTuple c old new (gives m) → length c ≤ length old′
+    → FormCode nTuple (length c) (take m new) old′ new′ o → Given c old′ new′ o
+n-tuple-again = form-again nTuple n-tuple-form
+
+pub n-tuple-back :
+    (N : ℕ) (E old new : List ℕ) (n : ℕ) (old′ new′ : List ℕ) (o : Outcome ℕ) → FormCode nTuple N E old new (gives n) → length E ≤ length old′
+    → DecodeForm nTuple (take n new) old′ new′ o → Renumbered N E new′ o
+n-tuple-back = form-back nTuple n-tuple-form
+
+pub centred-again :
+    (c old new : List ℕ) (m : ℕ) (old′ new′ : List ℕ) (o : Outcome ℕ) → DecodeForm centred c old new (gives m) → length c ≤ length old′
+    → FormCode centred (length c) (take m new) old′ new′ o → Given c old′ new′ o
+centred-again = form-again centred centred-form
+
+pub centred-back :
+    (N : ℕ) (E old new : List ℕ) (n : ℕ) (old′ new′ : List ℕ) (o : Outcome ℕ) → FormCode centred N E old new (gives n) → length E ≤ length old′
+    → DecodeForm centred (take n new) old′ new′ o → Renumbered N E new′ o
+centred-back = form-back centred centred-form

@@ -1,0 +1,82 @@
+-- Demand 2, said of the public calls on lines: a line that is read, decoded and written is that line; a skeleton that is written and read is
+-- given by its centred code, which decodes to it under other numbers (`centred-back`). Assumes nothing.
+use mathlib.Core.Path.{_≡_, refl, sym, ap, subst, _∙_}
+use mathlib.Core.List.{List, [], _∷_, _++_, append-assoc}
+use Prim.Native.Nat.{ℕ, _≤_}
+use native.Mathlib.Omega.{arith}
+use lib.ListN.{length, take}
+use Rattle.laws.specs.Laying.{laid-front}
+use Rattle.refusal.specs.Table.{Outcome, gives, kept}
+use Rattle.refusal.specs.Laws.{clear-left, others}
+use Rattle.code.specs.Limits.{size, valence}
+use Rattle.tree.specs.Skeleton.{IsSkeleton}
+use Rattle.form.specs.Form.{centred}
+use Rattle.form.specs.Forms.{centred-form, form-size}
+use Rattle.form.specs.Accepted.{right-decoded, form-accepted, form-passes}
+use Rattle.lines.specs.Line.{body, line, Cut, lineRows, LineAnswers}
+use Rattle.lines.specs.Damage.{Accept}
+use Rattle.lines.specs.Judged.{digitTable, lawful-table}
+use Rattle.lines.specs.Bodies.{body-free}
+use Rattle.lines.specs.Answered.{Look, good, fits, gives-code, answered-once, look}
+use Rattle.lines.specs.Reading.{block, counted}
+use Rattle.lines.specs.Taking.{line-read}
+use Rattle.zurkhovel.specs.Codes.{DecodeForm}
+use Rattle.zurkhovel.specs.Lines.{ReadLine, WriteLine}
+use Rattle.zurkhovel.specs.Round.{Given, gave, must-give}
+use Rattle.zurkhovel.specs.RoundMatrix.{plain-rows, plain-skeleton}
+
+-- ---- written and read
+
+-- where 64 bytes are lent, the line of an accepted code gives the code
+line-given : (c old new : List ℕ) (o : Outcome ℕ) → Accept size digitTable c → size ≤ length old → ReadLine (line c) old new o → Given c old new o
+unfolding line block counted
+line-given c old new o a h g =
+    let f = fits size digitTable (omega arith) lawful-table a in
+    let u : Cut 10 (line c) (body c) [] = record { parts = refl; free = body-free c f } in
+    let r = line-read size digitTable h g in
+    let e : r .answer ≡ gives c = answered-once size digitTable (r .line) (gives-code size digitTable (omega arith) lawful-table a u) in
+    (r .told ∙ ap counted e, r .lies ∙ ap (λ p. block p old) e)
+
+-- a skeleton's line gives its centred code
+pub line-back :
+    (N : ℕ) (E old new : List ℕ) (n : ℕ) (old′ new′ : List ℕ) (o : Outcome ℕ) → WriteLine N E old new (gives n) → size ≤ length old′
+    → ReadLine (take n new) old′ new′ o → (c : List ℕ) × centred N E c × Given c old′ new′ o
+line-back N E old new n old′ new′ o w h g =
+    let (k, (c, x, e), _) = gave w in
+    let s : IsSkeleton size valence N E = plain-skeleton k in
+    let a : Accept size digitTable c =
+    record { few = omega (arith, form-size centred centred-form N E c (s .tree) x, s .few); clear = others (form-accepted centred centred-form size valence c N E s x) } in
+    (c, x, line-given c old′ new′ o a h (subst (λ t. ReadLine t old′ new′ o) e g))
+
+-- ---- read and written
+
+-- t begins with the line of c
+abbrev pub Begins : List ℕ → List ℕ → Type 0
+Begins c t = (rest : List ℕ) × (t ≡ line c ++ rest)
+
+looked : (t b rest c : List ℕ) → t ≡ b ++ (10 ∷ rest) → Look size digitTable b (gives c) → Begins c t
+unfolding line
+looked t b rest c p (good z a) = (rest, p ∙ ap (λ (d : List ℕ). d ++ (10 ∷ rest)) z ∙ sym (append-assoc (body c) (10 ∷ []) rest))
+
+-- so does a text that gives c
+line-gave : (t old new : List ℕ) (n : ℕ) → ReadLine t old new (gives n) → Begins (take n new) t
+line-gave t old new n (kept k w) =
+    let (m, s) = w .right in
+    let a : LineAnswers size digitTable t (gives (w .result)) = kept (clear-left (lineRows size digitTable t) _ k) (m, s) in
+    let e : take n new ≡ w .result = laid-front (w .result) old new n (w .lies) (sym (w .count)) in
+    subst (λ c. Begins c t) (sym e) (looked t (s .text) (s .rest) (w .result) (s .feed .parts) (look size digitTable (omega arith) lawful-table (s .feed) a))
+
+-- a line that is read, decoded and written is itself
+pub line-again :
+    (t old new : List ℕ) (n : ℕ) (old′ new′ : List ℕ) (m : ℕ) (old″ new″ : List ℕ) (o : Outcome ℕ) → ReadLine t old new (gives n)
+    → DecodeForm centred (take n new) old′ new′ (gives m) → length (line (take n new)) ≤ length old″ → WriteLine (length (take n new)) (take m new′) old″ new″ o
+    → Given (line (take n new)) old″ new″ o × Begins (take n new) t
+line-again t old new n old′ new′ m old″ new″ o r d h g =
+    let c = take n new in
+    let (k, e, _) = gave d in
+    let (x, y) = form-passes centred centred-form size valence c .0 k in
+    let s = right-decoded size valence c x in (
+      must-give (plain-rows s) (line c) (c, y, refl) (λ l (b, z, q). q ∙ ap line (centred-form .one (s .tree) z y)) h
+          (subst (λ F. WriteLine (length c) F old″ new″ o) e g),
+      line-gave t old new n r,
+    )

@@ -1,0 +1,30 @@
+# What the machine needs, for the scripts that read this file with `.`: the library's programs and archive are for x86-64, and any other machine emulates that.
+
+# install_missing PACKAGE...: Debian packages
+install_missing() {
+    echo "installing: $*" >&2
+    apt-get install -y --no-install-recommends "$@" >&2 ||
+        { apt-get update >&2 && apt-get install -y --no-install-recommends "$@" >&2; }
+}
+
+native() {
+    [ "$(uname -m)" = x86_64 ]
+}
+
+# sets emulator: what goes before a program for x86-64
+need_emulator() {
+    emulator=
+    native && return
+    emulator=qemu-x86_64
+    command -v $emulator > /dev/null || install_missing qemu-user
+}
+
+# sets cc, the C compiler for x86-64, and static, its flag for programs that are emulated
+need_compiler() {
+    need_emulator
+    cc=gcc static= headers=/usr/include package='gcc libc6-dev'
+    native || { cc=x86_64-linux-gnu-gcc static=-static headers=/usr/x86_64-linux-gnu/include package='gcc-x86-64-linux-gnu libc6-dev-amd64-cross'; }
+    if ! command -v $cc > /dev/null || [ ! -e $headers/stdio.h ]; then
+        install_missing $package
+    fi
+}
