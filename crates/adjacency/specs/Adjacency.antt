@@ -9,7 +9,7 @@ use Prim.Native.Nat.{ℕ, zero, suc, _-_, _*_, _/_, _%_, _^_, _≤_, _<_}
 use native.Mathlib.Decide.{decLt}
 use lib.Count.{ones}
 use lib.ListN.{length, getD, drop}
-use Rattle.refusal.specs.Table.{Row, Outside, row3, row15}
+use Rattle.refusal.specs.Table.{Row, Outside, row3}
 use Rattle.code.specs.Code.{sum}
 use Rattle.tree.specs.Skeleton.{arcs, neighbours}
 use Rattle.skeleton.specs.Edges.{row7, row8, row9}
@@ -147,10 +147,6 @@ zeroRows most R N x = row3 most N ∷ row4 (factorial (N - 1)) x ∷ madeRows R 
 -- of an A0: "the values are below 2^(N(N-1)/2)"
 abbrev pub aRows : ℕ → ℕ → ℕ → ℕ → List Row
 aRows most R N x = row3 most N ∷ row4 (2 ^ (N * (N - 1) / 2)) x ∷ row5-ones N x ∷ madeRows R (aEdges N x)
-
--- 15 behind them: a decoding call needs 2(N-1) bytes for the edges
-abbrev pub decoding : List Row → ℕ → ℕ → List Row
-decoding rs N lent = rs ++ (row15 (2 * (N - 1)) lent ∷ [])
 
 -- the limits of N
 abbrev pub zeroMost : ℕ

@@ -2,7 +2,7 @@
 --
 -- In order: the number of digits, and the digits of a number; digits of a number give it back; a number has digits; their range. What
 -- the bases are stands in `Adjacency`. Assumes nothing.
-use mathlib.Core.Path.{_≡_, refl, ap, ap₂, sym, _∙_}
+use mathlib.Core.Path.{_≡_, refl, ap₂}
 use mathlib.Core.List.{List, [], _∷_}
 use Prim.Native.Nat.{ℕ, suc, _+_, _*_, _/_, _%_, _≤_, _<_}
 use native.Mathlib.Nat.{div-add-mod', mod-lt, mul-assoc, mul-le-mul-left, mul-le-mul-right, lt-of-lt-of-le, div-lt-iff-lt-mul, one-mul, suc-mul}
@@ -50,10 +50,6 @@ pub digits-mixed : {bs ds : List ℕ} (a : ℕ) → Below bs ds → digits bs (m
 unfolding digits mixed
 digits-mixed a Below.none = refl
 digits-mixed a (Below.more {b} {d} l h) = ap₂ (λ x y. x ∷ y) (rw (left-mixed (a * b + d) h) (digits-mod a l)) (digits-mixed (a * b + d) h)
-
--- so digits that make one number are the same
-pub one-digits : {bs ds es : List ℕ} → Below bs ds → Below bs es → mixed 0 bs ds ≡ mixed 0 bs es → ds ≡ es
-one-digits {bs} h k e = sym (digits-mixed 0 h) ∙ ap (digits bs) e ∙ digits-mixed 0 k
 
 -- ---- the number that the digits of a number make
 

@@ -32,11 +32,6 @@ unfolding digitsFrom
 no-digit n zero = refl
 no-digit n (suc k) = no-digit (suc n) k
 
-pub cut-ones : (n k : ℕ) → cutFrom n (replicate k true) ≡ n + k
-unfolding cutFrom
-cut-ones n zero = sym (add-zero n)
-cut-ones n (suc k) = cut-ones (suc n) k ∙ rw (suc-add, add-suc)
-
 -- reading the bits of digits gives the digits, and then those of what follows
 pub read-bits : (ds : List ℕ) (bs : List Bool) → whole (bits ds ++ bs) ≡ ds ++ whole bs
 unfolding bits

@@ -35,10 +35,6 @@ alike-answers a (fails {k} {p} l) = fails (record { applies = a .to k p (l .appl
 pub alike-back : {xs ys : List Row} → Alike xs ys → Alike ys xs
 alike-back a = record { to = a .from; from = a .to }
 
--- a code ends behind its first place
-no-end-at-0 : {c : List ℕ} → EndsAt c 0 → ⊥
-no-end-at-0 h = omega (arith, h .less)
-
 -- the bits of a code that ends, and anything behind them
 module _ (c : List ℕ) (fs : List Bool) (h : EndsAt c (length c)) where
   end-is : (e : ℕ) → EndsAt (whole (bits c ++ fs)) e → e ≡ length c

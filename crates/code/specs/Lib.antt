@@ -9,6 +9,5 @@ pub mod Ordered
 pub mod Search
 pub mod Stack
 pub mod Right
-pub mod Within
 pub mod Compare
 pub mod Examples

@@ -12,14 +12,10 @@ use lib.ListN.{length}
 use lib.Ieee.{binary64, round, div, ofInt, inFloat}
 use lib.Ieee.Back.{round-whole}
 use lib.Ieee.Fits.{div-fits}
-use Rattle.bits.specs.Limits.{wholeSize, fractionSize}
+use Rattle.bits.specs.Limits.{fractionSize}
 use Rattle.bits.specs.Written.{Coded, Numbers}
 use Rattle.fraction.specs.Fraction.{IsFraction}
 use Rattle.fraction.specs.Floats.{frac-value, divided}
-
--- a code that a fraction holds, a whole number holds
-pub coded-more : {R : ℕ} {c : List ℕ} → Coded R fractionSize c → Coded R wholeSize c
-coded-more c = record { ends = c .ends; size = omega (arith, c .size); small = c .small }
 
 module _ {R : ℕ} {c : List ℕ} (w : Coded R fractionSize c) where
   pub some : 1 ≤ length c

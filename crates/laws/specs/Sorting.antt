@@ -8,7 +8,6 @@ use native.Mathlib.Decide.{decLt}
 use native.Mathlib.Omega.{arith}
 use lib.ListN.{length, getD}
 use Rattle.laws.specs.Order.{_≽_, dec≽, insert, sort, Falling}
-use Rattle.laws.specs.Perms.{perm-length}
 
 pub refl≽ : (xs : List ℕ) → xs ≽ xs
 refl≽ [] = tt
@@ -106,9 +105,6 @@ pub sort-self : (l : List (List ℕ)) → List·Permᴰ l (sort l)
 unfolding sort
 sort-self [] = List·Permᴰ·nil
 sort-self (c ∷ l) = List·Permᴰ·trans (List·Permᴰ·cons refl (sort-self l)) (insert-self c (sort l))
-
-pub sort-length : (l : List (List ℕ)) → length (sort l) ≡ length l
-sort-length l = sym (perm-length (sort-self l))
 
 insert-falling : (c : List ℕ) (l : List (List ℕ)) → Falling l → Falling (insert c l)
 unfolding insert

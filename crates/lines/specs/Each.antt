@@ -8,10 +8,6 @@ use lib.Seq.{take-suc, take-all}
 use Rattle.lines.specs.Line.{Each}
 
 module _ (P : ℕ → Type 0) where
-  pub each-left : (s t : List ℕ) → Each P (s ++ t) → Each P s
-  each-left [] t f = tt
-  each-left (a ∷ s) t f = (f .0, each-left s t (f .1))
-
   pub each-right : (s t : List ℕ) → Each P (s ++ t) → Each P t
   each-right [] t f = f
   each-right (a ∷ s) t f = each-right s t (f .1)

@@ -21,11 +21,6 @@ module _ (most : ℕ) (rows : List DigitRow) where
   taken-all (unfinished l f a) e = TextAnswers.unfinished l f a
   taken-all (next c a h) e = TextAnswers.next c a (taken-all h e)
 
-  pub all-taken : {t : List ℕ} {os : List Reply} → TextAnswers most rows t os → Taken most rows t os []
-  all-taken TextAnswers.none = none
-  all-taken (TextAnswers.unfinished l f a) = unfinished l f a
-  all-taken (TextAnswers.next c a h) = next c a (all-taken h)
-
   -- nothing can be taken of nothing
   none-taken : {t more : List ℕ} {os : List Reply} → Taken most rows t os more → t ≡ [] → (os ≡ []) × (more ≡ [])
   none-taken none e = (refl, e)

@@ -1,7 +1,7 @@
 -- Renumberings: they go back and compose, a tree stays a tree under them, and rooted codes stay what they are (`same-code`). That equal
 -- rooted codes come from a renumbering is in `Numbered`. Assumes nothing.
 use mathlib.Core.Path.{_≡_, refl, ap, ap₂, sym, _∙_, subst}
-use mathlib.Core.List.{List, [], _∷_, map, map-id, map-map, List·Memᴰ, List·Memᴰ·head, List·Memᴰ·tail, Memᴰ·cast, Memᴰ·map, Memᴰ·of-map, Memᴰ·append-left, Memᴰ·append-right, List·Permᴰ, List·Permᴰ·trans, Permᴰ·refl, Permᴰ·symm, Permᴰ·map}
+use mathlib.Core.List.{List, [], _∷_, map, map-map, List·Memᴰ, List·Memᴰ·head, List·Memᴰ·tail, Memᴰ·cast, Memᴰ·map, Memᴰ·of-map, Memᴰ·append-left, Memᴰ·append-right, List·Permᴰ, List·Permᴰ·trans, Permᴰ·symm, Permᴰ·map}
 use Prim.Native.Nat.{ℕ, _≤_}
 use native.Mathlib.Omega.{arith}
 use Rattle.laws.specs.Perms.{perm-in}
@@ -28,18 +28,6 @@ map-on g (x ∷ l) h = ap₂ (λ a b. a ∷ b) (h x (List·Memᴰ·head refl)) (
 module _ (N : ℕ) (E : List ℕ) where
   pub rooted-within : (r : ℕ) → Rooted N E r → Within N (arcs E)
   rooted-within r t e m = let (a, b) = hung-in r (t .forest) e (perm-in (t .same) m) in (t .inside (e .0) a, t .inside (e .1) b)
-
-  -- every number its own
-  unfoldable pub itself : Renumbering N E E
-  itself = record {
-    to = λ v. v;
-    from = λ v. v;
-    to-in = λ v h k. (h, k);
-    from-in = λ v h k. (h, k);
-    from-to = λ v h k. refl;
-    to-from = λ v h k. refl;
-    carries = subst (λ l. List·Permᴰ l (arcs E)) (sym (map-id (arcs E))) (Permᴰ·refl (arcs E));
-  }
 
   module _ (F : List ℕ) where
     -- the other way round

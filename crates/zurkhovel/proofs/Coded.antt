@@ -9,7 +9,7 @@ use Rattle.code.specs.Limits.{size, valence}
 use Rattle.tree.specs.Skeleton.{rooted}
 use Rattle.skeleton.specs.Edges.{edgeRows}
 use Rattle.form.specs.Forms.{IsForm, form-size}
-use Rattle.zurkhovel.proofs.Accepted.{skeleton-of, rooted-size}
+use Rattle.zurkhovel.specs.Accepted.{skeleton-of, rooted-size}
 
 module _ (N : ℕ) (E : List ℕ) (r : ℕ) (clear : Clear (edgeRows size valence N E r)) where
   -- the rooted code has N digits

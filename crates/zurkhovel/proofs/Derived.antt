@@ -5,40 +5,32 @@ use mathlib.Core.List.{List}
 use Prim.Native.Nat.{ℕ, _≤_, _<_}
 use native.Mathlib.Omega.{arith}
 use lib.ListN.{length, take}
-use lib.Seq.{take-at}
-use Rattle.laws.specs.Laid.{laidOver, Laid}
+use Rattle.laws.specs.Laid.{Laid}
 use Rattle.refusal.specs.Table.{Clear, gives, refuses, Writes, Gives}
 use Rattle.refusal.specs.Laws.{refused-short, given, clear-left, others}
 use Rattle.code.specs.Limits.{size, valence}
 use Rattle.code.specs.Code.{codeRows}
+use Rattle.tree.specs.Skeleton.{IsSkeleton}
 use Rattle.skeleton.specs.Edges.{edgeRows}
 use Rattle.form.specs.Form.{centred, ofCentred}
 use Rattle.form.specs.Forms.{centred-form, form-size}
 use Rattle.form.specs.Accepted.{form-accepted}
 use Rattle.lines.specs.Damage.{Code}
 use Rattle.lines.specs.Lawful.{lawful}
-use Rattle.zurkhovel.proofs.Accepted.{skeleton-of}
+use Rattle.coding.specs.Learnt.{written, written-length}
+use Rattle.zurkhovel.specs.Accepted.{skeleton-of}
+
+-- the code that was written, where it is read again
+module _ {N : ℕ} {E old digits : List ℕ} (s : IsSkeleton size valence N E) (w : Writes (centred N E) old N digits) where
+  pub code-clear : Clear (codeRows size valence (take N digits))
+  code-clear = rw (written w) (clear-left (codeRows size valence (w .result)) _ (form-accepted centred centred-form size valence (w .result) N E s (w .right)))
+
+  pub code-digits : Code (take N digits)
+  code-digits = lawful valence (omega arith) (take N digits) (others code-clear)
 
 module _ (N : ℕ) (E : List ℕ) (clear : Clear (edgeRows size valence N E 1)) where
   centred-size : (c : List ℕ) → centred N E c → length c ≡ N
   centred-size c x = form-size centred centred-form N E c (skeleton-of clear .tree) x
-
-  -- the code that was written, where it is read again
-  module _ {old digits : List ℕ} (w : Writes (centred N E) old N digits) where
-    pub code-is : take N digits ≡ w .result
-    unfolding laidOver
-    code-is = ap (take N) (w .lies) ∙ take-at (w .result) _ N (sym (w .count))
-
-    pub code-clear : Clear (codeRows size valence (take N digits))
-    code-clear =
-        subst (λ (c : List ℕ). Clear (codeRows size valence c)) (sym code-is)
-        (clear-left (codeRows size valence (w .result)) _ (form-accepted centred centred-form size valence (w .result) N E (skeleton-of clear) (w .right)))
-
-    pub code-digits : Code (take N digits)
-    code-digits = lawful valence (omega arith) (take N digits) (others code-clear)
-
-    pub code-size : length (take N digits) ≡ N
-    code-size = ap length code-is ∙ sym (w .count)
 
   -- a result of n bytes
   module _ (f : List ℕ → List ℕ) (n : ℕ) (sized : (c : List ℕ) → length c ≡ N → length (f c) ≡ n) where
@@ -46,7 +38,7 @@ module _ (N : ℕ) (E : List ℕ) (clear : Clear (edgeRows size valence N E 1)) 
     all-sized l (c, x, e) = ap length e ∙ sized c (centred-size c x)
 
     pub derived-size : {before digits : List ℕ} → Writes (centred N E) before N digits → length (f (take N digits)) ≡ n
-    derived-size {digits = digits} w = sized (take N digits) (code-size w)
+    derived-size {digits = digits} w = sized (take N digits) (sym (written-length w))
 
     pub derived-short : {old new : List ℕ} → length old < n → new ≡ old → Gives (edgeRows size valence N E 1) (ofCentred N E f) old new (refuses 15 n)
     derived-short h e =
@@ -59,4 +51,4 @@ module _ (N : ℕ) (E : List ℕ) (clear : Clear (edgeRows size valence N E 1)) 
         let k : m ≡ n = l .count ∙ derived-size w in
         subst (λ (i : ℕ). Gives (edgeRows size valence N E 1) (ofCentred N E f) old new (gives i)) (sym k)
         (given clear all-sized h
-        (record { result = f (take N digits); right = (take N digits, subst (centred N E) (sym (code-is w)) (w .right), refl); count = sym k ∙ l .count; lies = l .lies }))
+        (record { result = f (take N digits); right = (take N digits, subst (centred N E) (sym (written w)) (w .right), refl); count = sym k ∙ l .count; lies = l .lies }))

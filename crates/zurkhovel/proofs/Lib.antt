@@ -1,6 +1,5 @@
 -- Laws that more than one proof of a public call cites. Assumes nothing.
 pub mod Behind
-pub mod Accepted
 pub mod Decoded
 pub mod Coded
 pub mod Derived

@@ -1,75 +1,36 @@
--- An accepted skeleton in a physical numbering; the numbering by code of one: it is one, of the same size, and physical. Assumes nothing.
+-- The edges of a skeleton in the numbering by code, written and lent to the writers of matrices. Assumes nothing.
 use mathlib.Core.Path.{_≡_, refl, sym, ap, _∙_}
-use mathlib.Core.List.{List, [], _∷_}
+use mathlib.Core.List.{List}
 use Prim.Native.Nat.{ℕ, _-_, _*_, _≤_, _<_}
-use native.Mathlib.Decide.{ℕ-discrete}
 use native.Mathlib.Omega.{arith}
 use lib.ListN.{length, take}
 use lib.Seq.{length-take-le}
 use Rattle.laws.specs.Laid.{laidOver, Laid}
 use Rattle.laws.specs.Laying.{laid-front}
 use Rattle.refusal.specs.Table.{Clear, Writes, gives, refuses, Gives}
-use Rattle.refusal.specs.Laws.{clear-left, clear-right, never, at-most, refused-short, given}
+use Rattle.refusal.specs.Laws.{at-most, refused-short, given}
 use Rattle.code.specs.Limits.{size, valence}
-use Rattle.code.specs.Code.{codeRows, decode}
-use Rattle.code.specs.Right.{Right, right-clear}
+use Rattle.code.specs.Code.{decode}
 use Rattle.tree.specs.Skeleton.{IsSkeleton}
 use Rattle.skeleton.specs.Edges.{edgeRows}
 use Rattle.form.specs.Form.{centred}
-use Rattle.form.specs.Forms.{centred-form, form-size}
-use Rattle.form.specs.Accepted.{right-decoded, form-passes, form-exactly}
-use Rattle.adjacency.specs.Adjacency.{OneLower, lower, Physical, row14, cam}
+use Rattle.adjacency.specs.Adjacency.{Physical, cam}
 use Rattle.adjacency.specs.Coded.{cam-length}
-use Rattle.adjacency.specs.ByCode.{code-physical}
 use Rattle.coding.specs.Learnt.{written, written-length}
-use Rattle.zurkhovel.specs.Matrix.{physicalRows, Numbering, ByCode}
+use Rattle.zurkhovel.specs.Matrix.{ByCode}
+use Rattle.zurkhovel.specs.RoundMatrix.{by-code-skeleton, by-code-physical}
 use Rattle.zurkhovel.specs.Rooting.{Renumbered}
-use Rattle.zurkhovel.proofs.Accepted.{skeleton-of}
+use Rattle.zurkhovel.proofs.Derived.{code-clear}
+use Rattle.zurkhovel.specs.Accepted.{skeleton-of}
 use Rattle.zurkhovel.proofs.Decoded.{edges-length}
-
-module _ {most N : ℕ} {E : List ℕ} (k : Clear (physicalRows most N E)) where
-  pub physical-skeleton : IsSkeleton most valence N E
-  physical-skeleton = skeleton-of (clear-left (edgeRows most valence N E 1) (row14 N E ∷ []) k)
-
-  pub physical-numbering : Physical N E
-  physical-numbering = record { only = λ v a b. step v a b (ℕ-discrete (length (lower E v)) 1) }
-    where
-      step : (v : ℕ) → 2 ≤ v → v ≤ N → Dec (OneLower E v) → OneLower E v
-      step v a b (yes e) = e
-      step v a b (no n) = absurd (never (clear-right (edgeRows most valence N E 1) (row14 N E ∷ []) k) v (a, b, n))
-
--- two bytes for each edge
-pub skeleton-bytes : {most N : ℕ} {E : List ℕ} → IsSkeleton most valence N E → length E ≡ 2 * (N - 1)
-skeleton-bytes s = omega (arith, s .tree .edges)
-
-pub centred-right : {most N : ℕ} {E c : List ℕ} → IsSkeleton most valence N E → centred N E c → Right most valence c
-centred-right {most} {N} {E} {c} s x = form-passes centred centred-form most valence c .0 (form-exactly centred centred-form most valence c .1 (N, E, s, x)) .0
-
-module _ {most N : ℕ} {E F : List ℕ} (s : IsSkeleton most valence N E) (x : Numbering N E F) where
-  sized : length (x .code) ≡ N
-  sized = form-size centred centred-form N E (x .code) (s .tree) (x .right)
-
-  right : Right most valence (x .code)
-  right = centred-right s (x .right)
-
-  pub numbering-skeleton : IsSkeleton most valence N F
-  numbering-skeleton = rw (x .edges, ← sized) (right-decoded most valence (x .code) right)
-
-  pub numbering-physical : Physical N F
-  numbering-physical = rw (x .edges, ← sized) (code-physical (x .code) (right .ends))
-
--- ---- what is written
 
 -- the centred code, and its edges behind it
 module _ {N : ℕ} {E old new : List ℕ} (s : IsSkeleton size valence N E) (w : Writes (centred N E) old N new) where
   code-right : centred N E (take N new)
   code-right = rw (written w) (w .right)
 
-  pub code-clear : Clear (codeRows size valence (take N new))
-  code-clear = right-clear size valence (take N new) (centred-right s code-right)
-
   pub code-bytes : length (decode (take N new)) ≡ 2 * (N - 1)
-  code-bytes = edges-length (take N new) code-clear ∙ ap (λ m. 2 * (m - 1)) (sym (written-length w))
+  code-bytes = edges-length (take N new) (code-clear s w) ∙ ap (λ m. 2 * (m - 1)) (sym (written-length w))
 
   pub code-written :
       {most : ℕ} {o p : List ℕ} {r : ℕ} → Clear (edgeRows most valence N E 1) → Laid (decode (take N new)) o p r → length p ≡ 2 * (size - 1)
@@ -87,10 +48,10 @@ module _ {most N : ℕ} {E ends : List ℕ} (t : Renumbered most N E ends) where
   ends-length l = length-take-le (2 * (N - 1)) ends (ends-within l)
 
   pub ends-skeleton : IsSkeleton most valence N (take (2 * (N - 1)) ends)
-  ends-skeleton = numbering-skeleton (skeleton-of (t .clear)) (t .numbering)
+  ends-skeleton = by-code-skeleton (skeleton-of (t .clear)) (t .numbering)
 
   pub ends-physical : Physical N (take (2 * (N - 1)) ends)
-  ends-physical = numbering-physical (skeleton-of (t .clear)) (t .numbering)
+  ends-physical = by-code-physical (skeleton-of (t .clear)) (t .numbering)
 
   -- what is made of them is made by code
   pub made-by-code : {A : Type 0} (of : List ℕ → A) {a : A} → a ≡ of (take (2 * (N - 1)) ends) → ByCode of N E a

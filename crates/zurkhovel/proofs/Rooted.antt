@@ -20,7 +20,7 @@ use Rattle.skeleton.specs.Edges.{edgeRows}
 use Rattle.bits.specs.Written.{Coded, Packs, packed-again, right-coded}
 use Rattle.coding.specs.Learnt.{written}
 use Rattle.zurkhovel.specs.Rooting.{Rooted}
-use Rattle.zurkhovel.proofs.Accepted.{skeleton-of, root-of, rooted-size}
+use Rattle.zurkhovel.specs.Accepted.{skeleton-of, root-of, rooted-size}
 use Rattle.zurkhovel.proofs.Behind.{behind}
 
 -- ---- an accepted list

@@ -9,7 +9,7 @@ use Rattle.form.specs.Form.{centred}
 use Rattle.form.specs.Forms.{centred-form, form-size}
 use Rattle.coding.specs.Learnt.{written}
 use Rattle.zurkhovel.specs.Same.{found, listRows, SameSkeleton, same, different}
-use Rattle.zurkhovel.specs.Theorems.{tree-of}
+use Rattle.zurkhovel.specs.Accepted.{tree-of}
 
 -- of different sizes
 pub verdict-sizes : {N P : ℕ} {E F : List ℕ} → Clear (listRows N E) → Clear (listRows P F) → (N ≡ P → ⊥) → SameSkeleton N E P F (found false)

@@ -9,7 +9,7 @@ use Rattle.form.specs.Form.{nTuple, centred}
 use Rattle.form.specs.Forms.{IsForm, n-tuple-form, centred-form}
 use Rattle.zurkhovel.specs.Codes.{CheckCode, DecodeCode, DecodeForm, CheckEdges, RootedCode, FormCode}
 use Rattle.zurkhovel.specs.Same.{Finding, refused, SameSkeleton, first-refused, second-refused, same, different}
-use Rattle.zurkhovel.specs.Theorems.{tree-of}
+use Rattle.zurkhovel.specs.Accepted.{tree-of}
 
 -- two results that are the same thing are one
 equal : (x c d : List ℕ) → c ≡ x → d ≡ x → c ≡ d

@@ -12,7 +12,7 @@ use Rattle.code.specs.Code.{decode}
 use Rattle.tree.specs.Skeleton.{IsTree}
 use Rattle.skeleton.specs.Edges.{edgeRows}
 use Rattle.form.specs.Forms.{centred-form}
-use Rattle.zurkhovel.specs.Theorems.{tree-of}
+use Rattle.zurkhovel.specs.Accepted.{tree-of}
 use Rattle.zurkhovel.specs.Matrix.{DecodeCam, DecodeZeroA, DecodeAZero, Cam, ZeroA, AZero, Numbering, ByCode, CamByCode, ZeroAByCode, AZeroByCode}
 
 -- ---- a form read into edges

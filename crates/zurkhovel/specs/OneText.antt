@@ -14,7 +14,7 @@ use Rattle.lines.specs.Judged.{digitTable}
 use Rattle.lines.specs.Theorems as Lines
 use Rattle.zurkhovel.specs.Lines.{ReadLine, WriteLine, ReadText, Counted}
 use Rattle.zurkhovel.specs.Alike.{EqualVertices}
-use Rattle.zurkhovel.specs.Theorems.{tree-of}
+use Rattle.zurkhovel.specs.Accepted.{tree-of}
 
 pub one-read-line : (t old new new′ : List ℕ) (o u : Outcome ℕ) → ReadLine t old new o → ReadLine t old new′ u → (o ≡ u) × (new ≡ new′)
 one-read-line t old new new′ o u a b = Lines.one-line size digitTable t old new new′ o u a b

@@ -12,7 +12,7 @@ use lib.ListN.{length, take, length-append}
 use lib.Seq.{take-length}
 use lib.Ieee.{Float, binary64, fits}
 use Rattle.refusal.specs.Table.{Row, Clear, Outcome, gives, Gives, row3}
-use Rattle.refusal.specs.Laws.{clear-one, clear-both, never, others, at-most, at-least}
+use Rattle.refusal.specs.Laws.{clear-one, clear-both, never, others, at-most, at-least, size-clear}
 use Rattle.code.specs.Limits.{size, valence}
 use Rattle.code.specs.Code.{digitRows, codeRows, decode}
 use Rattle.bits.specs.Limits.{packedBytes, wholeSize, fractionSize}
@@ -20,7 +20,6 @@ use Rattle.bits.specs.Bits.{word, Nothing, Reads, row4}
 use Rattle.bits.specs.Ends.{end-sum, right-ends}
 use Rattle.bits.specs.Laws.{length-bits}
 use Rattle.bits.specs.Words.{length-bytes}
-use Rattle.bits.specs.Decided.{size-clear}
 use Rattle.bits.specs.Reading.{reading-clear}
 use Rattle.bits.specs.Written.{Bytes, Packs, Numbers, packed-back, packed-read, packed-again, number-back, number-size, number-read, number-again}
 use Rattle.fraction.specs.Fraction.{IsFraction}
@@ -28,11 +27,10 @@ use Rattle.fraction.specs.Fraction as Fraction
 use Rattle.fraction.specs.Back.{fraction-inside, fraction-size, fraction-read}
 use Rattle.fraction.specs.Back as Back
 use Rattle.tree.specs.Skeleton.{IsSkeleton, rooted}
-use Rattle.tree.specs.Theorems as Tree
 use Rattle.skeleton.specs.Edges.{edgeRows}
-use Rattle.skeleton.specs.Theorems.{accepted}
 use Rattle.zurkhovel.specs.Bits.{Pack, Whole, InFraction, Decodes, Unpack, Unwhole, Unfraction}
 use Rattle.zurkhovel.specs.OneBits.{one-decoded}
+use Rattle.zurkhovel.specs.Accepted.{skeleton-of, root-of, rooted-size, wider}
 use Rattle.zurkhovel.specs.Round.{Given, Renumbered, gave, gave-value, must-give, must-answer, its-skeleton, its-rows, its-code, code-clear, code-tree, code-numbers, edges-back}
 
 -- ---- what bits that are read carry
@@ -59,13 +57,13 @@ module _ {May : List Bool → Type 0} {bs : List Bool} {c : List ℕ} (r : Reads
 -- the skeleton E, coded at r in a form and read: what is given is E under other numbers
 module _ (most N : ℕ) (E : List ℕ) (r : ℕ) (k : Clear (edgeRows most valence N E r)) (within : most ≤ size) where
   its : IsSkeleton size valence N E
-  its = let s = accepted most valence N E r .0 k .0 in record { tree = s .tree; few = omega (arith, s .few); degrees = s .degrees }
+  its = wider within (skeleton-of k)
 
   inside : (1 ≤ r) × (r ≤ N)
-  inside = accepted most valence N E r .0 k .1
+  inside = root-of E k
 
   code-size : length (rooted N E r) ≡ N
-  code-size = Tree.size N E r (its .tree) (inside .0) (inside .1)
+  code-size = rooted-size E k
 
   code-right : Clear (digitRows valence (rooted N E r))
   code-right = others (code-clear its (inside .0) (inside .1))
@@ -127,7 +125,7 @@ whole-back N E r v old new o p h g =
     let i = inside wholeSize N E r k (omega arith) in
     let x : Reads valence Nothing (word (2 * N - 1) v) (rooted N E r) = rw z at (number-back (code-right wholeSize N E r k (omega arith)) w) in
     let below : v < 2 ^ (2 * N - 1) = rw z at (w .below) in
-    let a : Clear (row3 wholeSize N ∷ []) = size-clear (omega (arith, i)) (accepted wholeSize valence N E r .0 k .0 .few) in
+    let a : Clear (row3 wholeSize N ∷ []) = size-clear (omega (arith, i)) (at-most k) in
     let b : Clear (row4 N v ∷ []) = clear-one (λ q f. let n : ⊥ = omega (arith, f .1) in n) in
     form-back wholeSize N E r k (omega arith) (clear-both a (clear-both b (reading-clear x))) x h g
 
@@ -152,6 +150,6 @@ pub fraction-back :
 fraction-back N E r x old new o p h g =
     let (k, w) = gave-value p in
     let z = code-size fractionSize N E r k (omega arith) in
-    let b = Back.fraction-back w (omega (arith, accepted fractionSize valence N E r .0 k .0 .few)) (code-right fractionSize N E r k (omega arith)) in
+    let b = Back.fraction-back w (omega (arith, at-most k)) (code-right fractionSize N E r k (omega arith)) in
     let a : Clear (Fraction.row4 x ∷ []) = clear-one (λ q f. fraction-inside w (f .1)) in
     form-back fractionSize N E r k (omega arith) (clear-both a (reading-clear b)) b h g

@@ -16,31 +16,24 @@ use Rattle.code.specs.Limits.{size, valence}
 use Rattle.code.specs.Right.{Right}
 use Rattle.tree.specs.Skeleton.{arcs, IsTree, IsSkeleton, Renumbering}
 use Rattle.skeleton.specs.Edges.{edgeRows}
-use Rattle.skeleton.specs.Theorems.{accepted}
 use Rattle.form.specs.Form.{centred}
 use Rattle.form.specs.Forms.{centred-form, form-size, form-decoded}
 use Rattle.form.specs.Accepted.{right-decoded, form-passes, form-exactly}
 use Rattle.adjacency.specs.Adjacency.{OneLower, lower, Physical, row14, cam, camEdges, zeroA, zeroCam, aZero, zeroMost, aMost}
 use Rattle.adjacency.specs.Theorems.{cam-decode, cam-read, zero-decode, zero-read, cam-code, zero-code, a-decode, a-read, a-code}
 use Rattle.adjacency.specs.ByCode.{code-physical}
+use Rattle.zurkhovel.specs.Accepted.{skeleton-of, plain-rows}
 use Rattle.zurkhovel.specs.Matrix.{DecodeCam, DecodeZeroA, DecodeAZero, physicalRows, Cam, ZeroA, AZero, Numbering, CamByCode, ZeroAByCode, AZeroByCode}
 use Rattle.zurkhovel.specs.Round.{Given, Renumbered, gave, gave-value, must-give, must-answer, edges-given}
 
 -- ---- a physical numbering
-
--- vertex 1 stands for the root that is not named
-pub plain-rows : {most N : ℕ} {E : List ℕ} → IsSkeleton most valence N E → Clear (edgeRows most valence N E 1)
-plain-rows {most} {N} {E} s = accepted most valence N E 1 .1 (s, (omega arith, omega (arith, s .tree .edges)))
-
-pub plain-skeleton : {most N : ℕ} {E : List ℕ} → Clear (edgeRows most valence N E 1) → IsSkeleton most valence N E
-plain-skeleton {most} {N} {E} k = accepted most valence N E 1 .0 k .0
 
 -- what no row of a CAM or a 0A refuses
 pub physical-exactly : (most N : ℕ) (E : List ℕ) → Clear (physicalRows most N E) ↔ (IsSkeleton most valence N E × Physical N E)
 physical-exactly most N E = (
   λ k.
       let n = never (clear-right (edgeRows most valence N E 1) (row14 N E ∷ []) k) in
-      (plain-skeleton (clear-left (edgeRows most valence N E 1) (row14 N E ∷ []) k), record { only = λ v a b. step v (λ m. n v (a, b, m)) (ℕ-discrete (length (lower E v)) 1) }),
+      (skeleton-of (clear-left (edgeRows most valence N E 1) (row14 N E ∷ []) k), record { only = λ v a b. step v (λ m. n v (a, b, m)) (ℕ-discrete (length (lower E v)) 1) }),
   λ (s, p). clear-both (plain-rows s) (clear-one {r = row14 N E} (λ v (a, b, n). n (p .only v a b))),
 )
   where
@@ -120,7 +113,7 @@ pub a-zero-back :
     (N : ℕ) (E : List ℕ) (x : ℕ) (old new : List ℕ) (o : Outcome ℕ) → AZero N E (gives x) → length E ≤ length old → DecodeAZero N x old new o
     → Kept E new o
 a-zero-back N E x old new o c h g =
-    let (k, e) = gave-value c in from-a N E h (plain-skeleton k) (subst (λ y. DecodeAZero N y old new o) e g)
+    let (k, e) = gave-value c in from-a N E h (skeleton-of k) (subst (λ y. DecodeAZero N y old new o) e g)
 
 -- ---- coded by code and decoded
 
@@ -166,7 +159,7 @@ pub cam-by-code-back :
     → DecodeCam N (take n new) old′ new′ o → Renumbered N E new′ o
 cam-by-code-back N E old new n old′ new′ o c h g =
     let (k, b, _) = gave c in
-    let s = plain-skeleton k in
+    let s = skeleton-of k in
     let x = b .numbering in
     by-code-kept s x new′ o
     (from-cam N (b .edges) (omega (arith, by-code-length s x)) (by-code-skeleton s x) (by-code-physical s x) (subst (λ d. DecodeCam N d old′ new′ o) (b .is) g))
@@ -176,7 +169,7 @@ pub zero-a-by-code-back :
     → Renumbered N E new o
 zero-a-by-code-back N E v old new o c h g =
     let (k, b) = gave-value c in
-    let s = plain-skeleton k in
+    let s = skeleton-of k in
     let x = b .numbering in
     by-code-kept s x new o
     (from-zero N (b .edges) (omega (arith, by-code-length s x)) (by-code-skeleton s x) (by-code-physical s x) (subst (λ y. DecodeZeroA N y old new o) (b .is) g))
@@ -186,6 +179,6 @@ pub a-zero-by-code-back :
     → Renumbered N E new o
 a-zero-by-code-back N E v old new o c h g =
     let (k, b) = gave-value c in
-    let s = plain-skeleton k in
+    let s = skeleton-of k in
     let x = b .numbering in
     by-code-kept s x new o (from-a N (b .edges) (omega (arith, by-code-length s x)) (by-code-skeleton s x) (subst (λ y. DecodeAZero N y old new o) (b .is) g))

@@ -23,7 +23,7 @@ use Rattle.lines.specs.Taking.{line-read}
 use Rattle.zurkhovel.specs.Codes.{DecodeForm}
 use Rattle.zurkhovel.specs.Lines.{ReadLine, WriteLine}
 use Rattle.zurkhovel.specs.Round.{Given, gave, must-give}
-use Rattle.zurkhovel.specs.RoundMatrix.{plain-rows, plain-skeleton}
+use Rattle.zurkhovel.specs.Accepted.{skeleton-of, plain-rows}
 
 -- ---- written and read
 
@@ -43,7 +43,7 @@ pub line-back :
     → ReadLine (take n new) old′ new′ o → (c : List ℕ) × centred N E c × Given c old′ new′ o
 line-back N E old new n old′ new′ o w h g =
     let (k, (c, x, e), _) = gave w in
-    let s : IsSkeleton size valence N E = plain-skeleton k in
+    let s : IsSkeleton size valence N E = skeleton-of k in
     let a : Accept size digitTable c =
     record { few = omega (arith, form-size centred centred-form N E c (s .tree) x, s .few); clear = others (form-accepted centred centred-form size valence c N E s x) } in
     (c, x, line-given c old′ new′ o a h (subst (λ t. ReadLine t old′ new′ o) e g))

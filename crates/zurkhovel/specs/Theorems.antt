@@ -5,17 +5,11 @@ use mathlib.Core.Bool.{true}
 use mathlib.Core.List.{List}
 use Prim.Native.Nat.{ℕ}
 use Rattle.refusal.specs.Table.{Clear}
-use Rattle.code.specs.Limits.{valence}
-use Rattle.tree.specs.Skeleton.{IsTree, Renumbering}
-use Rattle.skeleton.specs.Edges.{edgeRows}
-use Rattle.skeleton.specs.Theorems.{accepted}
+use Rattle.tree.specs.Skeleton.{Renumbering}
 use Rattle.form.specs.Form.{centred}
 use Rattle.form.specs.Forms.{centred-form, form-verdict}
+use Rattle.zurkhovel.specs.Accepted.{tree-of}
 use Rattle.zurkhovel.specs.Same.{found, listRows, SameSkeleton, same}
-
--- an accepted edge list is a tree
-pub tree-of : {most : ℕ} (N : ℕ) (E : List ℕ) (r : ℕ) → Clear (edgeRows most valence N E r) → IsTree N E
-tree-of {most} N E r k = accepted most valence N E r .0 k .0 .tree
 
 -- "the same" is said of two accepted lists exactly when they have equally many vertices and the numbers of one can be changed to make it
 -- the other

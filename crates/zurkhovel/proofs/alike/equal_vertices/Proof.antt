@@ -1,5 +1,5 @@
 -- `zurkhovel::alike::equal_vertices` keeps its promise. Assumes nothing.
-use mathlib.Core.Path.{refl, sym, _∙_}
+use mathlib.Core.Path.{refl, _∙_}
 use native.Mathlib.Omega.{arith}
 use denote.Ref.{now}
 use borrow.Author.Needs.{needs}
@@ -9,8 +9,9 @@ use Rattle.code.specs.Limits.{size, valence}
 use Rattle.skeleton.specs.Edges.{edgeRows}
 use Rattle.vertices.specs.Vertices.{classes}
 use Rattle.vertices.specs.Theorems.{classes-numbered}
-use Rattle.zurkhovel.proofs.Accepted.{skeleton-of}
-use Rattle.zurkhovel.proofs.Derived.{code-clear, code-size, derived-short, derived-given}
+use Rattle.coding.specs.Learnt.{written-length}
+use Rattle.zurkhovel.specs.Accepted.{skeleton-of}
+use Rattle.zurkhovel.proofs.Derived.{code-clear, derived-short, derived-given}
 use Rattle.zurkhovel.proofs.alike.equal_vertices.Statement.{statement}
 use Rattle.zurkhovel.proofs.alike.equal_vertices.Tie as tie
 
@@ -33,10 +34,10 @@ equal-vertices-spec =
     (λ c. search needs)
     (λ c κs. let d = c .before .before in (skeleton-of (clear d), omega (arith, at-most (clear d))))
     (λ c. let d = c .before .before .before .before in omega (arith, at-most (clear d)))
-    (λ c. let d = c .before .before .before .before .before in sym (code-size (start d .args .n) (now (start d .args .edges)) (clear d) (c .before .before .centred .ensures)))
+    (λ c. let d = c .before .before .before .before .before in written-length (c .before .before .centred .ensures))
     (λ c κs. let d = c .before .before .before .before .before .before in
     let w = c .before .before .before .centred .ensures in
-    (code-clear (start d .args .n) (now (start d .args .edges)) (clear d) w, omega (arith, code-size (start d .args .n) (now (start d .args .edges)) (clear d) w, c .before .before .before .before .before .if1 .left)))
+    (code-clear (skeleton-of (clear d)) w, omega (arith, written-length w, c .before .before .before .before .before .if1 .left)))
     (λ c. search needs)
     (λ c. let d = c .before .before .before .before .before .before .before .before .before in
     derived-given (start d .args .n) (now (start d .args .edges)) (clear d) classes (start d .args .n) (λ x e. classes-numbered x .count ∙ e) (c .before .before .before .before .before .before .before .before .if1 .left)

@@ -3,7 +3,7 @@ use native.Mathlib.Omega.{arith}
 use denote.Ref.{now}
 use borrow.Author.Needs.{needs}
 use Rattle.refusal.specs.Laws.{was-clear, was-lowest}
-use Rattle.zurkhovel.proofs.Accepted.{skeleton-of, root-of, wider}
+use Rattle.zurkhovel.specs.Accepted.{skeleton-of, root-of, wider}
 use Rattle.zurkhovel.proofs.Rooted.{coded-at}
 use Rattle.zurkhovel.proofs.bit_tuple.rooted.Statement.{statement}
 use Rattle.zurkhovel.proofs.bit_tuple.rooted.Tie as tie

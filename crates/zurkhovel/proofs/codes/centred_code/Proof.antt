@@ -8,7 +8,7 @@ use Rattle.code.specs.Limits.{size, valence}
 use Rattle.skeleton.specs.Edges.{edgeRows}
 use Rattle.form.specs.Form.{centred}
 use Rattle.form.specs.Forms.{centred-form}
-use Rattle.zurkhovel.proofs.Accepted.{skeleton-of}
+use Rattle.zurkhovel.specs.Accepted.{skeleton-of}
 use Rattle.zurkhovel.proofs.Coded.{form-short, form-given}
 use Rattle.zurkhovel.proofs.codes.centred_code.Statement.{statement}
 use Rattle.zurkhovel.proofs.codes.centred_code.Tie as tie

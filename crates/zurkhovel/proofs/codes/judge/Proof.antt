@@ -2,7 +2,7 @@
 use mathlib.Core.Path.{sym, _∙_}
 use borrow.Author.Needs.{needs}
 use Rattle.coding.specs.Learnt.{written-room, written-length, told-equal, told-less, told-greater}
-use Rattle.zurkhovel.proofs.Accepted.{skeleton-of}
+use Rattle.zurkhovel.specs.Accepted.{skeleton-of}
 use Rattle.zurkhovel.proofs.Verdicts.{verdict-sizes, verdict-same, verdict-different}
 use Rattle.zurkhovel.proofs.codes.judge.Statement.{statement}
 use Rattle.zurkhovel.proofs.codes.judge.Tie as tie

@@ -6,7 +6,7 @@ use Rattle.refusal.specs.Table.{Clear}
 use Rattle.refusal.specs.Laws.{was-clear, was-lowest, refused-first}
 use Rattle.code.specs.Limits.{size, valence}
 use Rattle.skeleton.specs.Edges.{edgeRows}
-use Rattle.zurkhovel.proofs.Accepted.{skeleton-of, root-of}
+use Rattle.zurkhovel.specs.Accepted.{skeleton-of, root-of}
 use Rattle.zurkhovel.proofs.Coded.{rooted-short, rooted-given}
 use Rattle.zurkhovel.proofs.codes.rooted_code.Statement.{statement}
 use Rattle.zurkhovel.proofs.codes.rooted_code.Tie as tie

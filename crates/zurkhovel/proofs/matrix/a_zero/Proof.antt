@@ -7,7 +7,7 @@ use Rattle.refusal.specs.Laws.{was-clear, was-lowest}
 use Rattle.code.specs.Limits.{valence}
 use Rattle.skeleton.specs.Edges.{edgeRows}
 use Rattle.adjacency.specs.Adjacency.{aMost}
-use Rattle.zurkhovel.proofs.Accepted.{skeleton-of}
+use Rattle.zurkhovel.specs.Accepted.{skeleton-of}
 use Rattle.zurkhovel.proofs.matrix.a_zero.Statement.{statement}
 use Rattle.zurkhovel.proofs.matrix.a_zero.Tie as tie
 

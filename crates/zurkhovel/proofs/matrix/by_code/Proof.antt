@@ -8,8 +8,9 @@ use Rattle.code.specs.Limits.{size, valence}
 use Rattle.tree.specs.Skeleton.{IsSkeleton}
 use Rattle.skeleton.specs.Edges.{edgeRows}
 use Rattle.coding.specs.Learnt.{written-room, written-length}
-use Rattle.zurkhovel.proofs.Accepted.{skeleton-of, wider}
-use Rattle.zurkhovel.proofs.Numbered.{code-clear, code-bytes, code-written}
+use Rattle.zurkhovel.specs.Accepted.{skeleton-of, wider}
+use Rattle.zurkhovel.proofs.Derived.{code-clear}
+use Rattle.zurkhovel.proofs.Numbered.{code-bytes, code-written}
 use Rattle.zurkhovel.proofs.matrix.by_code.Statement.{statement}
 use Rattle.zurkhovel.proofs.matrix.by_code.Tie as tie
 

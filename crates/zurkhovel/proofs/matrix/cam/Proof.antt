@@ -10,7 +10,7 @@ use Rattle.adjacency.specs.Plain.{numbered}
 use Rattle.adjacency.specs.Coded.{cam-length}
 use Rattle.zurkhovel.specs.Matrix.{physicalRows}
 use Rattle.zurkhovel.proofs.Made.{known-short, known-given}
-use Rattle.zurkhovel.proofs.Numbered.{physical-skeleton, physical-numbering}
+use Rattle.zurkhovel.specs.RoundMatrix.{physical-exactly}
 use Rattle.zurkhovel.proofs.matrix.cam.Statement.{statement}
 use Rattle.zurkhovel.proofs.matrix.cam.Tie as tie
 
@@ -31,7 +31,7 @@ cam-spec =
     (λ c. search needs)
     (λ c. at-least (clear c))
     (λ c. let d = c .before in known-short (clear d) (cam-length (start d .args .n) (now (start d .args .edges))) (c .if1 .taken) refl)
-    (λ c κs. let d = c .before .before in let s = physical-skeleton (clear d) in ((numbered s, physical-numbering (clear d)), (s .few, omega (arith, c .before .if1 .left))))
+    (λ c κs. let d = c .before .before in let (s, p) = physical-exactly _ _ _ .0 (clear d) in ((numbered s, p), (s .few, omega (arith, c .before .if1 .left))))
     (λ c. search needs)
     (λ c. let d = c .before .before .before .before .before in
     known-given (clear d) (cam-length (start d .args .n) (now (start d .args .edges))) (c .before .before .before .before .if1 .left) (c .before .before .write-cam .ensures)))

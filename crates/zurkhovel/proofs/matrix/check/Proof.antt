@@ -4,7 +4,7 @@ use native.Mathlib.Omega.{arith}
 use borrow.Author.Needs.{needs}
 use Rattle.refusal.specs.Laws.{was-clear, stops, goes-on}
 use Rattle.adjacency.specs.Plain.{numbered}
-use Rattle.zurkhovel.proofs.Accepted.{skeleton-of}
+use Rattle.zurkhovel.specs.Accepted.{skeleton-of}
 use Rattle.zurkhovel.proofs.matrix.check.Statement.{statement}
 use Rattle.zurkhovel.proofs.matrix.check.Tie as tie
 

@@ -6,7 +6,7 @@ use Rattle.refusal.specs.Table.{Clear, kept, left}
 use Rattle.refusal.specs.Laws.{was-clear, was-lowest}
 use Rattle.adjacency.specs.Adjacency.{zeroMost}
 use Rattle.zurkhovel.specs.Matrix.{physicalRows}
-use Rattle.zurkhovel.proofs.Numbered.{physical-skeleton, physical-numbering}
+use Rattle.zurkhovel.specs.RoundMatrix.{physical-exactly}
 use Rattle.zurkhovel.proofs.matrix.zero_a.Statement.{statement}
 use Rattle.zurkhovel.proofs.matrix.zero_a.Tie as tie
 
@@ -25,5 +25,5 @@ zero-a-spec =
     (λ c. search needs)
     (λ c. left (was-lowest (c .before .before .before .check .ensures) (c .before .k .given .1)) refl)
     (λ c. search needs)
-    (λ c κs. (physical-skeleton (clear c), physical-numbering (clear c)))
+    (λ c κs. physical-exactly _ _ _ .0 (clear c))
     (λ c. kept (clear (c .before)) (c .zero-of .ensures)))

@@ -1,5 +1,5 @@
 -- `zurkhovel::text::write_line` keeps its promise. Assumes nothing.
-use mathlib.Core.Path.{refl, sym}
+use mathlib.Core.Path.{refl}
 use native.Mathlib.Omega.{arith}
 use denote.Ref.{now}
 use borrow.Author.Needs.{needs}
@@ -8,8 +8,9 @@ use Rattle.refusal.specs.Laws.{was-clear, was-lowest, refused-first, at-most}
 use Rattle.code.specs.Limits.{size, valence}
 use Rattle.skeleton.specs.Edges.{edgeRows}
 use Rattle.lines.specs.Line.{line}
-use Rattle.zurkhovel.proofs.Accepted.{skeleton-of}
-use Rattle.zurkhovel.proofs.Derived.{code-digits, code-size, derived-size, derived-short, derived-given}
+use Rattle.coding.specs.Learnt.{written-length}
+use Rattle.zurkhovel.specs.Accepted.{skeleton-of}
+use Rattle.zurkhovel.proofs.Derived.{code-digits, derived-size, derived-short, derived-given}
 use Rattle.zurkhovel.proofs.text.write_line.Statement.{statement}
 use Rattle.zurkhovel.proofs.text.write_line.Tie as tie
 
@@ -33,12 +34,12 @@ write-line-spec =
     (λ c. search needs)
     (λ c κs. let d = c .before .before .before in (skeleton-of (clear d), omega (arith, at-most (clear d))))
     (λ c. let d = c .before .before .before .before .before in omega (arith, at-most (clear d)))
-    (λ c. let d = c .before .before .before .before .before .before in sym (code-size (start d .args .n) (now (start d .args .edges)) (clear d) (c .before .before .centred .ensures)))
+    (λ c. let d = c .before .before .before .before .before .before in written-length (c .before .before .centred .ensures))
     (λ c κs. let e = c .before .before .before .before .before .before in
     let d = e .before in
     let w = c .before .before .before .centred .ensures in (
-      omega (arith, code-size (start d .args .n) (now (start d .args .edges)) (clear d) w, at-most (clear d)),
-      (code-digits (start d .args .n) (now (start d .args .edges)) (clear d) w .digits, omega (arith, derived-size (start d .args .n) (now (start d .args .edges)) (clear d) line (e .extent .result) (e .extent .ensures) w, c .before .before .before .before .before .if1 .left)),
+      omega (arith, written-length w, at-most (clear d)),
+      (code-digits (skeleton-of (clear d)) w .digits, omega (arith, derived-size (start d .args .n) (now (start d .args .edges)) (clear d) line (e .extent .result) (e .extent .ensures) w, c .before .before .before .before .before .if1 .left)),
     ))
     (λ c. search needs)
     (λ c. let e = c .before .before .before .before .before .before .before .before .before in
