@@ -20,6 +20,21 @@ fn handed(answer: Answer, place: &mut u64) -> u32 {
     }
 }
 
+// A number as C takes it; the value is set only where there is one.
+fn valued(answer: Number, value: &mut u64, place: &mut u64) -> u32 {
+    match answer {
+        Number::Value(v) => {
+            *value = v;
+            *place = 0;
+            0
+        }
+        Number::Refused(k, p) => {
+            *place = p as u64;
+            k as u32
+        }
+    }
+}
+
 // 0: a stands before b in the dictionary; 1: they are equal; 2: a stands after b.
 #[no_mangle]
 pub extern "C" fn zk_compare(a: &[u8], b: &[u8]) -> u32 {
@@ -61,17 +76,11 @@ pub extern "C" fn zk_whole(
     value: &mut u64,
     place: &mut u64,
 ) -> u32 {
-    match zurkhovel::bit_tuple::whole(n as usize, edges, root as usize) {
-        Number::Value(v) => {
-            *value = v;
-            *place = 0;
-            0
-        }
-        Number::Refused(k, p) => {
-            *place = p as u64;
-            k as u32
-        }
-    }
+    valued(
+        zurkhovel::bit_tuple::whole(n as usize, edges, root as usize),
+        value,
+        place,
+    )
 }
 
 #[no_mangle]
@@ -196,21 +205,6 @@ pub extern "C" fn zk_same(
         }
         Verdict::Refused(i, k, p) => {
             *list = i as u64;
-            *place = p as u64;
-            k as u32
-        }
-    }
-}
-
-// A number as C takes it; the value is set only where there is one.
-fn valued(answer: Number, value: &mut u64, place: &mut u64) -> u32 {
-    match answer {
-        Number::Value(v) => {
-            *value = v;
-            *place = 0;
-            0
-        }
-        Number::Refused(k, p) => {
             *place = p as u64;
             k as u32
         }

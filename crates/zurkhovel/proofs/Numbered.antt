@@ -19,7 +19,7 @@ use Rattle.adjacency.specs.Coded.{cam-length}
 use Rattle.coding.specs.Learnt.{written, written-length}
 use Rattle.zurkhovel.specs.Matrix.{ByCode}
 use Rattle.zurkhovel.specs.RoundMatrix.{by-code-skeleton, by-code-physical}
-use Rattle.zurkhovel.specs.Rooting.{Renumbered}
+use Rattle.zurkhovel.specs.Rooting.{ListedByCode}
 use Rattle.zurkhovel.proofs.Derived.{code-clear}
 use Rattle.zurkhovel.specs.Accepted.{skeleton-of}
 use Rattle.zurkhovel.proofs.Decoded.{edges-length}
@@ -34,13 +34,13 @@ module _ {N : ℕ} {E old new : List ℕ} (s : IsSkeleton size valence N E) (w :
 
   pub code-written :
       {most : ℕ} {o p : List ℕ} {r : ℕ} → Clear (edgeRows most valence N E 1) → Laid (decode (take N new)) o p r → length p ≡ 2 * (size - 1)
-      → Renumbered most N E p
+      → ListedByCode most N E p
   code-written {o = o} {p} k l h =
       let front : take (2 * (N - 1)) p ≡ decode (take N new) = rw (← code-bytes) (laid-front (decode (take N new)) o p _ (l .lies) refl) in
       record { clear = k; numbering = record { code = take N new; right = code-right; edges = front }; long = h }
 
 -- the edges by code, as the writers of matrices take them
-module _ {most N : ℕ} {E ends : List ℕ} (t : Renumbered most N E ends) where
+module _ {most N : ℕ} {E ends : List ℕ} (t : ListedByCode most N E ends) where
   pub ends-within : most ≤ size → 2 * (N - 1) ≤ length ends
   ends-within l = omega (arith, t .long, at-most (t .clear))
 
@@ -61,7 +61,7 @@ module _ {most N : ℕ} {E ends : List ℕ} (t : Renumbered most N E ends) where
 cam-sized : (N : ℕ) (E c : List ℕ) → ByCode (cam N) N E c → length c ≡ N - 1
 cam-sized N E c b = ap length (b .is) ∙ cam-length N (b .edges)
 
-module _ {N : ℕ} {E ends old new : List ℕ} (t : Renumbered size N E ends) where
+module _ {N : ℕ} {E ends old new : List ℕ} (t : ListedByCode size N E ends) where
   pub cam-short : length old < N - 1 → new ≡ old → Gives (edgeRows size valence N E 1) (ByCode (cam N) N E) old new (refuses 15 (N - 1))
   cam-short h e = refused-short (t .clear) (cam-sized N E) (made-by-code t (cam N) refl) h e
 

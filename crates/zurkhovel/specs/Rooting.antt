@@ -32,13 +32,13 @@ abbrev pub Rooting : ℕ → ℕ → List ℕ → ℕ → List ℕ → Check →
 Rooting most N E r code a = Judged (edgeRows most valence N E r) (Rooted most N E r code) a
 
 -- no row applies, and the edges by code stand at the start of ends
-pub record Renumbered (most N : ℕ) (E ends : List ℕ) : Type 0 where
+pub record ListedByCode (most N : ℕ) (E ends : List ℕ) : Type 0 where
   pub clear : Clear (edgeRows most valence N E 1)
   pub numbering : Numbering N E (take (2 * (N - 1)) ends)
   pub long : length ends ≡ 2 * (size - 1)
 
-abbrev pub Renumbering : ℕ → ℕ → List ℕ → List ℕ → Check → Type 0
-Renumbering most N E ends a = Judged (edgeRows most valence N E 1) (Renumbered most N E ends) a
+abbrev pub ListingByCode : ℕ → ℕ → List ℕ → List ℕ → Check → Type 0
+ListingByCode most N E ends a = Judged (edgeRows most valence N E 1) (ListedByCode most N E ends) a
 
 -- the digits that were read are a right code, if the form was not refused
 abbrev pub Readable : List ℕ → Answer → Type 0

@@ -10,7 +10,7 @@ ghost use Rattle.refusal.specs.Outcome.{told, numbered};
 ghost use Rattle.code.specs.Limits.{size, valence};
 ghost use Rattle.tree.specs.Skeleton.{IsSkeleton};
 ghost use Rattle.adjacency.specs.Adjacency as adjacency;
-ghost use Rattle.zurkhovel.specs.Rooting.{Renumbering};
+ghost use Rattle.zurkhovel.specs.Rooting.{ListingByCode};
 ghost use Rattle.zurkhovel.specs.Matrix.{DecodeCam, DecodeZeroA, DecodeAZero, physicalRows, Cam, ZeroA, AZero, CamByCode, ZeroAByCode, AZeroByCode};
 
 // The edges (lower, higher) of a CAM, in order of the higher.
@@ -119,7 +119,7 @@ pub fn a_zero(n: usize, edges: &[u8]) -> Number
 // The edges in the numbering by code of a skeleton of at most `most` vertices.
 fn by_code(most: usize, n: usize, edges: &[u8], ends: &mut [u8]) -> Check
     requires { ⌜ (most ≤ size) × (length (now ends) ≡ 2 * (size - 1)) ⌝ }
-    ensures { λ r. ⌜ Renumbering most n (now (edges .entry)) (now (ends .exit)) r ⌝ }
+    ensures { λ r. ⌜ ListingByCode most n (now (edges .entry)) (now (ends .exit)) r ⌝ }
 {
     if let Check::Refuse(k, p) = skeleton::check(most, n, edges, 1) {
         return Check::Refuse(k, p);

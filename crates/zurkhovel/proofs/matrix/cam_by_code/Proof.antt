@@ -6,12 +6,12 @@ use borrow.Author.Needs.{needs}
 use Rattle.refusal.specs.Laws.{at-least, at-most, refused-first}
 use Rattle.code.specs.Limits.{size}
 use Rattle.adjacency.specs.Plain.{numbered}
-use Rattle.zurkhovel.specs.Rooting.{Renumbered}
+use Rattle.zurkhovel.specs.Rooting.{ListedByCode}
 use Rattle.zurkhovel.proofs.Numbered.{ends-within, ends-length, ends-skeleton, ends-physical, cam-short, cam-given}
 use Rattle.zurkhovel.proofs.matrix.cam_by_code.Statement.{statement}
 use Rattle.zurkhovel.proofs.matrix.cam_by_code.Tie as tie
 
-known : (c : tie.After-enum-told) → Renumbered size (c .before .before .before .before .before .before .before .args .n) (now (c .before .before .before .before .before .before .before .args .edges)) (c .before .before .before .by-code .last .1 .1 .1 .0)
+known : (c : tie.After-enum-told) → ListedByCode size (c .before .before .before .before .before .before .before .args .n) (now (c .before .before .before .before .before .before .before .args .edges)) (c .before .before .before .by-code .last .1 .1 .1 .0)
 known c = rw (c .enum-told .given .1) at (c .before .before .before .by-code .ensures)
 
 pub cam-by-code-spec : {M : Type 1} → statement M
