@@ -7,17 +7,9 @@ use lib.ListN.{length}
 use Rattle.laws.specs.Laid.{laidOver}
 use Rattle.refusal.specs.Table.{Row, Clear, gives, refuses, Gives}
 use Rattle.refusal.specs.Laws.{clear-left, refused-short, given-laid}
-use Rattle.code.specs.Limits.{size, valence}
-use Rattle.adjacency.specs.Adjacency.{camEdges, zeroCam, aEdges, camRows, aRows, madeRows, aMost}
-use Rattle.adjacency.specs.Made.{made-length, long}
-use Rattle.adjacency.specs.Zero.{zero-length}
+use Rattle.code.specs.Limits.{valence}
+use Rattle.adjacency.specs.Adjacency.{aEdges, aRows, madeRows, aMost}
 use Rattle.adjacency.specs.Accepted.{aFront, a-long}
-
-pub cam-bytes : (N : ℕ) (c : List ℕ) → Clear (camRows size valence N c) → length (camEdges c) ≡ 2 * (N - 1)
-cam-bytes N c k = omega (arith, made-length 1 c, long N c k)
-
-pub zero-bytes : (N x : ℕ) → length (camEdges (zeroCam N x)) ≡ 2 * (N - 1)
-zero-bytes N x = omega (arith, made-length 1 (zeroCam N x), zero-length N x)
 
 pub a-bytes : (N x : ℕ) → Clear (aRows aMost valence N x) → length (aEdges N x) ≡ 2 * (N - 1)
 a-bytes N x k = a-long aMost N x (clear-left (aFront aMost N x) (madeRows valence (aEdges N x)) k)

@@ -1,10 +1,10 @@
 -- What the private helpers of the public calls know: of an edge list that is judged, its rooted code or its edges by code; of digits that
--- a bit form was read to, their edges. No promise cites it. Assumes nothing.
+-- a bit form was read to, and of a CAM, the edges. No promise cites it. Assumes nothing.
 use mathlib.Core.Path.{_≡_}
-use mathlib.Core.List.{List}
+use mathlib.Core.List.{List, []}
 use Prim.Native.Nat.{ℕ, _-_, _*_, _≤_}
 use lib.ListN.{length, take}
-use Rattle.refusal.specs.Table.{Row, Clear, Lowest}
+use Rattle.refusal.specs.Table.{Row, Clear, Lowest, Outcome, Gives}
 use Rattle.refusal.specs.Outcome.{told}
 use Rattle.refusal.specs.declared.Answer.{Answer}
 use Rattle.refusal.specs.declared.Answer.the-variants.{Done, Refused}
@@ -14,6 +14,7 @@ use Rattle.code.specs.Limits.{size, valence}
 use Rattle.code.specs.Code.{codeRows}
 use Rattle.tree.specs.Skeleton.{rooted}
 use Rattle.skeleton.specs.Edges.{edgeRows}
+use Rattle.adjacency.specs.Adjacency.{camEdges}
 use Rattle.zurkhovel.specs.Codes.{LaysEdges}
 use Rattle.zurkhovel.specs.Matrix.{Numbering}
 
@@ -49,3 +50,7 @@ Readable digits (Refused k p) = Unit {0}
 abbrev pub EdgesOf : List ℕ → List ℕ → List ℕ → Answer → Answer → Type 0
 EdgesOf digits old new (Done n) r = LaysEdges (take n digits) old new (told r)
 EdgesOf digits old new (Refused k p) r = (r ≡ Refused k p) × (new ≡ old)
+
+-- the edges of a CAM, with row 15 alone
+abbrev pub LaysCam : List ℕ → List ℕ → List ℕ → Outcome ℕ → Type 0
+LaysCam c old new o = Gives [] (λ E. E ≡ camEdges c) old new o

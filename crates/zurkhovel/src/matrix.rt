@@ -3,15 +3,28 @@ use refusal::Answer;
 use refusal::Check;
 use refusal::Number;
 ghost use mathlib.Core.Path.{_≡_};
-ghost use Prim.Native.Nat.{_-_, _*_, _≤_};
+ghost use Prim.Native.Nat.{_-_, _*_, _≤_, _<_};
 ghost use lib.ListN.{length};
 ghost use Rattle.refusal.specs.Table.{Answers};
 ghost use Rattle.refusal.specs.Outcome.{told, numbered};
 ghost use Rattle.code.specs.Limits.{size, valence};
 ghost use Rattle.tree.specs.Skeleton.{IsSkeleton};
 ghost use Rattle.adjacency.specs.Adjacency as adjacency;
-ghost use Rattle.zurkhovel.specs.Rooting.{ListingByCode};
+ghost use Rattle.zurkhovel.specs.Rooting.{LaysCam, ListingByCode};
 ghost use Rattle.zurkhovel.specs.Matrix.{DecodeCam, DecodeZeroA, DecodeAZero, physicalRows, Cam, ZeroA, AZero, CamByCode, ZeroAByCode, AZeroByCode};
+
+// The edges of a CAM that is accepted, with row 15.
+fn lay_cam(cam: &[u8], out: &mut [u8]) -> Answer
+    requires { ⌜ length (now cam) < size ⌝ }
+    ensures { λ r. ⌜ LaysCam (now (cam .entry)) (now (out .entry)) (now (out .exit)) (told r) ⌝ }
+{
+    let need = 2 * cam.len();
+    if out.len() < need {
+        return Answer::Refused(15, need);
+    }
+    adjacency::cam_edges(cam, out);
+    Answer::Done(need)
+}
 
 // The edges (lower, higher) of a CAM, in order of the higher.
 pub fn decode_cam(n: usize, cam: &[u8], out: &mut [u8]) -> Answer
@@ -20,12 +33,7 @@ pub fn decode_cam(n: usize, cam: &[u8], out: &mut [u8]) -> Answer
     if let Check::Refuse(k, p) = adjacency::cam_check(n, cam) {
         return Answer::Refused(k, p);
     }
-    let need = 2 * (n - 1);
-    if out.len() < need {
-        return Answer::Refused(15, need);
-    }
-    adjacency::cam_edges(cam, out);
-    Answer::Done(need)
+    lay_cam(cam, out)
 }
 
 // The edges of a 0A.
@@ -35,14 +43,9 @@ pub fn decode_zero_a(n: usize, value: u64, out: &mut [u8]) -> Answer
     if let Check::Refuse(k, p) = adjacency::zero_check(n, value) {
         return Answer::Refused(k, p);
     }
-    let need = 2 * (n - 1);
-    if out.len() < need {
-        return Answer::Refused(15, need);
-    }
     let mut cam = [0u8; 20];
     adjacency::zero_cam(n, value, &mut cam);
-    adjacency::cam_edges(&cam[..n - 1], out);
-    Answer::Done(need)
+    lay_cam(&cam[..n - 1], out)
 }
 
 // The edges of an A0, in order of the higher, then of the lower.

@@ -8,7 +8,7 @@ use Rattle.refusal.specs.Laws.{was-clear, was-lowest, at-least, at-most, refuse
 use Rattle.code.specs.Limits.{size, valence}
 use Rattle.adjacency.specs.Adjacency.{camRows}
 use Rattle.adjacency.specs.Made.{long}
-use Rattle.zurkhovel.proofs.Made.{cam-bytes, known-short, known-given}
+use Rattle.zurkhovel.proofs.Behind.{behind-same}
 use Rattle.zurkhovel.proofs.matrix.decode_cam.Statement.{statement}
 use Rattle.zurkhovel.proofs.matrix.decode_cam.Tie as tie
 
@@ -27,12 +27,6 @@ decode-cam-spec =
     (λ c. search needs)
     (λ c. refused-first refl (was-lowest (c .before .before .before .cam-check .ensures) (c .before .k .given .1)) refl)
     (λ c. search needs)
-    (λ c. at-least (clear c))
-    (λ c. omega (arith, at-most (clear c)))
-    (λ c. let d = c .before in known-short (clear d) (cam-bytes (start d .args .n) (now (start d .args .cam)) (clear d)) (c .if1 .taken) refl)
-    (λ c κs. let d = c .before .before in
-    let l = long (start d .args .n) (now (start d .args .cam)) (clear d) in
-    (omega (arith, at-most (clear d), at-least (clear d)), omega (arith, c .before .if1 .left)))
+    (λ c κs. let d = c .before in omega (arith, at-most (clear d), at-least (clear d), long (start d .args .n) (now (start d .args .cam)) (clear d)))
     (λ c. search needs)
-    (λ c. let d = c .before .before .before .before .before in
-    known-given (clear d) (cam-bytes (start d .args .n) (now (start d .args .cam)) (clear d)) (c .before .before .before .before .if1 .left) (c .before .before .cam-edges .ensures)))
+    (λ c. behind-same (clear (c .before .before .before .before)) (c .before .before .lay-cam .ensures)))

@@ -11,7 +11,7 @@ use Rattle.refusal.specs.Laws.{was-clear, was-lowest, at-least, at-most, refuse
 use Rattle.code.specs.Limits.{valence}
 use Rattle.adjacency.specs.Adjacency.{zeroCam, zeroRows, zeroMost}
 use Rattle.adjacency.specs.Zero.{zero-length}
-use Rattle.zurkhovel.proofs.Made.{zero-bytes, known-short, known-given}
+use Rattle.zurkhovel.proofs.Behind.{behind-same}
 use Rattle.zurkhovel.proofs.matrix.decode_zero_a.Statement.{statement}
 use Rattle.zurkhovel.proofs.matrix.decode_zero_a.Tie as tie
 
@@ -23,7 +23,7 @@ clear : (c : tie.After-enum-told) → Clear (zeroRows zeroMost valence (start c 
 clear c = was-clear (c .before .before .zero-check .ensures) (c .enum-told .given .1)
 
 abbrev told : tie.After-zero-cam → tie.After-enum-told
-told c = c .before .before .before
+told c = c .before .before
 
 -- the array holds the CAM
 wide : (c : tie.After-zero-cam) → length (c .zero-cam .last .1 .1 .0) ≡ 20
@@ -45,17 +45,11 @@ decode-zero-a-spec =
     (λ c. search needs)
     (λ c. refused-first refl (was-lowest (c .before .before .before .zero-check .ensures) (c .before .k .given .1)) refl)
     (λ c. search needs)
-    (λ c. at-least (clear c))
-    (λ c. omega (arith, at-most (clear c)))
-    (λ c. let d = c .before in known-short (clear d) (zero-bytes (start d .args .n) (start d .args .value)) (c .if1 .taken) refl)
     (λ c. search needs)
-    (λ c κs. let k = clear (c .before .before) in (at-least k, at-most k, at-most k))
+    (λ c κs. let k = clear (c .before) in (at-least k, at-most k, at-most k))
     (λ c. at-least (clear (told (c .before))))
     (λ c. omega (arith, wide (c .before), at-most (clear (told (c .before)))))
     (λ c. sym (counted (c .before .before)))
-    (λ c κs. let w = c .before .before .before in
-    (omega (arith, counted w, at-most (clear (told w))), omega (arith, counted w, w .before .before .if1 .left)))
+    (λ c κs. let w = c .before .before .before in omega (arith, counted w, at-most (clear (told w))))
     (λ c. search needs)
-    (λ c. let w = c .before .before .before .before .before .before in
-    let d = told w in
-    known-given (clear d) (zero-bytes (start d .args .n) (start d .args .value)) (w .before .before .if1 .left) (rw (held w) at (c .before .before .cam-edges .ensures))))
+    (λ c. let w = c .before .before .before .before .before .before in behind-same (clear (told w)) (rw (held w) at (c .before .before .lay-cam .ensures))))
