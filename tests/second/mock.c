@@ -48,6 +48,7 @@ enum wrong {
     record_filled,  /* zeros behind a record */
     first_line_only, /* the reader refuses all but line one */
     feed_and_return, /* a carriage return before the line feed is taken */
+    unfinished_not_counted, /* an unfinished line is no refused one */
     /* piece vertices */
     depth_ignored, /* equal subtree codes at different depths are one class */
     classes_from_0
@@ -339,6 +340,13 @@ void zk_read_text(const uint8_t *text, size_t len, uint8_t *records, size_t reco
     if (WRONG == at_of_unfinished && *at == len && len > 0 && text[len - 1] != '\n')
         *at -= 1;
     wrong_lines(text, len, records, numbers, places, *lines);
+}
+
+void zk_count(const uint8_t *numbers, size_t len, uint64_t *read, uint64_t *refused)
+{
+    oracle_count(numbers, len, read, refused);
+    if (WRONG == unfinished_not_counted && len > 0 && numbers[len - 1] == 1)
+        *refused -= 1;
 }
 
 uint32_t zk_classes(uint64_t n, const uint8_t *edges, size_t len,

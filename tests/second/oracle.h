@@ -56,6 +56,8 @@ void oracle_read_text(const uint8_t *text, size_t len, uint8_t *records, size_t 
                       uint8_t *numbers, size_t numbers_len, uint64_t *places, size_t places_len,
                       uint64_t *lines, uint64_t *at);
 
+void oracle_count(const uint8_t *numbers, size_t len, uint64_t *read, uint64_t *refused);
+
 struct answer oracle_classes(uint64_t n, const uint8_t *edges, size_t len, uint8_t *out, size_t room);
 
 #endif

@@ -114,3 +114,10 @@ void oracle_read_text(const uint8_t *text, size_t len, uint8_t *records, size_t 
     *lines = i;
     *at = from;
 }
+
+void oracle_count(const uint8_t *numbers, size_t len, uint64_t *read, uint64_t *refused)
+{
+    *read = *refused = 0;
+    for (size_t i = 0; i < len; i++)
+        *(numbers[i] == 0 ? read : refused) += 1;
+}

@@ -227,14 +227,14 @@ static void listing(void)
                      &answered, &at);
     char listed[200];
     size_t used = 0;
-    unsigned read = 0, refused = 0;
+    uint64_t read, refused;
     for (uint64_t i = 0; i < answered; i++) {
         uint64_t place = numbers[i] == 0 ? 0 : places[i];
         used += (size_t)snprintf(listed + used, sizeof listed - used, "%" PRIu64 " %u %" PRIu64 "\n", i + 1,
                                  numbers[i], place);
-        *(numbers[i] == 0 ? &read : &refused) += 1;
     }
-    snprintf(listed + used, sizeof listed - used, "read %u refused %u\n", read, refused);
+    oracle_count(numbers, answered, &read, &refused);
+    snprintf(listed + used, sizeof listed - used, "read %" PRIu64 " refused %" PRIu64 "\n", read, refused);
     IS(strcmp(listed, wanted), 0);
     IS(at, strlen(text));
     IS(places[0], 8);

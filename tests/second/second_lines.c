@@ -236,6 +236,18 @@ static void long_texts(void)
     }
 }
 
+/* Numbers that no reading gives, too. */
+static void counts(void)
+{
+    for (unsigned round = 0; round < 1000; round++) {
+        uint8_t numbers[300];
+        size_t len = below(sizeof numbers + 1);
+        for (size_t i = 0; i < len; i++)
+            numbers[i] = (uint8_t)(one_in(2) ? 0 : below(256));
+        check_count(numbers, len);
+    }
+}
+
 void piece_lines(void)
 {
     examples();
@@ -244,6 +256,7 @@ void piece_lines(void)
     single_changes();
     larger_damage();
     long_texts();
+    counts();
     CLAIM_MET(read_line, 0, 1, 2, 3, 5, 10, 11, 12, 13, 14, 15);
     CLAIM_MET(write_line, 0, 3, 5, 6, 7, 8, 9, 15);
 }

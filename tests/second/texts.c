@@ -32,6 +32,18 @@ static int same_reading(const struct reading *a, const struct reading *b, struct
            memcmp(a->records, b->records, room.records + record) == 0;
 }
 
+void check_count(const uint8_t *numbers, size_t len)
+{
+    uint64_t read, refused, their_read = unset, their_refused = unset;
+    struct input in = {.bytes = numbers, .len = len};
+    begin_case("count", &in);
+    oracle_count(numbers, len, &read, &refused);
+    zk_count(numbers, len, &their_read, &their_refused);
+    if (read != their_read || refused != their_refused)
+        mismatch("count", &in, "below are read and refused", (struct answer){(unsigned)read, refused},
+                 (struct answer){(unsigned)their_read, their_refused});
+}
+
 /* Both read the text into the same room; `theirs` is left for further claims. */
 static void check_room(const struct text *text, struct room room, struct reading *theirs)
 {
@@ -45,8 +57,10 @@ static void check_room(const struct text *text, struct room room, struct reading
                      room.places, &ours.lines, &ours.at);
     zk_read_text(text->byte, text->len, theirs->records, room.records, theirs->numbers, room.numbers,
                  theirs->places, room.places, &theirs->lines, &theirs->at);
-    if (same_reading(&ours, theirs, room))
+    if (same_reading(&ours, theirs, room)) {
+        check_count(theirs->numbers, theirs->lines);
         return;
+    }
     char more[160];
     size_t line = 0;
     while (line < ours.lines && line < theirs->lines && ours.numbers[line] == theirs->numbers[line] &&

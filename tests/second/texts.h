@@ -19,6 +19,9 @@ struct reading {
     uint8_t records[record * (most_lines + 1)];
 };
 
+/* Both count the answers' numbers. */
+void check_count(const uint8_t *numbers, size_t len);
+
 /* Both read the text, with room for all its lines; `theirs` is left for further claims. */
 void check_text(const struct text *text, struct reading *theirs);
 

@@ -69,6 +69,9 @@ void zk_read_text(const uint8_t *text, size_t len, uint8_t *records, size_t reco
                   uint8_t *numbers, size_t numbers_len, uint64_t *places, size_t places_len,
                   uint64_t *lines, uint64_t *at);
 
+/* How many of the numbers are 0, and how many are not. */
+void zk_count(const uint8_t *numbers, size_t len, uint64_t *read, uint64_t *refused);
+
 /* Equal vertices: the class of each vertex in the centred code's numbering. */
 uint32_t zk_classes(uint64_t n, const uint8_t *edges, size_t len,
                     uint8_t *out, size_t out_len, uint64_t *place);

@@ -217,6 +217,13 @@ pub extern "C" fn zk_cam(n: u64, edges: &[u8], out: &mut [u8], place: &mut u64) 
 }
 
 #[no_mangle]
+pub extern "C" fn zk_count(numbers: &[u8], read: &mut u64, refused: &mut u64) {
+    let t = zurkhovel::text::count(numbers);
+    *read = t.read as u64;
+    *refused = t.refused as u64;
+}
+
+#[no_mangle]
 pub extern "C" fn zk_cam_by_code(n: u64, edges: &[u8], out: &mut [u8], place: &mut u64) -> u32 {
     handed(
         zurkhovel::matrix::cam_by_code(n as usize, edges, out),
