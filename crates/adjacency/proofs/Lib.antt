@@ -1,7 +1,6 @@
 -- Laws that the proofs of several functions cite. Assumes nothing.
 mod Search
 mod Writing
-mod Sizes
 mod Mixing
 mod Behind
 mod Summing

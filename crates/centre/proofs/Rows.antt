@@ -10,7 +10,7 @@ use lib.ListN.{length, getD, take, drop, set, length-set}
 use lib.Seq.{take-suc, split-at, set-split, getD-set-same, getD-set-other, take-set-le, take-set-lt, length-take-le, getD-take}
 use Rattle.laws.specs.Part.{part, part-cons}
 use Rattle.skeleton.specs.Table.{Shaped}
-use Rattle.centre.specs.Peeling.{deg, row, Without, Linked, Unlinked}
+use Rattle.centre.specs.Peeling.{deg, Without, Linked, Unlinked}
 
 -- the last goes to the front
 pub last-first : (l : List ℕ) (x : ℕ) → List·Permᴰ (l ++ (x ∷ [])) (x ∷ l)

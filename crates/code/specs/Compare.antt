@@ -55,6 +55,27 @@ lex-says (x ∷ xs) (y ∷ ys) = step (decLt x y) (decLt y x) (lex-says xs ys)
     step (no l) (yes g) r = rw (le-ltb x y (omega arith), lt-ltb y x g) (head-more x y xs ys g)
     step (no l) (no g) r = rw (le-ltb x y (omega arith), le-ltb y x (omega arith)) (heads-same x y xs ys (omega arith) r)
 
+-- whether two codes that were compared are equal
+module _ {a b : List ℕ} where
+  when-equal : Compares a b Equal → a ≡ b
+  when-equal (equal e) = e
+
+  when-less : Compares a b Less → a ≡ b → ⊥
+  when-less (less n) e = n (subst (λ (x : List ℕ). a ≽ x) e (refl≽ a))
+
+  when-greater : Compares a b Greater → a ≡ b → ⊥
+  when-greater (greater g n) e = n (subst (λ (x : List ℕ). x ≽ a) e (refl≽ a))
+
+module _ (a b : List ℕ) where
+  pub told-equal : lex a b ≡ Equal → a ≡ b
+  told-equal e = when-equal (subst (Compares a b) e (lex-says a b))
+
+  pub told-less : lex a b ≡ Less → a ≡ b → ⊥
+  told-less e = when-less (subst (Compares a b) e (lex-says a b))
+
+  pub told-greater : lex a b ≡ Greater → a ≡ b → ⊥
+  told-greater e = when-greater (subst (Compares a b) e (lex-says a b))
+
 -- r says whether a stands at or after b
 pub data Falls (a b : List ℕ) : Bool → Type 0 where
   falling : a ≽ b → Falls a b true

@@ -1,7 +1,7 @@
 -- A code among codes that go down: seen from the last of them, as the coder looks for its place. Assumes nothing.
 use mathlib.Core.Path.{_≡_, refl, sym, ap, subst, _∙_}
-use mathlib.Core.Logic.{_⊎_, inl, inr, ite}
-use mathlib.Core.List.{List, [], _∷_, _++_, append-nil, List·Permᴰ, Permᴰ·middle, List·Memᴰ, List·Memᴰ·head, Memᴰ·append-right}
+use mathlib.Core.Logic.{inl, inr, ite}
+use mathlib.Core.List.{List, [], _∷_, _++_, append-nil, Permᴰ·middle, List·Memᴰ, List·Memᴰ·head, Memᴰ·append-right}
 use Prim.Native.Nat.{ℕ, _<_}
 use native.Mathlib.Decide.{decLt}
 use native.Mathlib.Omega.{arith}

@@ -5,7 +5,7 @@ use mathlib.Core.List.{List, [], _∷_, _++_, append-assoc, append-nil, flatten,
 use Prim.Native.Nat.{ℕ, zero, suc, _+_, _-_, _≤_, _<_}
 use native.Mathlib.Nat.{sub-self}
 use native.Mathlib.Omega.{arith}
-use lib.ListN.{length, drop, replicate, length-append, length-replicate, replicate-append-replicate, drop-of-length-le}
+use lib.ListN.{length, drop, replicate, length-replicate, replicate-append-replicate, drop-of-length-le}
 use lib.Seq.{drop-at, drop-drop}
 use Rattle.laws.specs.Order.{sort}
 use Rattle.laws.specs.Sorting.{sort-self, sort-falling}

@@ -2,9 +2,9 @@
 -- last code (`Stand`), the place where the last code stands at or after the new one and where it does not (`Found`), and the loop that
 -- looks for it (`Looking`). What sorting says of it is in `Inserting`. Assumes nothing.
 use mathlib.Core.Path.{_≡_, refl, sym, ap, ap₂, subst, _∙_}
-use mathlib.Core.Bool.{Bool, true, false}
+use mathlib.Core.Bool.{true, false}
 use mathlib.Core.List.{List, [], _∷_, _++_, append-assoc, append-nil, flatten, map, map-append}
-use Prim.Native.Nat.{ℕ, zero, suc, _+_, _-_, _≤_, _<_}
+use Prim.Native.Nat.{ℕ, suc, _+_, _-_, _≤_, _<_}
 use native.Mathlib.Numerals.{add-one}
 use native.Mathlib.Omega.{arith}
 use lib.ListN.{length, getD, take, drop, set, length-append, length-set, length-map}
@@ -18,7 +18,6 @@ use Rattle.code.specs.Limits.{valence}
 use Rattle.code.specs.Parts.{flatten-append}
 use Rattle.code.specs.Compare.{lex, lex-says, Compares, less, equal, greater}
 use Rattle.code.specs.declared.Order.{Order}
-use Rattle.code.specs.declared.Order.the-variants.{Less, Equal, Greater}
 use Rattle.coder.specs.Coded.{isLess, Stand, Spot}
 use Rattle.coder.proofs.Inserting.{Last, last-of, falling-init, insert-last, insert-before}
 

@@ -1,6 +1,6 @@
 -- What `put` writes: a whole list, and a code behind others. Assumes nothing.
 use mathlib.Core.Path.{_≡_, sym, ap, ap₂, _∙_}
-use mathlib.Core.List.{List, [], _∷_, _++_, append-assoc, append-nil}
+use mathlib.Core.List.{List, [], _++_, append-assoc, append-nil}
 use Prim.Native.Nat.{ℕ, _+_, _-_}
 use native.Mathlib.Nat.{sub-self}
 use native.Mathlib.Omega.{arith}

@@ -7,7 +7,7 @@ use native.Mathlib.Omega.{arith}
 use lib.ListN.{length, take}
 use Rattle.laws.specs.Laid.{Laid}
 use Rattle.refusal.specs.Table.{Clear, Answers, passes, fails, Writes}
-use Rattle.refusal.specs.Laws.{clear-one, first-place, laid-writes}
+use Rattle.refusal.specs.Laws.{clear-one, first-place, laid-writes, written, written-room, written-length}
 use Rattle.refusal.specs.declared.Check.the-variants.{Passed, Refuse}
 use Rattle.code.specs.Limits.{size, valence}
 use Rattle.code.specs.Code.{codeRows, decode}
@@ -17,7 +17,6 @@ use Rattle.tree.specs.Theorems.{decoded-tree}
 use Rattle.form.specs.Form.{row14}
 use Rattle.form.specs.Forms.{IsForm}
 use Rattle.form.specs.Accepted.{right-decoded}
-use Rattle.coding.specs.Learnt.{written, written-room, written-length}
 
 module _ {c : List ℕ} (k : Clear (codeRows size valence c)) where
   right : Right size valence c

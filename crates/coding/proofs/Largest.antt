@@ -19,7 +19,7 @@ use Rattle.code.specs.Limits as limits
 use Rattle.tree.specs.Skeleton.{IsTree, degree, rooted}
 use Rattle.tree.specs.Theorems.{size}
 use Rattle.skeleton.specs.Table.{IsTable}
-use Rattle.form.specs.Form.{NTuple, nTuple}
+use Rattle.form.specs.Form.{nTuple}
 use Rattle.coding.specs.Raised.{Raised, Widest}
 use Rattle.coding.proofs.Written.{larger, copied}
 

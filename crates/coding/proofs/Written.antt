@@ -1,7 +1,7 @@
 -- The codes as they are written: rooted at a vertex, and the larger of two.
 --
 -- In order: the rooted code; the larger of two codes; the centred code. Assumes nothing.
-use mathlib.Core.Path.{_≡_, refl, sym, ap, _∙_, subst}
+use mathlib.Core.Path.{_≡_, refl, sym, ap, _∙_}
 use mathlib.Core.Logic.{_⊎_, inl, inr, ⊎-elim}
 use mathlib.Core.List.{List, _++_}
 use Prim.Native.Nat.{ℕ, _≤_}
@@ -13,7 +13,7 @@ use Rattle.laws.specs.Sorting.{refl≽, below≽}
 use Rattle.laws.specs.Laid.{laidOver}
 use Rattle.laws.specs.Laying.{laid-front}
 use Rattle.refusal.specs.Table.{Writes}
-use Rattle.tree.specs.Skeleton.{IsTree, IsSkeleton, rooted}
+use Rattle.tree.specs.Skeleton.{IsTree, rooted}
 use Rattle.tree.specs.Theorems.{size}
 use Rattle.path.specs.Path.{IsCentre}
 use Rattle.path.specs.Theorems.{centre-inside}

@@ -6,7 +6,7 @@ pub mod Root
 pub mod Theorems
 pub mod Skip
 pub mod Stack
-pub mod Laid
+pub mod Placed
 pub mod Pieces
 pub mod Race
 pub mod Spot

@@ -16,13 +16,13 @@ use Rattle.code.specs.Ordered.{Ordered, by-places}
 use Rattle.code.specs.Parts.{enough, codes-count}
 use Rattle.code.specs.Right.{Right}
 use Rattle.fast.specs.Stack.{Stacked, Branches, stack-start, stack-room, stack-next}
-use Rattle.fast.specs.Laid.{Laid, Joins, laid-start, laid-first, laid-next}
+use Rattle.fast.specs.Placed.{Placed, Joins, placed-start, placed-first, placed-next}
 use Rattle.fast.specs.Race.{Tells, holds, denies}
 
 -- digit i and those behind it are read
 pub record Scan (c hs st : List ℕ) (i at : ℕ) : Type 0 where
   pub stacked : Stacked c hs i at
-  pub laid : Laid c st i at
+  pub laid : Placed c st i at
   pub ends : Ends (size - at) (drop i c)
   pub ordered : Ordered (drop i c)
   pub small : (j : ℕ) → i ≤ j → j < length c → getD c j 0 + 1 ≤ valence
@@ -45,7 +45,7 @@ right-scanned {r = r} s k = let n : size < r → ⊥ = λ h. s .bad h k in omega
 pub scan-start : (c hs st : List ℕ) → 1 ≤ length c → length hs ≡ size → length st ≡ suc size → Scan c hs (set st size (length c)) (length c) size
 scan-start c hs st h k l = record {
   stacked = stack-start h k;
-  laid = laid-start c st l;
+  laid = placed-start c st l;
   ends = rw drop-length tt;
   ordered = rw drop-length tt;
   small = λ j a b. let z : ⊥ = omega arith in absurd z;
@@ -59,11 +59,11 @@ cap-low (suc (suc i)) h = refl
 
 -- the trees by their first digit, as the code hands them on
 module _ {c hs st : List ℕ} {i at : ℕ} (s : Scan c hs st i at) where
-  pub from-first : Laid c st (getD st at 0) at
-  from-first = subst (λ (a : ℕ). Laid c st a at) (sym (laid-first (s .laid))) (s .laid)
+  pub from-first : Placed c st (getD st at 0) at
+  from-first = subst (λ (a : ℕ). Placed c st a at) (sym (placed-first (s .laid))) (s .laid)
 
   pub to-first : {end r : ℕ} → Joins c hs (getD st at 0) at end r → Joins c hs i at end r
-  to-first {end} {r} = subst (λ (a : ℕ). Joins c hs a at end r) (laid-first (s .laid))
+  to-first {end} {r} = subst (λ (a : ℕ). Joins c hs a at end r) (placed-first (s .laid))
 
 module _ {c hs st : List ℕ} {i at : ℕ} (s : Scan c hs st i at) (few : length c ≤ size) (l : 1 < i) where
   abbrev k : ℕ
@@ -94,7 +94,7 @@ module _ {c hs st : List ℕ} {i at : ℕ} (s : Scan c hs st i at) (few : length
       let o : Ends (k + (size - (at + k))) (drop i c) = subst (λ (a : ℕ). Ends a (drop i c)) m (s .ends) in
       record {
         stacked = stack-next (s .stacked) few l fit e;
-        laid = laid-next (s .laid) (omega arith) inside scan-room fit;
+        laid = placed-next (s .laid) (omega arith) inside scan-room fit;
         ends = rw (n, first) o;
         ordered = rw first (subst Falling (children (at + k) refl) f, s .ordered);
         small = λ j a b. look j a b (ℕ-discrete (i - 1) j);

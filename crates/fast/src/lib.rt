@@ -18,7 +18,7 @@ ghost use Rattle.form.specs.Form.{centred, row14, formRows};
 ghost use Rattle.fast.specs.Middle.{top, rest, turned, branch, Middle};
 ghost use Rattle.fast.specs.Skip.{Skips};
 ghost use Rattle.fast.specs.Stack.{Branches};
-ghost use Rattle.fast.specs.Laid.{Laid, Joins};
+ghost use Rattle.fast.specs.Placed.{Placed, Joins};
 ghost use Rattle.fast.specs.Scan.{Scan, Scanned};
 ghost use Rattle.fast.specs.Race.{Tells};
 ghost use Rattle.fast.specs.Spot.{Spot};
@@ -59,7 +59,7 @@ fn falls_at(code: &[u8], a: usize, b: usize, e: usize) -> bool
 
 // How tall a digit is whose children are the trees from `at` to `end`; 0 where one of them is larger than the one before it.
 fn joined(code: &[u8], hs: &[u8], starts: &[u8], at: usize, end: usize) -> u8
-    requires { ⌜ Laid (now code) (now starts) (getD (now starts) at 0) at ⌝ }
+    requires { ⌜ Placed (now code) (now starts) (getD (now starts) at 0) at ⌝ }
     requires { ⌜ at ≤ end ⌝ }
     requires { ⌜ end ≤ size ⌝ }
     requires { ⌜ length (now hs) ≡ size ⌝ }

@@ -9,9 +9,10 @@ use mathlib.Core.List.{List, [], _∷_, _++_}
 use Prim.Native.Nat.{ℕ, _≤_, _<_}
 use native.Mathlib.Omega.{arith}
 use lib.Dec.{ltb}
-use lib.ListN.{length}
+use lib.ListN.{length, take, drop, length-append}
 use borrow.Author.Tests.{ltb-true}
 use Rattle.laws.specs.Laid.{laidOver, Laid}
+use Rattle.laws.specs.Laying.{laid-front}
 use Rattle.refusal.specs.declared.Check.{Check}
 use Rattle.refusal.specs.declared.Check.the-variants.{Passed, Refuse}
 use Rattle.refusal.specs.Outcome.{checked}
@@ -172,6 +173,14 @@ pub goes-on : {xs ys : List Row} {a b : Check} → Answers xs a → a ≡ Passed
 goes-on h e (passes c) = passes (clear-both (was-clear h e) c)
 goes-on h e (fails l) = fails (lowest-back (was-clear h e) l)
 
+-- one row more behind a clear table, whose place is 0
+module _ {rs : List Row} (k : Clear rs) (r : Row) where
+  pub then-refused : r .applies 0 → Answers (rs ++ (r ∷ [])) (Refuse (r .number) 0)
+  then-refused d = fails (lowest-back k (first-place {r = r} d (λ q l a. let z : ⊥ = omega arith in z)))
+
+  pub then-passed : ((p : ℕ) → r .applies p → ⊥) → Answers (rs ++ (r ∷ [])) Passed
+  then-passed e = passes (clear-both k (clear-one {r = r} e))
+
 -- ---- rows 3 and 15
 
 -- where 3 does not apply, the number is at least 1 and at most `most`
@@ -203,6 +212,22 @@ check-answered {rs} (passes c) e = subst (Answered rs (λ n. n ≡ 0)) (sym e) (
 check-answered {rs} (fails l) e = subst (Answered rs (λ n. n ≡ 0)) (sym e) (left l refl)
 
 -- ---- a call that writes
+
+-- what is written from the start is not longer than what it is written over then
+covers : (c old new : List ℕ) → new ≡ laidOver c old → length c ≤ length new
+unfolding laidOver
+covers c old new e = omega (arith, ap length e, length-append c (drop (length c) old))
+
+-- as a caller learns it: n bytes at the start
+module _ {Right : List ℕ → Type 0} {old new : List ℕ} {n : ℕ} (w : Writes Right old n new) where
+  pub written : take n new ≡ w .result
+  written = laid-front (w .result) old new n (w .lies) (sym (w .count))
+
+  pub written-room : n ≤ length new
+  written-room = omega (arith, covers (w .result) old new (w .lies), w .count)
+
+  pub written-length : n ≡ length (take n new)
+  written-length = w .count ∙ sym (ap length written)
 
 -- one answer and one output, where a right result of an input that no row refuses is one
 pub one-clear :

@@ -49,10 +49,6 @@ module _ {l : List ℕ} (h : Links l) where
       step (yes e) i = rw (e, climb-own k l v e, e) (refl, b)
       step (no n) i = let f = h .falls v b in i (omega arith) (omega arith)
 
-  pub head-top : (v : ℕ) → v < 256 → (getD l (headOf l v) 0 ≡ headOf l v) × (headOf l v < 256)
-  unfolding headOf
-  head-top v b = climb-top 256 v (omega arith) b
-
   -- a step leads to a vertex of the same head
   pub head-step : (v : ℕ) → v < 256 → headOf l (getD l v 0) ≡ headOf l v
   unfolding headOf

@@ -8,10 +8,10 @@ use Prim.Native.Nat.{ℕ, zero, suc, _+_, _-_, _*_, _/_, _%_, _≤_, _<_}
 use native.Mathlib.Decide.{ℕ-discrete}
 use native.Mathlib.Omega.{arith}
 use lib.ListN.{length, getD}
-use Rattle.refusal.specs.Table.{Outside, Clear}
+use Rattle.refusal.specs.Table.{Outside, Clear, row3}
 use Rattle.refusal.specs.Laws.{never, others, clear-one, clear-both}
 use Rattle.tree.specs.Skeleton.{arcs, Walk, here, degree, Degrees, IsSkeleton}
-use Rattle.skeleton.specs.Edges.{Edge, one, other, before, row3, row5, row6, row7, row8, row9, edgeRows}
+use Rattle.skeleton.specs.Edges.{Edge, one, other, before, row5, row6, row7, row8, row9, edgeRows}
 use Rattle.skeleton.specs.Prefix.{arcs-all, hit, hit-same, hit-other, degree-more, degree-none, degree-all, degree-within, one-in, other-in}
 use Rattle.skeleton.specs.Joined.{alike}
 use Rattle.skeleton.specs.Count.{In, Apart}

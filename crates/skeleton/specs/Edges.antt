@@ -9,7 +9,7 @@ use mathlib.Core.Logic.{_⊎_}
 use mathlib.Core.List.{List, [], _∷_}
 use Prim.Native.Nat.{ℕ, _+_, _-_, _*_, _/_, _≤_}
 use lib.ListN.{length, getD, take}
-use Rattle.refusal.specs.Table.{Row, Outside}
+use Rattle.refusal.specs.Table.{Row, Outside, row3}
 use Rattle.tree.specs.Skeleton.{arcs, degree, Walk}
 
 -- the list has an edge number p
@@ -26,10 +26,6 @@ other E p = getD E (2 * (p - 1) + 1) 0
 -- the edges earlier than p
 abbrev pub before : List ℕ → ℕ → List ℕ
 before E p = take (2 * (p - 1)) E
-
--- 3: N is 0, or above the limit
-abbrev pub row3 : ℕ → ℕ → Row
-row3 most N = record { number = 3; applies = λ p. (p ≡ 0) × Outside most N }
 
 -- 5: the edge list is not 2(N-1) bytes
 abbrev pub row5 : ℕ → List ℕ → Row

@@ -1,25 +1,13 @@
--- Laws of the table of neighbours: a list has one table, and its rows are the neighbours. Assumes nothing.
+-- A list has one table of neighbours. Assumes nothing.
 use mathlib.Core.Path.{_≡_, sym, _∙_}
 use mathlib.Core.List.{List, []}
-use Prim.Native.Nat.{ℕ, _+_, _-_, _≤_, _<_}
+use Prim.Native.Nat.{ℕ, _+_, _-_, _<_}
 use native.Mathlib.Decide.{decLt}
 use native.Mathlib.Omega.{arith}
-use lib.ListN.{length, getD, take}
-use lib.Seq.{ext-getD, getD-take, length-take-le}
-use Rattle.tree.specs.Skeleton.{arcs, neighbours, degree}
+use lib.ListN.{getD}
+use lib.Seq.{ext-getD}
+use Rattle.tree.specs.Skeleton.{degree}
 use Rattle.skeleton.specs.Table.{IsTable}
-
--- the first numbers of a row, as many as the degree says, are the neighbours in the order of the edges
-pub row-is :
-    {N : ℕ} {E : List ℕ} {t : List (List ℕ)} {d : List ℕ} → IsTable N E t d → N ≤ 64 → (v : ℕ) → 1 ≤ v → v ≤ N → degree E v ≤ 4
-    → take (getD d (v - 1) 0) (getD t (v - 1) []) ≡ neighbours (arcs E) v
-unfolding degree
-row-is {E = E} {t} {d} h s v l m f =
-    rw (h .degs v l m)
-    (ext-getD 0 _ _ size (λ i k. let j = rw size at k in getD-take (length (neighbours (arcs E) v)) (getD t (v - 1) []) i 0 j ∙ h .row v i l m j))
-  where
-    size : length (take (length (neighbours (arcs E) v)) (getD t (v - 1) [])) ≡ length (neighbours (arcs E) v)
-    size = length-take-le (length (neighbours (arcs E) v)) (getD t (v - 1) []) (rw (h .shaped .wide (v - 1) (omega arith)) f)
 
 module _ {N : ℕ} {E : List ℕ} {t u : List (List ℕ)} {d e : List ℕ} (h : IsTable N E t d) (k : IsTable N E u e) where
   one-degree : (i : ℕ) → i < 64 → getD d i 0 ≡ getD e i 0

@@ -7,10 +7,10 @@ ghost use mathlib.Core.Logic.{_⊎_};
 ghost use mathlib.Core.List.{[], _∷_};
 ghost use Prim.Native.Nat.{_≤_, _<_};
 ghost use lib.ListN.{length};
-ghost use Rattle.refusal.specs.Table.{Answers, Outside};
+ghost use Rattle.refusal.specs.Table.{Answers, Outside, row3};
 ghost use Rattle.code.specs.Limits.{size, valence};
 ghost use Rattle.tree.specs.Skeleton.{IsSkeleton};
-ghost use Rattle.skeleton.specs.Edges.{Edge, one, other, row3, row5, row6, row7, row8, row9, edgeRows};
+ghost use Rattle.skeleton.specs.Edges.{Edge, one, other, row5, row6, row7, row8, row9, edgeRows};
 ghost use Rattle.skeleton.specs.Table.{Shaped, IsTable};
 ghost use Rattle.skeleton.specs.Parts.{Tells, Parted, Links, Top, Room, Added};
 
@@ -42,11 +42,8 @@ pub fn other(edges: &[u8], p: usize) -> usize
 fn sizes(most: usize, n: usize, edges: &[u8]) -> Check
     ensures { λ r. ⌜ Answers (row3 most n ∷ row5 n (now (edges .entry)) ∷ []) r ⌝ }
 {
-    if n == 0 {
-        return Check::Refuse(3, 0);
-    }
-    if most < n {
-        return Check::Refuse(3, 0);
+    if let Check::Refuse(k, p) = refusal::sized(n, most) {
+        return Check::Refuse(k, p);
     }
     if edges.len() % 2 != 0 {
         return Check::Refuse(5, 0);

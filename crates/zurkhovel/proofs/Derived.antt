@@ -7,7 +7,7 @@ use native.Mathlib.Omega.{arith}
 use lib.ListN.{length, take}
 use Rattle.laws.specs.Laid.{Laid}
 use Rattle.refusal.specs.Table.{Clear, gives, refuses, Writes, Gives}
-use Rattle.refusal.specs.Laws.{refused-short, given, clear-left, others}
+use Rattle.refusal.specs.Laws.{refused-short, given, clear-left, others, written, written-length}
 use Rattle.code.specs.Limits.{size, valence}
 use Rattle.code.specs.Code.{codeRows}
 use Rattle.tree.specs.Skeleton.{IsSkeleton}
@@ -17,7 +17,6 @@ use Rattle.form.specs.Forms.{centred-form, form-size}
 use Rattle.form.specs.Accepted.{form-accepted}
 use Rattle.lines.specs.Damage.{Code}
 use Rattle.lines.specs.Lawful.{lawful}
-use Rattle.coding.specs.Learnt.{written, written-length}
 use Rattle.zurkhovel.specs.Accepted.{skeleton-of}
 
 -- the code that was written, where it is read again

@@ -8,7 +8,7 @@ use lib.Seq.{length-take-le}
 use Rattle.laws.specs.Laid.{laidOver, Laid}
 use Rattle.laws.specs.Laying.{laid-front}
 use Rattle.refusal.specs.Table.{Clear, Writes, gives, refuses, Gives}
-use Rattle.refusal.specs.Laws.{at-most, refused-short, given}
+use Rattle.refusal.specs.Laws.{at-most, refused-short, given, written, written-length}
 use Rattle.code.specs.Limits.{size, valence}
 use Rattle.code.specs.Code.{decode}
 use Rattle.tree.specs.Skeleton.{IsSkeleton}
@@ -16,7 +16,6 @@ use Rattle.skeleton.specs.Edges.{edgeRows}
 use Rattle.form.specs.Form.{centred}
 use Rattle.adjacency.specs.Adjacency.{Physical, cam}
 use Rattle.adjacency.specs.Coded.{cam-length}
-use Rattle.coding.specs.Learnt.{written, written-length}
 use Rattle.zurkhovel.specs.Matrix.{ByCode}
 use Rattle.zurkhovel.specs.RoundMatrix.{by-code-skeleton, by-code-physical}
 use Rattle.zurkhovel.specs.Rooting.{ListedByCode}

@@ -10,7 +10,7 @@ use lib.ListN.{length, take, drop}
 use lib.Seq.{take-all}
 use Rattle.laws.specs.Laid.{laidOver, Laid}
 use Rattle.refusal.specs.Table.{Clear, Outcome, gives, Answered, kept, Writes, Gives}
-use Rattle.refusal.specs.Laws.{at-most}
+use Rattle.refusal.specs.Laws.{at-most, written}
 use Rattle.code.specs.Limits.{size, valence}
 use Rattle.code.specs.Code.{digitRows}
 use Rattle.tree.specs.Skeleton.{rooted}
@@ -18,7 +18,6 @@ use Rattle.tree.specs.Theorems.{right, degrees}
 use Rattle.tree.specs.Accepted.{digits-pass}
 use Rattle.skeleton.specs.Edges.{edgeRows}
 use Rattle.bits.specs.Written.{Coded, Packs, packed-again, right-coded}
-use Rattle.coding.specs.Learnt.{written}
 use Rattle.zurkhovel.specs.Rooting.{Rooted}
 use Rattle.zurkhovel.specs.Accepted.{skeleton-of, root-of, rooted-size}
 use Rattle.zurkhovel.proofs.Behind.{behind}

@@ -4,10 +4,10 @@ use mathlib.Core.Bool.{true, false}
 use mathlib.Core.List.{List}
 use Prim.Native.Nat.{ℕ}
 use lib.ListN.{take}
+use Rattle.refusal.specs.Laws.{written}
 use Rattle.refusal.specs.Table.{Clear, Writes}
 use Rattle.form.specs.Form.{centred}
 use Rattle.form.specs.Forms.{centred-form, form-size}
-use Rattle.coding.specs.Learnt.{written}
 use Rattle.zurkhovel.specs.Same.{found, listRows, SameSkeleton, same, different}
 use Rattle.zurkhovel.specs.Accepted.{tree-of}
 

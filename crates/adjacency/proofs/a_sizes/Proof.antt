@@ -5,9 +5,8 @@ use lib.Count.{ones-le}
 use Rattle.refusal.specs.Table.{Row, Clear, Answers, passes, fails, row3}
 use Rattle.refusal.specs.declared.Check.the-variants.{Passed}
 use mathlib.Core.List.{[], _∷_}
-use Rattle.refusal.specs.Laws.{was-clear, stops, goes-on, clear-one, first-place, at-least, at-most}
+use Rattle.refusal.specs.Laws.{was-clear, stops, goes-on, clear-one, first-place, at-least, at-most, then-refused, then-passed}
 use Rattle.adjacency.specs.Adjacency.{aMost, row4}
-use Rattle.adjacency.proofs.Sizes.{next, fine}
 use Rattle.adjacency.proofs.Summing.{rows-few, shift-one}
 use native.Mathlib.Omega.{arith}
 use borrow.Author.Needs.{needs}
@@ -32,7 +31,7 @@ in-range : (c : tie.Else1) → let a = c .before .before .before .before .args i
 in-range c =
     let s = c .before in
     let a = s .before .before .before .args in
-    fine (clear s) (top (a .n) (a .x)) (λ p h. let z : ⊥ = omega (arith, h .1, rw (whole s) at (c .if1 .left)) in z)
+    then-passed (clear s) (top (a .n) (a .x)) (λ p h. let z : ⊥ = omega (arith, h .1, rw (whole s) at (c .if1 .left)) in z)
 
 pub a-sizes-spec : {M : Type 1} → statement M
 a-sizes-spec =
@@ -45,7 +44,7 @@ a-sizes-spec =
     (λ c. at-least (clear c))
     (λ c. omega (arith, few c))
     (λ c. omega (arith, few c))
-    (λ c. let s = c .before in let a = s .before .before .before .args in stops _ refl (next (clear s) (top (a .n) (a .x)) (refl, rw (whole s) at (c .if1 .taken))) refl)
+    (λ c. let s = c .before in let a = s .before .before .before .args in stops _ refl (then-refused (clear s) (top (a .n) (a .x)) (refl, rw (whole s) at (c .if1 .taken))) refl)
     (λ c. let s = c .before .before .before .before in omega (arith, ones-le 64 (s .args .x) (omega (arith, s .fits .x))))
     (λ c. at-least (clear (c .before)))
     (λ c. goes-on (in-range (c .before)) refl (fails (first-place (refl, c .if2 .taken) (λ q l a. let z : ⊥ = omega arith in z))))

@@ -3,10 +3,9 @@ use mathlib.Core.Path.{refl}
 use mathlib.Core.List.{[], _∷_}
 use native.Mathlib.Omega.{arith}
 use Rattle.refusal.specs.Table.{Clear, row3}
-use Rattle.refusal.specs.Laws.{was-clear, stops, at-least}
+use Rattle.refusal.specs.Laws.{was-clear, stops, at-least, then-refused, then-passed}
 use Rattle.code.specs.Limits.{size}
 use Rattle.adjacency.specs.Adjacency.{row5-cam}
-use Rattle.adjacency.proofs.Sizes.{next, fine}
 use borrow.Author.Needs.{needs}
 use Rattle.adjacency.proofs.cam_sizes.Statement.{statement}
 use Rattle.adjacency.proofs.cam_sizes.Tie as tie
@@ -24,5 +23,5 @@ cam-sizes-spec =
     (λ c. stops _ refl (c .before .before .before .sized .ensures) (c .before .k .given .1))
     (λ c. search needs)
     (λ c. at-least (clear c))
-    (λ c. let a = c .before .before .before .before .before .args in next (clear (c .before)) (row5-cam (a .n) (a .cam .now)) (refl, c .if1 .taken))
-    (λ c. let a = c .before .before .before .before .before .args in fine (clear (c .before)) (row5-cam (a .n) (a .cam .now)) (λ p h. h .1 (omega arith))))
+    (λ c. let a = c .before .before .before .before .before .args in then-refused (clear (c .before)) (row5-cam (a .n) (a .cam .now)) (refl, c .if1 .taken))
+    (λ c. let a = c .before .before .before .before .before .args in then-passed (clear (c .before)) (row5-cam (a .n) (a .cam .now)) (λ p h. h .1 (omega arith))))

@@ -1,5 +1,5 @@
 -- `coding::n_tuple` meets its contract: the loop keeps the largest code of those passed. Assumes nothing.
-use mathlib.Core.Path.{_≡_, refl, sym, _∙_}
+use mathlib.Core.Path.{sym, _∙_}
 use Prim.Native.Nat.{_-_, _<_}
 use native.Mathlib.Omega.{arith}
 use denote.Ref.{now}

@@ -1,8 +1,6 @@
 -- `coding::widest` meets its contract: the loop keeps the greatest of those passed. Assumes nothing.
-use mathlib.Core.Path.{refl, subst, _≡_}
 use Prim.Native.Nat.{_-_, _≤_}
 use native.Mathlib.Omega.{arith}
-use Rattle.coding.specs.Raised.{Widest}
 use Rattle.coding.proofs.Largest.{Passed, passed-none, passed-up, passed-by, passed-all}
 use Rattle.coding.proofs.widest.Statement.{statement}
 use Rattle.coding.proofs.widest.Tie as tie

@@ -7,7 +7,7 @@ use lib.ListN.{getD}
 use borrow.Author.Tests.{not-true, not-false}
 use Rattle.code.specs.Compare.{was-falling, was-rising}
 use Rattle.fast.specs.Stack.{top-more, top-same, top-last}
-use Rattle.fast.specs.Laid.{Joins, Joining, join-none, join-start, join-first, join-second, join-within, join-next, join-stop, join-last}
+use Rattle.fast.specs.Placed.{Joins, Joining, join-none, join-start, join-first, join-second, join-within, join-next, join-stop, join-last}
 use Rattle.fast.proofs.joined.Statement.{statement}
 use Rattle.fast.proofs.joined.Tie as tie
 

@@ -4,12 +4,11 @@ use native.Mathlib.Omega.{arith}
 use denote.Ref.{now}
 use borrow.Author.Needs.{needs}
 use Rattle.refusal.specs.Table.{Clear}
-use Rattle.refusal.specs.Laws.{was-clear, was-lowest, refused-first, at-most}
+use Rattle.refusal.specs.Laws.{was-clear, was-lowest, refused-first, at-most, written-length}
 use Rattle.code.specs.Limits.{size, valence}
 use Rattle.skeleton.specs.Edges.{edgeRows}
 use Rattle.vertices.specs.Vertices.{classes}
 use Rattle.vertices.specs.Theorems.{classes-numbered}
-use Rattle.coding.specs.Learnt.{written-length}
 use Rattle.zurkhovel.specs.Accepted.{skeleton-of}
 use Rattle.zurkhovel.proofs.Derived.{code-clear, derived-short, derived-given}
 use Rattle.zurkhovel.proofs.alike.equal_vertices.Statement.{statement}

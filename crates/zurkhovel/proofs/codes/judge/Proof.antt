@@ -1,7 +1,8 @@
 -- `zurkhovel::codes::judge` keeps its promise. Assumes nothing.
 use mathlib.Core.Path.{sym, _∙_}
 use borrow.Author.Needs.{needs}
-use Rattle.coding.specs.Learnt.{written-room, written-length, told-equal, told-less, told-greater}
+use Rattle.code.specs.Compare.{told-equal, told-less, told-greater}
+use Rattle.refusal.specs.Laws.{written-room, written-length}
 use Rattle.zurkhovel.specs.Accepted.{skeleton-of}
 use Rattle.zurkhovel.proofs.Verdicts.{verdict-sizes, verdict-same, verdict-different}
 use Rattle.zurkhovel.proofs.codes.judge.Statement.{statement}

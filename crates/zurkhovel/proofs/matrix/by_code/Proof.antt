@@ -3,11 +3,10 @@ use native.Mathlib.Omega.{arith}
 use denote.Ref.{now}
 use borrow.Author.Needs.{needs}
 use Rattle.refusal.specs.Table.{Clear}
-use Rattle.refusal.specs.Laws.{was-clear, was-lowest}
+use Rattle.refusal.specs.Laws.{was-clear, was-lowest, written-room, written-length}
 use Rattle.code.specs.Limits.{size, valence}
 use Rattle.tree.specs.Skeleton.{IsSkeleton}
 use Rattle.skeleton.specs.Edges.{edgeRows}
-use Rattle.coding.specs.Learnt.{written-room, written-length}
 use Rattle.zurkhovel.specs.Accepted.{skeleton-of, wider}
 use Rattle.zurkhovel.proofs.Derived.{code-clear}
 use Rattle.zurkhovel.proofs.Numbered.{code-bytes, code-written}

@@ -4,11 +4,10 @@ use native.Mathlib.Omega.{arith}
 use denote.Ref.{now}
 use borrow.Author.Needs.{needs}
 use Rattle.refusal.specs.Table.{Clear}
-use Rattle.refusal.specs.Laws.{was-clear, was-lowest, refused-first, at-most}
+use Rattle.refusal.specs.Laws.{was-clear, was-lowest, refused-first, at-most, written-length}
 use Rattle.code.specs.Limits.{size, valence}
 use Rattle.skeleton.specs.Edges.{edgeRows}
 use Rattle.lines.specs.Line.{line}
-use Rattle.coding.specs.Learnt.{written-length}
 use Rattle.zurkhovel.specs.Accepted.{skeleton-of}
 use Rattle.zurkhovel.proofs.Derived.{code-digits, derived-size, derived-short, derived-given}
 use Rattle.zurkhovel.proofs.text.write_line.Statement.{statement}

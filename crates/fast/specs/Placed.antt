@@ -18,15 +18,15 @@ use Rattle.fast.specs.Skip.{codes-few, codes-at, Skips, skips-length, sk
 use Rattle.fast.specs.Stack.{Topped, top-last}
 
 -- the trees from digit i on: where each begins, and behind the last the code's length
-pub record Laid (c st : List ℕ) (i at : ℕ) : Type 0 where
+pub record Placed (c st : List ℕ) (i at : ℕ) : Type 0 where
   pub long : length st ≡ suc size
   pub inside : at ≤ size
   pub count : length (codes (drop i c)) ≡ size - at
   pub starts : (m : ℕ) → m ≤ size - at → Skips c i m (getD st (at + m) 0)
 
-pub laid-start : (c st : List ℕ) → length st ≡ suc size → Laid c (set st size (length c)) (length c) size
+pub placed-start : (c st : List ℕ) → length st ≡ suc size → Placed c (set st size (length c)) (length c) size
 unfolding codes
-laid-start c st l = record {
+placed-start c st l = record {
   long = length-set st size (length c) ∙ l;
   inside = omega arith;
   count = ap (λ (d : List ℕ). length (codes d)) (drop-length c);
@@ -36,11 +36,11 @@ laid-start c st l = record {
       (rw (getD-set-same st size (length c) 0 (omega arith)) (record { from = omega arith; within = omega arith; rest = refl }));
 }
 
-module _ {c st : List ℕ} {i at : ℕ} (l : Laid c st i at) where
+module _ {c st : List ℕ} {i at : ℕ} (l : Placed c st i at) where
   -- the first begins at i
-  pub laid-first : getD st at 0 ≡ i
+  pub placed-first : getD st at 0 ≡ i
   unfolding flatten
-  laid-first =
+  placed-first =
       let n : at ≡ at + 0 = omega arith in
       ap (λ (a : ℕ). getD st a 0) n ∙ skips-length (l .starts 0 (omega arith)) ∙ (let q : i + 0 ≡ i = omega arith in q)
 
@@ -117,8 +117,8 @@ module _ {c st : List ℕ} {i at : ℕ} (l : Laid c st i at) where
     begin zero h = own
     begin (suc m) h = old m h
 
-    pub laid-next : Laid c (set st (at + getD c (i - 1) 0 - 1) (i - 1)) (i - 1) (at + getD c (i - 1) 0 - 1)
-    laid-next = record {
+    pub placed-next : Placed c (set st (at + getD c (i - 1) 0 - 1) (i - 1)) (i - 1) (at + getD c (i - 1) 0 - 1)
+    placed-next = record {
       long = length-set st top-place (i - 1) ∙ l .long;
       inside = omega arith;
       count = ap length opened ∙ ap suc (length-drop k (codes (drop i c)) ∙ ap (λ (b : ℕ). b - k) (l .count)) ∙ (let q : suc (size - at - k) ≡ size - top-place = omega arith in q);
@@ -157,7 +157,7 @@ join-start {c} {hs} {i} {at} {end} h k =
       falls = λ m g o. let z : ⊥ = omega arith in absurd z;
     }
 
-module _ {c st hs : List ℕ} {i at end j best : ℕ} (l : Laid c st i at) (t : Joining c hs i at end j best) (fit : end ≤ size) where
+module _ {c st hs : List ℕ} {i at end j best : ℕ} (l : Placed c st i at) (t : Joining c hs i at end j best) (fit : end ≤ size) where
   children-count : length (take (end - at) (codes (drop i c))) ≡ end - at
   children-count = length-take-le (end - at) (codes (drop i c)) (omega (arith, l .count))
 
