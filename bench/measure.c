@@ -1,8 +1,9 @@
-/* measure check N          both sides on the same inputs, whole and damaged: every answer, place and byte of output alike
- * measure CALL WHO N       one call on TREES random trees of N vertices; WHO is proved, c, or none (all but the call)
- * measure graph6 - N       the same trees in graph6, one to a line
+/* measure KIND check - N       both sides on the same inputs, whole and damaged: every answer, place and byte of output alike
+ * measure KIND CALL WHO N      one call on TREES trees of N vertices; WHO is proved, c, or none (all but the call)
+ * measure KIND graph6 - N      the same trees in graph6, one to a line
  *
- * A tree: each new vertex hangs on a random earlier one with fewer than four neighbours; then vertices get random numbers, edges a random order and a random direction. */
+ * KIND is random, where each new vertex hangs on a random earlier one with fewer than four neighbours, or path, where it hangs on the last. Then vertices get random numbers,
+ * edges a random order and a random direction. */
 #include "../tests/second/zurkhovel.h"
 #include "careful.h"
 #include <stdio.h>
@@ -37,12 +38,14 @@ static unsigned below(unsigned k) {
     return (unsigned)((z ^ (z >> 31)) % k);
 }
 
+static int path;
+
 static void grow(unsigned n, uint8_t *edges) {
     unsigned degree[SIZE + 1] = {0};
     for (unsigned v = 2; v <= n; v++) {
         unsigned u;
         do
-            u = 1 + below(v - 1);
+            u = path ? v - 1 : 1 + below(v - 1);
         while (degree[u] == VALENCE);
         degree[u]++;
         degree[v]++;
@@ -210,19 +213,20 @@ static void graph6(const struct input *x) {
 }
 
 int main(int argc, char **argv) {
-    if (argc < 3)
+    if (argc != 5)
         return 2;
-    unsigned n = (unsigned)atoi(argv[argc - 1]);
+    path = strcmp(argv[1], "path") == 0;
+    unsigned n = (unsigned)atoi(argv[4]);
     if (n < 2 || n > SIZE)
         return 2;
     for (int i = 0; i < TREES; i++)
         make(&inputs[i], n, i % 2 == 0);
-    if (strcmp(argv[1], "check") == 0)
+    if (strcmp(argv[2], "check") == 0)
         check();
-    else if (strcmp(argv[1], "graph6") == 0)
+    else if (strcmp(argv[2], "graph6") == 0)
         for (int i = 0; i < TREES; i++)
             graph6(&inputs[i]);
     else
-        measure(argv[1], argv[2]);
+        measure(argv[2], argv[3]);
     return 0;
 }

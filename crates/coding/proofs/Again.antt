@@ -7,7 +7,8 @@ use native.Mathlib.Omega.{arith}
 use lib.ListN.{length, take}
 use Rattle.laws.specs.Laid.{Laid}
 use Rattle.refusal.specs.Table.{Clear, Answers, passes, fails, Writes}
-use Rattle.refusal.specs.Laws.{clear-one, first-place, laid-writes, written, written-room, written-length}
+use Rattle.refusal.specs.Laws.{clear-one, first-place}
+use Rattle.refusal.specs.Giving.{laid-writes, written, written-room, written-length}
 use Rattle.refusal.specs.declared.Check.the-variants.{Passed, Refuse}
 use Rattle.code.specs.Limits.{size, valence}
 use Rattle.code.specs.Code.{codeRows, decode}

@@ -2,7 +2,7 @@
 use mathlib.Core.Path.{_≡_}
 use mathlib.Core.List.{List}
 use Prim.Native.Nat.{ℕ, _≤_, _<_}
-use lib.ListN.{length, getD, take}
+use lib.ListN.{getD, take}
 use Rattle.laws.specs.Order.{_≽_}
 use Rattle.laws.specs.Laid.{laidOver}
 

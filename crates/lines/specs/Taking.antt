@@ -12,7 +12,8 @@ use lib.Seq.{take-all, split-at}
 use Rattle.laws.specs.Laid.{laidOver}
 use Rattle.laws.specs.Part.{part, part-length}
 use Rattle.refusal.specs.Table.{Row, Applies, Clear, Lowest, Outcome, gives, refuses, kept, left, row3}
-use Rattle.refusal.specs.Laws.{under, one-result, one-written, clear-one, first-place, applies-left, applies-either, clear-left, clear-both, lowest-front, lowest-back}
+use Rattle.refusal.specs.Laws.{under, one-result, clear-one, first-place, applies-left, applies-either, clear-left, clear-both, lowest-front, lowest-back}
+use Rattle.refusal.specs.Giving.{one-written}
 use Rattle.lines.specs.Line.{Free, Cut, DigitRow, judged, ofLine, frontRows, lineRows, LineAnswers, Reply}
 use Rattle.lines.specs.Form.{UpTo, values, Stands}
 use Rattle.lines.specs.Reading.{lineRow15, block, counted, ReadLine}

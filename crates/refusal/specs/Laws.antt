@@ -1,7 +1,7 @@
 -- Laws of refusal tables, once for every call.
 --
 -- In order: one answer, and one result with one state of what was lent; a table of one row; tables one behind the other; how an
--- answer of one check becomes an answer of the whole. Assumes nothing.
+-- answer of one check becomes an answer of the whole; rows 3 and 15. Calls that write are in `Giving`. Assumes nothing.
 use mathlib.Core.Path.{_≡_, refl, sym, ap, ap₂, _∙_, subst}
 use mathlib.Core.Logic.{_⊎_, inl, inr, ⊎-elim}
 use mathlib.Core.Bool.{Bool, true, false}
@@ -9,14 +9,11 @@ use mathlib.Core.List.{List, [], _∷_, _++_}
 use Prim.Native.Nat.{ℕ, _≤_, _<_}
 use native.Mathlib.Omega.{arith}
 use lib.Dec.{ltb}
-use lib.ListN.{length, take, drop, length-append}
 use borrow.Author.Tests.{ltb-true}
-use Rattle.laws.specs.Laid.{laidOver, Laid}
-use Rattle.laws.specs.Laying.{laid-front}
 use Rattle.refusal.specs.declared.Check.{Check}
 use Rattle.refusal.specs.declared.Check.the-variants.{Passed, Refuse}
 use Rattle.refusal.specs.Outcome.{checked}
-use Rattle.refusal.specs.Table.{Row, Applies, Clear, Lowest, Answers, passes, fails, Outcome, gives, refuses, Promise, Answered, kept, left, Writes, row3, row15, short, Gives}
+use Rattle.refusal.specs.Table.{Row, Applies, Clear, Lowest, Answers, passes, fails, Outcome, gives, refuses, Promise, Answered, kept, left, row3, row15}
 
 -- ---- one answer
 
@@ -51,14 +48,6 @@ pub one-result :
     {A S : Type 0} {rs : List Row} {right : A → S → Type 0} {old s t : S} {o u : Outcome A}
     → ((a b : A) → right a s → right b t → (a ≡ b) × (s ≡ t)) → Promise rs right old s o → Promise rs right old t u → (o ≡ u) × (s ≡ t)
 one-result one p q = one-accepted (λ c. one) p q
-
--- what is written is one, where the right result is one
-pub one-written :
-    {Right : List ℕ → Type 0} {old s t : List ℕ} → ((c d : List ℕ) → Right c → Right d → c ≡ d) → (n m : ℕ) → Writes Right old n s → Writes Right old m t
-    → (n ≡ m) × (s ≡ t)
-one-written {old = old} one n m v w =
-    let e = one (v .result) (w .result) (v .right) (w .right) in
-    (v .count ∙ ap length e ∙ sym (w .count), v .lies ∙ ap (λ c. laidOver c old) e ∙ sym (w .lies))
 
 -- ---- a table of one row
 
@@ -202,71 +191,7 @@ room h = clear-one (λ p a. let n : ⊥ = omega (arith, a .1) in n)
 pub no-room : {need lent : ℕ} → lent < need → Lowest (row15 need lent ∷ []) 15 need
 no-room h = first-place (refl, h) (λ q l a. let n : ⊥ = omega (arith, a .0) in n)
 
--- a result that lies at the start of the output is what was to be written
-pub laid-writes : {c old new : List ℕ} {n : ℕ} → Laid c old new n → Writes (λ d. d ≡ c) old n new
-laid-writes {c} l = record { result = c; right = refl; count = l .count; lies = l .lies }
-
 -- a check of the whole table keeps the promise of a call that only checks
 pub check-answered : {rs : List Row} {a : Check} {o : Outcome ℕ} → Answers rs a → o ≡ checked a → Answered rs (λ n. n ≡ 0) o
 check-answered {rs} (passes c) e = subst (Answered rs (λ n. n ≡ 0)) (sym e) (kept c refl)
 check-answered {rs} (fails l) e = subst (Answered rs (λ n. n ≡ 0)) (sym e) (left l refl)
-
--- ---- a call that writes
-
--- what is written from the start is not longer than what it is written over then
-covers : (c old new : List ℕ) → new ≡ laidOver c old → length c ≤ length new
-unfolding laidOver
-covers c old new e = omega (arith, ap length e, length-append c (drop (length c) old))
-
--- as a caller learns it: n bytes at the start
-module _ {Right : List ℕ → Type 0} {old new : List ℕ} {n : ℕ} (w : Writes Right old n new) where
-  pub written : take n new ≡ w .result
-  written = laid-front (w .result) old new n (w .lies) (sym (w .count))
-
-  pub written-room : n ≤ length new
-  written-room = omega (arith, covers (w .result) old new (w .lies), w .count)
-
-  pub written-length : n ≡ length (take n new)
-  written-length = w .count ∙ sym (ap length written)
-
--- one answer and one output, where a right result of an input that no row refuses is one
-pub one-clear :
-    {rs : List Row} {Right : List ℕ → Type 0} {old s t : List ℕ} {o u : Outcome ℕ} → (Clear rs → (c d : List ℕ) → Right c → Right d → c ≡ d)
-    → Gives rs Right old s o → Gives rs Right old t u → (o ≡ u) × (s ≡ t)
-one-clear {rs} {Right} {old} one g h =
-    one-accepted (λ c. one-written (one (clear-left rs (short Right (length old) ∷ []) c))) (g .promise) (h .promise)
-
--- where it is one of any input
-pub one-given :
-    {rs : List Row} {Right : List ℕ → Type 0} {old s t : List ℕ} {o u : Outcome ℕ} → ((c d : List ℕ) → Right c → Right d → c ≡ d)
-    → Gives rs Right old s o → Gives rs Right old t u → (o ≡ u) × (s ≡ t)
-one-given one g h = one-clear (λ c. one) g h
-
-module _ {rs : List Row} {Right : List ℕ → Type 0} {old : List ℕ} where
-  -- a refusal by a lower row
-  pub refused-first :
-      {new : List ℕ} {k p : ℕ} → under rs (short Right (length old) ∷ []) ≡ true → Lowest rs k p → new ≡ old → Gives rs Right old new (refuses k p)
-  refused-first t l e = record { promise = left (lowest-front (short Right (length old) ∷ []) t l) e }
-
-  module _ (clear : Clear rs) {n : ℕ} (sized : (c : List ℕ) → Right c → length c ≡ n) where
-    -- a right result that does not fit
-    pub refused-short : {new c : List ℕ} → Right c → length old < n → new ≡ old → Gives rs Right old new (refuses 15 n)
-    refused-short {c = c} r h e =
-        record { promise = left (lowest-back clear (first-place {r = short Right (length old)} here before)) e }
-      where
-        here : short Right (length old) .applies n
-        here = let l = sized c r in (c, r, (sym l, omega arith))
-
-        before : (q : ℕ) → q < n → short Right (length old) .applies q → ⊥
-        before q l a = let z : ⊥ = omega (arith, a .2 .0, sized (a .0) (a .1)) in z
-
-    -- one that does
-    pub given : {new : List ℕ} → n ≤ length old → Writes Right old n new → Gives rs Right old new (gives n)
-    given h w = record { promise = kept (clear-both clear (clear-one {r = short Right (length old)} room-there)) w }
-      where
-        room-there : (p : ℕ) → short Right (length old) .applies p → ⊥
-        room-there p a = let z : ⊥ = omega (arith, a .2 .0, a .2 .1, sized (a .0) (a .1)) in z
-
--- a result that lies at the start of the output, where it is the one right one
-pub given-laid : {rs : List Row} {c old new : List ℕ} {n : ℕ} → Clear rs → length c ≤ length old → Laid c old new n → Gives rs (λ d. d ≡ c) old new (gives n)
-given-laid k h l = given k (λ d e. ap length e ∙ sym (l .count)) (omega (arith, l .count)) (laid-writes l)

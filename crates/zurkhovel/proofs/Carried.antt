@@ -6,7 +6,8 @@ use Prim.Native.Nat.{ℕ}
 use native.Mathlib.Omega.{arith}
 use lib.ListN.{length, take}
 use Rattle.refusal.specs.Table.{Row, short, Gives}
-use Rattle.refusal.specs.Laws.{under, refused-first}
+use Rattle.refusal.specs.Laws.{under}
+use Rattle.refusal.specs.Giving.{refused-first}
 use Rattle.refusal.specs.Outcome.{told}
 use Rattle.refusal.specs.declared.Answer.{Answer}
 use Rattle.code.specs.Limits.{size, valence}

@@ -4,7 +4,7 @@ use mathlib.Core.List.{List}
 use Prim.Native.Nat.{ℕ, _≤_, _<_}
 use lib.ListN.{length}
 use Rattle.refusal.specs.Table.{Clear, gives, refuses, Writes, Gives}
-use Rattle.refusal.specs.Laws.{refused-short, given}
+use Rattle.refusal.specs.Giving.{refused-short, given}
 use Rattle.code.specs.Limits.{size, valence}
 use Rattle.tree.specs.Skeleton.{rooted}
 use Rattle.skeleton.specs.Edges.{edgeRows}

@@ -7,7 +7,8 @@ use native.Mathlib.Omega.{arith}
 use lib.ListN.{length, take}
 use Rattle.laws.specs.Laid.{Laid}
 use Rattle.refusal.specs.Table.{Clear, gives, refuses, Writes, Gives}
-use Rattle.refusal.specs.Laws.{refused-short, given, clear-left, others, written, written-length}
+use Rattle.refusal.specs.Laws.{clear-left, others}
+use Rattle.refusal.specs.Giving.{refused-short, given, written, written-length}
 use Rattle.code.specs.Limits.{size, valence}
 use Rattle.code.specs.Code.{codeRows}
 use Rattle.tree.specs.Skeleton.{IsSkeleton}

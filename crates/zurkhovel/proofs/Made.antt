@@ -6,7 +6,8 @@ use native.Mathlib.Omega.{arith}
 use lib.ListN.{length}
 use Rattle.laws.specs.Laid.{laidOver}
 use Rattle.refusal.specs.Table.{Row, Clear, gives, refuses, Gives}
-use Rattle.refusal.specs.Laws.{clear-left, refused-short, given-laid}
+use Rattle.refusal.specs.Laws.{clear-left}
+use Rattle.refusal.specs.Giving.{refused-short, given-laid}
 use Rattle.code.specs.Limits.{valence}
 use Rattle.adjacency.specs.Adjacency.{aEdges, aRows, madeRows, aMost}
 use Rattle.adjacency.specs.Accepted.{aFront, a-long}

@@ -8,7 +8,8 @@ use lib.Seq.{length-take-le}
 use Rattle.laws.specs.Laid.{laidOver, Laid}
 use Rattle.laws.specs.Laying.{laid-front}
 use Rattle.refusal.specs.Table.{Clear, Writes, gives, refuses, Gives}
-use Rattle.refusal.specs.Laws.{at-most, refused-short, given, written, written-length}
+use Rattle.refusal.specs.Laws.{at-most}
+use Rattle.refusal.specs.Giving.{refused-short, given, written, written-length}
 use Rattle.code.specs.Limits.{size, valence}
 use Rattle.code.specs.Code.{decode}
 use Rattle.tree.specs.Skeleton.{IsSkeleton}

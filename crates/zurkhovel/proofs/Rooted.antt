@@ -10,7 +10,8 @@ use lib.ListN.{length, take, drop}
 use lib.Seq.{take-all}
 use Rattle.laws.specs.Laid.{laidOver, Laid}
 use Rattle.refusal.specs.Table.{Clear, Outcome, gives, Answered, kept, Writes, Gives}
-use Rattle.refusal.specs.Laws.{at-most, written}
+use Rattle.refusal.specs.Laws.{at-most}
+use Rattle.refusal.specs.Giving.{written}
 use Rattle.code.specs.Limits.{size, valence}
 use Rattle.code.specs.Code.{digitRows}
 use Rattle.tree.specs.Skeleton.{rooted}

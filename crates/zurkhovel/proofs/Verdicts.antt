@@ -4,7 +4,7 @@ use mathlib.Core.Bool.{true, false}
 use mathlib.Core.List.{List}
 use Prim.Native.Nat.{ℕ}
 use lib.ListN.{take}
-use Rattle.refusal.specs.Laws.{written}
+use Rattle.refusal.specs.Giving.{written}
 use Rattle.refusal.specs.Table.{Clear, Writes}
 use Rattle.form.specs.Form.{centred}
 use Rattle.form.specs.Forms.{centred-form, form-size}

@@ -4,7 +4,8 @@ use mathlib.Core.Path.{_≡_, refl, sym, ap₂, _∙_}
 use mathlib.Core.List.{List}
 use Prim.Native.Nat.{ℕ}
 use Rattle.refusal.specs.Table.{Row, Clear, Lowest, Outcome, Answered}
-use Rattle.refusal.specs.Laws.{one-lowest, one-result, one-given, one-clear}
+use Rattle.refusal.specs.Laws.{one-lowest, one-result}
+use Rattle.refusal.specs.Giving.{one-given, one-clear}
 use Rattle.form.specs.Form.{nTuple, centred}
 use Rattle.form.specs.Forms.{IsForm, n-tuple-form, centred-form}
 use Rattle.zurkhovel.specs.Codes.{CheckCode, DecodeCode, DecodeForm, CheckEdges, RootedCode, FormCode}

@@ -6,7 +6,8 @@ use mathlib.Core.List.{List}
 use Prim.Native.Nat.{ℕ}
 use lib.Ieee.{Float}
 use Rattle.refusal.specs.Table.{Row, Outcome, Answered}
-use Rattle.refusal.specs.Laws.{one-result, one-given}
+use Rattle.refusal.specs.Laws.{one-result}
+use Rattle.refusal.specs.Giving.{one-given}
 use Rattle.code.specs.Code.{decode}
 use Rattle.bits.specs.Reading.{one-reading}
 use Rattle.bits.specs.Written.{packed-again, number-again}

@@ -6,7 +6,8 @@ use mathlib.Core.Path.{_≡_, refl, sym, ap, _∙_}
 use mathlib.Core.List.{List}
 use Prim.Native.Nat.{ℕ}
 use Rattle.refusal.specs.Table.{Outcome, Answered}
-use Rattle.refusal.specs.Laws.{one-accepted, one-result, one-given, one-clear}
+use Rattle.refusal.specs.Laws.{one-accepted, one-result}
+use Rattle.refusal.specs.Giving.{one-given, one-clear}
 use Rattle.code.specs.Limits.{valence}
 use Rattle.code.specs.Code.{decode}
 use Rattle.tree.specs.Skeleton.{IsTree}

@@ -5,7 +5,7 @@ use mathlib.Core.List.{List}
 use Prim.Native.Nat.{ℕ}
 use native.Mathlib.Omega.{arith}
 use Rattle.refusal.specs.Table.{Clear, Outcome}
-use Rattle.refusal.specs.Laws.{one-clear}
+use Rattle.refusal.specs.Giving.{one-clear}
 use Rattle.code.specs.Limits.{size, valence}
 use Rattle.skeleton.specs.Edges.{edgeRows}
 use Rattle.form.specs.Form.{ofCentred}

@@ -2,17 +2,16 @@
 -- gives the same skeleton under other numbers." What a call gave is the n bytes at the start of its lent output; where the next call's
 -- output has room, it gives what is said here and nothing else.
 --
--- In order: what a call gave, and what it must give; rooted codes; N-tuple and centred codes, once for both. The bit-tuple's forms are in
+-- In order: a right code decoded, and edges read back; rooted codes; N-tuple and centred codes, once for both. The bit-tuple's forms are in
 -- `RoundBits`, CAM, 0A and A0 in `RoundMatrix`, lines in `RoundText`. Assumes nothing.
 use mathlib.Core.Path.{_≡_, refl, sym, ap, subst, _∙_}
-use mathlib.Core.List.{List, [], _∷_, _++_}
+use mathlib.Core.List.{List, []}
 use Prim.Native.Nat.{ℕ, _≤_}
 use native.Mathlib.Omega.{arith}
 use lib.ListN.{length, take}
-use Rattle.laws.specs.Laid.{laidOver}
 use Rattle.laws.specs.Laying.{laid-front}
-use Rattle.refusal.specs.Table.{Row, Clear, Outcome, gives, Promise, kept, Answered, Writes, short, Gives}
-use Rattle.refusal.specs.Laws.{one-result, one-given, given, clear-left}
+use Rattle.refusal.specs.Table.{Row, Clear, Outcome, gives, Gives}
+use Rattle.refusal.specs.Giving.{Given, gave, must-give}
 use Rattle.code.specs.Limits.{size, valence}
 use Rattle.code.specs.Code.{codeRows, decode}
 use Rattle.code.specs.Right.{clear-right, right-clear}
@@ -26,43 +25,9 @@ use Rattle.form.specs.Forms.{IsForm, form-decoded, form-ends, form-size, n-tupl
 use Rattle.form.specs.Accepted.{right-decoded, form-accepted, form-passes}
 use Rattle.zurkhovel.specs.Codes.{DecodeCode, RootedCode, FormCode, DecodeForm}
 
--- ---- what a call gave, and what it must give
-
--- c is given: its length is told, and it is written from the start of the output
-abbrev pub Given : List ℕ → List ℕ → List ℕ → Outcome ℕ → Type 0
-Given c old new o = (o ≡ gives (length c)) × (new ≡ laidOver c old)
-
 -- the skeleton of N vertices with the edges E is given, under other numbers
 abbrev pub Renumbered : ℕ → List ℕ → List ℕ → Outcome ℕ → Type 0
 Renumbered N E new o = (o ≡ gives (length E)) × Renumbering N E (take (length E) new)
-
--- no row refused, what stands at the start of the output is right, and its length was told
-pub gave :
-    {rs : List Row} {Right : List ℕ → Type 0} {old new : List ℕ} {n : ℕ} → Gives rs Right old new (gives n)
-    → Clear rs × Right (take n new) × (length (take n new) ≡ n)
-gave {rs} {Right} {old} {new} {n} g = by-cases (g .promise)
-  where
-    by-cases :
-        Promise (rs ++ (short Right (length old) ∷ [])) (Writes Right old) old new (gives n) → Clear rs × Right (take n new) × (length (take n new) ≡ n)
-    by-cases (kept k w) =
-        let e = laid-front (w .result) old new n (w .lies) (sym (w .count)) in
-        (clear-left rs _ k, subst Right (sym e) (w .right), ap length e ∙ sym (w .count))
-
--- the same of a value
-pub gave-value : {A : Type 0} {rs : List Row} {Right : A → Type 0} {a : A} → Answered rs Right (gives a) → Clear rs × Right a
-gave-value (kept k r) = (k, r)
-
--- where no row refuses and c alone is right, c is given
-module _ {rs : List Row} (k : Clear rs) where
-  pub must-give :
-      {Right : List ℕ → Type 0} {old new : List ℕ} {o : Outcome ℕ} (c : List ℕ) → Right c → ((d : List ℕ) → Right d → d ≡ c) → length c ≤ length old
-      → Gives rs Right old new o → Given c old new o
-  must-give c r one h g =
-      one-given (λ d e x y. one d x ∙ sym (one e y)) g
-      (given k (λ d x. ap length (one d x)) h (record { result = c; right = r; count = refl; lies = refl }))
-
-  pub must-answer : {A : Type 0} {Right : A → Type 0} {o : Outcome A} (a : A) → Right a → ((b : A) → Right b → b ≡ a) → Answered rs Right o → o ≡ gives a
-  must-answer a r one g = one-result (λ x y p q. (one x p ∙ sym (one y q), refl)) g (kept k r) .0
 
 -- ---- a right code decoded, and edges read back
 

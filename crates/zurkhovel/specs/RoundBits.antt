@@ -13,6 +13,7 @@ use lib.Seq.{take-length}
 use lib.Ieee.{Float, binary64, fits}
 use Rattle.refusal.specs.Table.{Row, Clear, Outcome, gives, Gives, row3}
 use Rattle.refusal.specs.Laws.{clear-one, clear-both, never, others, at-most, at-least, size-clear}
+use Rattle.refusal.specs.Giving.{Given, gave, gave-value, must-give, must-answer}
 use Rattle.code.specs.Limits.{size, valence}
 use Rattle.code.specs.Code.{digitRows, codeRows, decode}
 use Rattle.bits.specs.Limits.{packedBytes, wholeSize, fractionSize}
@@ -31,7 +32,7 @@ use Rattle.skeleton.specs.Edges.{edgeRows}
 use Rattle.zurkhovel.specs.Bits.{Pack, Whole, InFraction, Decodes, Unpack, Unwhole, Unfraction}
 use Rattle.zurkhovel.specs.OneBits.{one-decoded}
 use Rattle.zurkhovel.specs.Accepted.{skeleton-of, root-of, rooted-size, wider}
-use Rattle.zurkhovel.specs.Round.{Given, Renumbered, gave, gave-value, must-give, must-answer, its-skeleton, its-rows, its-code, code-clear, code-tree, code-numbers, edges-back}
+use Rattle.zurkhovel.specs.Round.{Renumbered, its-skeleton, its-rows, its-code, code-clear, code-tree, code-numbers, edges-back}
 
 -- ---- what bits that are read carry
 

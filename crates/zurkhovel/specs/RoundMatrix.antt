@@ -12,6 +12,7 @@ use native.Mathlib.Omega.{arith}
 use lib.ListN.{length, take}
 use Rattle.refusal.specs.Table.{Row, Clear, Outcome, gives, Gives}
 use Rattle.refusal.specs.Laws.{clear-one, clear-both, clear-left, clear-right, never}
+use Rattle.refusal.specs.Giving.{Given, gave, gave-value, must-give, must-answer}
 use Rattle.code.specs.Limits.{size, valence}
 use Rattle.code.specs.Right.{Right}
 use Rattle.tree.specs.Skeleton.{arcs, IsTree, IsSkeleton, Renumbering}
@@ -24,7 +25,7 @@ use Rattle.adjacency.specs.Theorems.{cam-decode, cam-read, zero-decode, zero-re
 use Rattle.adjacency.specs.ByCode.{code-physical}
 use Rattle.zurkhovel.specs.Accepted.{skeleton-of, plain-rows}
 use Rattle.zurkhovel.specs.Matrix.{DecodeCam, DecodeZeroA, DecodeAZero, physicalRows, Cam, ZeroA, AZero, Numbering, CamByCode, ZeroAByCode, AZeroByCode}
-use Rattle.zurkhovel.specs.Round.{Given, Renumbered, gave, gave-value, must-give, must-answer, edges-given}
+use Rattle.zurkhovel.specs.Round.{Renumbered, edges-given}
 
 -- ---- a physical numbering
 

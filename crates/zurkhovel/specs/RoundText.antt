@@ -5,9 +5,9 @@ use mathlib.Core.List.{List, [], _∷_, _++_, append-assoc}
 use Prim.Native.Nat.{ℕ, _≤_}
 use native.Mathlib.Omega.{arith}
 use lib.ListN.{length, take}
-use Rattle.laws.specs.Laying.{laid-front}
 use Rattle.refusal.specs.Table.{Outcome, gives, kept}
 use Rattle.refusal.specs.Laws.{clear-left, others}
+use Rattle.refusal.specs.Giving.{Given, gave, must-give, written}
 use Rattle.code.specs.Limits.{size, valence}
 use Rattle.tree.specs.Skeleton.{IsSkeleton}
 use Rattle.form.specs.Form.{centred}
@@ -22,7 +22,6 @@ use Rattle.lines.specs.Reading.{block, counted}
 use Rattle.lines.specs.Taking.{line-read}
 use Rattle.zurkhovel.specs.Codes.{DecodeForm}
 use Rattle.zurkhovel.specs.Lines.{ReadLine, WriteLine}
-use Rattle.zurkhovel.specs.Round.{Given, gave, must-give}
 use Rattle.zurkhovel.specs.Accepted.{skeleton-of, plain-rows}
 
 -- ---- written and read
@@ -63,8 +62,7 @@ line-gave : (t old new : List ℕ) (n : ℕ) → ReadLine t old new (gives n) �
 line-gave t old new n (kept k w) =
     let (m, s) = w .right in
     let a : LineAnswers size digitTable t (gives (w .result)) = kept (clear-left (lineRows size digitTable t) _ k) (m, s) in
-    let e : take n new ≡ w .result = laid-front (w .result) old new n (w .lies) (sym (w .count)) in
-    subst (λ c. Begins c t) (sym e) (looked t (s .text) (s .rest) (w .result) (s .feed .parts) (look size digitTable (omega arith) lawful-table (s .feed) a))
+    subst (λ c. Begins c t) (sym (written w)) (looked t (s .text) (s .rest) (w .result) (s .feed .parts) (look size digitTable (omega arith) lawful-table (s .feed) a))
 
 -- a line that is read, decoded and written is itself
 pub line-again :

@@ -2,7 +2,7 @@
 use mathlib.Core.Path.{sym, _∙_}
 use borrow.Author.Needs.{needs}
 use Rattle.code.specs.Compare.{told-equal, told-less, told-greater}
-use Rattle.refusal.specs.Laws.{written-room, written-length}
+use Rattle.refusal.specs.Giving.{written-room, written-length}
 use Rattle.form.specs.Form.{nTuple}
 use Rattle.form.specs.Forms.{n-tuple-form}
 use Rattle.coding.proofs.Again.{edges-fit, skeleton-again, front-room, front-length, judged-same, judged-other}

@@ -2,7 +2,7 @@
 use mathlib.Core.Path.{refl, sym}
 use native.Mathlib.Omega.{arith}
 use borrow.Author.Needs.{needs}
-use Rattle.refusal.specs.Laws.{refused-first, written-room, written-length}
+use Rattle.refusal.specs.Giving.{refused-first, written-room, written-length}
 use Rattle.zurkhovel.proofs.Rooted.{digits-length, digits-within, digits-coded, packed-given}
 use Rattle.zurkhovel.proofs.bit_tuple.pack.Statement.{statement}
 use Rattle.zurkhovel.proofs.bit_tuple.pack.Tie as tie

@@ -2,7 +2,8 @@
 use mathlib.Core.Path.{refl}
 use denote.Ref.{now}
 use borrow.Author.Needs.{needs}
-use Rattle.refusal.specs.Laws.{was-clear, was-lowest, refused-first}
+use Rattle.refusal.specs.Laws.{was-clear, was-lowest}
+use Rattle.refusal.specs.Giving.{refused-first}
 use Rattle.form.specs.Form.{centred}
 use Rattle.zurkhovel.proofs.Behind.{behind-same}
 use Rattle.zurkhovel.proofs.Decoded.{right-of}

@@ -1,7 +1,8 @@
 -- `zurkhovel::codes::decode_code` keeps its promise. Assumes nothing.
 use mathlib.Core.Path.{refl}
 use borrow.Author.Needs.{needs}
-use Rattle.refusal.specs.Laws.{was-clear, was-lowest, refused-first}
+use Rattle.refusal.specs.Laws.{was-clear, was-lowest}
+use Rattle.refusal.specs.Giving.{refused-first}
 use Rattle.zurkhovel.proofs.Behind.{behind-same}
 use Rattle.zurkhovel.proofs.codes.decode_code.Statement.{statement}
 use Rattle.zurkhovel.proofs.codes.decode_code.Tie as tie

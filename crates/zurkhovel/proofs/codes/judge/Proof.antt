@@ -2,7 +2,7 @@
 use mathlib.Core.Path.{sym, _∙_}
 use borrow.Author.Needs.{needs}
 use Rattle.code.specs.Compare.{told-equal, told-less, told-greater}
-use Rattle.refusal.specs.Laws.{written-room, written-length}
+use Rattle.refusal.specs.Giving.{written-room, written-length}
 use Rattle.zurkhovel.specs.Accepted.{skeleton-of}
 use Rattle.zurkhovel.proofs.Verdicts.{verdict-sizes, verdict-same, verdict-different}
 use Rattle.zurkhovel.proofs.codes.judge.Statement.{statement}

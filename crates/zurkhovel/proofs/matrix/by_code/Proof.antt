@@ -3,7 +3,8 @@ use native.Mathlib.Omega.{arith}
 use denote.Ref.{now}
 use borrow.Author.Needs.{needs}
 use Rattle.refusal.specs.Table.{Clear}
-use Rattle.refusal.specs.Laws.{was-clear, was-lowest, written-room, written-length}
+use Rattle.refusal.specs.Laws.{was-clear, was-lowest}
+use Rattle.refusal.specs.Giving.{written-room, written-length}
 use Rattle.code.specs.Limits.{size, valence}
 use Rattle.tree.specs.Skeleton.{IsSkeleton}
 use Rattle.skeleton.specs.Edges.{edgeRows}

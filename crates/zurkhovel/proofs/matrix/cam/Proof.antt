@@ -4,7 +4,8 @@ use native.Mathlib.Omega.{arith}
 use denote.Ref.{now}
 use borrow.Author.Needs.{needs}
 use Rattle.refusal.specs.Table.{Clear}
-use Rattle.refusal.specs.Laws.{was-clear, was-lowest, at-least, refused-first}
+use Rattle.refusal.specs.Laws.{was-clear, was-lowest, at-least}
+use Rattle.refusal.specs.Giving.{refused-first}
 use Rattle.code.specs.Limits.{size}
 use Rattle.adjacency.specs.Plain.{numbered}
 use Rattle.adjacency.specs.Coded.{cam-length}

@@ -3,7 +3,8 @@ use mathlib.Core.Path.{refl, sym}
 use native.Mathlib.Omega.{arith}
 use denote.Ref.{now}
 use borrow.Author.Needs.{needs}
-use Rattle.refusal.specs.Laws.{at-least, at-most, refused-first}
+use Rattle.refusal.specs.Laws.{at-least, at-most}
+use Rattle.refusal.specs.Giving.{refused-first}
 use Rattle.code.specs.Limits.{size}
 use Rattle.adjacency.specs.Plain.{numbered}
 use Rattle.zurkhovel.specs.Rooting.{ListedByCode}

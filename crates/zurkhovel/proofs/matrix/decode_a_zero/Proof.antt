@@ -3,7 +3,8 @@ use mathlib.Core.Path.{refl}
 use native.Mathlib.Omega.{arith}
 use borrow.Author.Needs.{needs}
 use Rattle.refusal.specs.Table.{Clear}
-use Rattle.refusal.specs.Laws.{was-clear, was-lowest, at-least, at-most, refused-first}
+use Rattle.refusal.specs.Laws.{was-clear, was-lowest, at-least, at-most}
+use Rattle.refusal.specs.Giving.{refused-first}
 use Rattle.code.specs.Limits.{valence}
 use Rattle.adjacency.specs.Adjacency.{aRows, aMost}
 use Rattle.zurkhovel.proofs.Made.{a-bytes, known-short, known-given}

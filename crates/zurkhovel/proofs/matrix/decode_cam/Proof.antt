@@ -4,7 +4,8 @@ use native.Mathlib.Omega.{arith}
 use denote.Ref.{now}
 use borrow.Author.Needs.{needs}
 use Rattle.refusal.specs.Table.{Clear}
-use Rattle.refusal.specs.Laws.{was-clear, was-lowest, at-least, at-most, refused-first}
+use Rattle.refusal.specs.Laws.{was-clear, was-lowest, at-least, at-most}
+use Rattle.refusal.specs.Giving.{refused-first}
 use Rattle.code.specs.Limits.{size, valence}
 use Rattle.adjacency.specs.Adjacency.{camRows}
 use Rattle.adjacency.specs.Made.{long}

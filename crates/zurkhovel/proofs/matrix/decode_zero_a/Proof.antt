@@ -7,7 +7,8 @@ use borrow.Author.Needs.{needs}
 use Rattle.laws.specs.Laid.{laid-length}
 use Rattle.laws.specs.Laying.{laid-front}
 use Rattle.refusal.specs.Table.{Clear}
-use Rattle.refusal.specs.Laws.{was-clear, was-lowest, at-least, at-most, refused-first}
+use Rattle.refusal.specs.Laws.{was-clear, was-lowest, at-least, at-most}
+use Rattle.refusal.specs.Giving.{refused-first}
 use Rattle.code.specs.Limits.{valence}
 use Rattle.adjacency.specs.Adjacency.{zeroCam, zeroRows, zeroMost}
 use Rattle.adjacency.specs.Zero.{zero-length}

@@ -4,7 +4,8 @@ use native.Mathlib.Omega.{arith}
 use denote.Ref.{now}
 use borrow.Author.Needs.{needs}
 use Rattle.refusal.specs.Table.{Clear}
-use Rattle.refusal.specs.Laws.{was-clear, was-lowest, refused-first, at-most, written-length}
+use Rattle.refusal.specs.Laws.{was-clear, was-lowest, at-most}
+use Rattle.refusal.specs.Giving.{refused-first, written-length}
 use Rattle.code.specs.Limits.{size, valence}
 use Rattle.skeleton.specs.Edges.{edgeRows}
 use Rattle.lines.specs.Line.{line}
