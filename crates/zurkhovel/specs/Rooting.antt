@@ -1,4 +1,4 @@
--- What the private helpers of the public calls know: of an edge list that is judged, its rooted code or its edges by code; of digits that
+-- What the private functions of the public calls know: of an edge list that is judged, its rooted code or its edges by code; of digits that
 -- a bit form was read to, and of a CAM, the edges. No promise cites it. Assumes nothing.
 use mathlib.Core.Path.{_≡_}
 use mathlib.Core.List.{List, []}
