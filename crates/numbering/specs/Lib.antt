@@ -1,0 +1,2 @@
+-- Numbering by code. Assumes nothing.
+pub mod Order
