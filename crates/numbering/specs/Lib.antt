@@ -1,6 +1,8 @@
 -- Numbering by code. Assumes nothing.
 pub mod Order
 pub mod Sorted
+pub mod Turned
+pub mod Numbering
 pub mod Standing
 pub mod Decoded
 pub mod Examples
