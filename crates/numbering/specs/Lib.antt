@@ -3,6 +3,7 @@ pub mod Order
 pub mod Sorted
 pub mod Turned
 pub mod Numbering
+pub mod Numbers
 pub mod Standing
 pub mod Decoded
 pub mod Examples
