@@ -4,6 +4,7 @@ pub mod Sorted
 pub mod Turned
 pub mod Numbering
 pub mod Numbers
+pub mod Kids
 pub mod Standing
 pub mod Decoded
 pub mod Examples
