@@ -5,6 +5,7 @@ pub mod Turned
 pub mod Numbering
 pub mod Numbers
 pub mod Kids
+pub mod Same
 pub mod Standing
 pub mod Decoded
 pub mod Examples

@@ -117,7 +117,7 @@ module _ (M : Marks) (label : ℕ → M .Label) (N : ℕ) (E : List ℕ) (r : �
     root-near : List·Permᴰ (neighbours A r) (roots (t .forest))
     root-near = subst (λ l. List·Permᴰ (neighbours A r) l) (near r (t .forest) (t .apart)) (neighbours-perm r (t .same))
 
-    root-kids : List·Permᴰ (K 0 r) (roots (t .forest))
+    pub root-kids : List·Permᴰ (K 0 r) (roots (t .forest))
     root-kids =
         List·Permᴰ·trans (ρ .kids 0 r (is-root .0) (is-root .1))
         (children-all A 0 r (roots (t .forest)) root-near (λ h. let z : ⊥ = omega (arith, t .inside 0 (List·Memᴰ·tail (root-in (t .forest) h))) in z))
@@ -126,7 +126,7 @@ module _ (M : Marks) (label : ℕ → M .Label) (N : ℕ) (E : List ℕ) (r : �
     unfolding degree
     root-mark = ρ .top ∙ ap (λ k. M .mark k (label r)) (perm-length root-near ∙ roots-length (t .forest))
 
-    is-followed : Follows K r (t .forest)
+    pub is-followed : Follows K r (t .forest)
     is-followed = follows r (t .forest) is-good is-under
 
     is-fit : Fit M label m (t .forest)

@@ -79,7 +79,7 @@ module _ (M : Marks) (label : ℕ → M .Label) (N : ℕ) (E : List ℕ) (r : �
   unfolding orderₗ
   orderₗ-numbers t a b = tree-numbering M label N E r (markAt M label E r) (children (arcs E)) reads-tree N (omega arith) t a b
 
-  reads-mark : {m : ℕ → ℕ} {K : ℕ → ℕ → List ℕ} → Reads M label N E r m K → (v : ℕ) → 1 ≤ v → v ≤ N → m v ≡ markAt M label E r v
+  pub reads-mark : {m : ℕ → ℕ} {K : ℕ → ℕ → List ℕ} → Reads M label N E r m K → (v : ℕ) → 1 ≤ v → v ≤ N → m v ≡ markAt M label E r v
   unfolding kidsOf
   reads-mark {m} ρ v a b = step (ℕ-discrete v r)
     where
