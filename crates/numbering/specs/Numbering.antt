@@ -55,7 +55,7 @@ under-right N r v l k u w h = u w (List·Memᴰ·tail (Memᴰ·append-right l h)
 
 module _ (M : Marks) (label : ℕ → M .Label) (m : ℕ → ℕ) where
   -- m gives each vertex of a forest its mark
-  abbrev pub Fit : Forest → Type 0
+  abbrev Fit : Forest → Type 0
   Fit none = Unit {0}
   Fit (tree v d f) = (m v ≡ M .mark (width d) (label v)) × Fit d × Fit f
 
@@ -71,7 +71,7 @@ module _ (M : Marks) (label : ℕ → M .Label) (m : ℕ → ℕ) where
     over n p v d e π q =
         ap₂ (λ x l. x ∷ flatten l) (e ∙ ap (λ k. M .mark k (label v)) (sym (branches-length M label d))) (sort-perm (Permᴰ·map (marksBy m K n v) π) ∙ ap sort q)
 
-    pub marks-branches : (n p : ℕ) (f : Forest) → count f ≤ n → Follows K p f → Fit f → map (marksBy m K n p) (roots f) ≡ branches M label f
+    marks-branches : (n p : ℕ) (f : Forest) → count f ≤ n → Follows K p f → Fit f → map (marksBy m K n p) (roots f) ≡ branches M label f
     unfolding roots branches count
     marks-branches n p none h k x = refl
     marks-branches zero p (tree v d f) h k x = let z : ⊥ = omega arith in absurd z

@@ -34,7 +34,7 @@ module _ (f g : List ℕ → List ℕ) where
       let r : insertBy f c ds ≡ insertBy g c ds = insert-keys c ds e (λ x m. h x (List·Memᴰ·tail m)) in
       λ i. ite (dec≽ (e i) (k i)) (c ∷ d ∷ ds) (d ∷ r i)
 
-  pub sort-keys : (cs : List (List ℕ)) → ((c : List ℕ) → List·Memᴰ c cs → f c ≡ g c) → sortBy f cs ≡ sortBy g cs
+  sort-keys : (cs : List (List ℕ)) → ((c : List ℕ) → List·Memᴰ c cs → f c ≡ g c) → sortBy f cs ≡ sortBy g cs
   unfolding sortBy
   sort-keys [] h = refl
   sort-keys (c ∷ cs) h =

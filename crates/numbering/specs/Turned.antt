@@ -33,7 +33,7 @@ pub record Turned (f : Forest) (L : List (List ℕ)) : Type 1 where
   pub same : {A : Type 0} (x : ℕ → ℕ → List A) (p : ℕ) → List·Permᴰ (gather x p f) (gather x p forest)
 
 -- the trees go along with any rearrangement of the lists of their vertices
-pub turn : {K L : List (List ℕ)} → List·Permᴰ K L → (f : Forest) → parts f ≡ K → Turned f L
+turn : {K L : List (List ℕ)} → List·Permᴰ K L → (f : Forest) → parts f ≡ K → Turned f L
 unfolding parts gather
 turn List·Permᴰ·nil f q = record { forest = f; lists = q; same = λ x p. Permᴰ·refl (gather x p f) }
 turn (List·Permᴰ·cons e d) none q = absurd (nil≢cons q)
