@@ -1,7 +1,7 @@
 -- Read from its promise alone, every public call has one possible result and one possible state of its lent output. r, s: the call's own
 -- results; new, new′: the output after it. Each is a case of one law, `one-result`, by way of `one-given` where the call writes; the law is
 -- about what is told of a result, which tells two different ones apart (`Apart` of the crate `refusal`). The verdict on two edge lists is a
--- law of its own. Assumes nothing.
+-- law of its own: `one-same-skeleton` of what is said, `one-verdict` of the result. Assumes nothing.
 use mathlib.Core.Path.{_≡_, refl, sym, ap₂, _∙_}
 use mathlib.Core.List.{List}
 use Prim.Native.Nat.{ℕ}
@@ -77,27 +77,26 @@ one-decode-centred = one-decode-form centred
 not-both : {rs : List Row} {k p : ℕ} {A : Type 0} → Clear rs → Lowest rs k p → A
 not-both c l = absurd (c .nowhere _ _ (l .applies))
 
--- what is said is one
-one-said : (N : ℕ) (E : List ℕ) (P : ℕ) (F : List ℕ) (o u : Finding) → SameSkeleton N E P F o → SameSkeleton N E P F u → o ≡ u
-one-said N E P F o u (first-refused l) (first-refused m) = let n = one-lowest l m in ap₂ (refused 1) (n .0) (n .1)
-one-said N E P F o u (first-refused l) (second-refused k m) = not-both k l
-one-said N E P F o u (first-refused l) (same k d x y) = not-both k l
-one-said N E P F o u (first-refused l) (different k d n) = not-both k l
-one-said N E P F o u (second-refused k l) (first-refused m) = not-both k m
-one-said N E P F o u (second-refused k l) (second-refused g m) = let n = one-lowest l m in ap₂ (refused 2) (n .0) (n .1)
-one-said N E P F o u (second-refused k l) (same g d x y) = not-both d l
-one-said N E P F o u (second-refused k l) (different g d n) = not-both d l
-one-said N E P F o u (same k d x y) (first-refused l) = not-both k l
-one-said N E P F o u (same k d x y) (second-refused g l) = not-both d l
-one-said N E P F o u (same k d x y) (same g h v w) = refl
-one-said N E P F o u (same {c} k d x y) (different g h n) = absurd (n c x y)
-one-said N E P F o u (different k d n) (first-refused l) = not-both k l
-one-said N E P F o u (different k d n) (second-refused g l) = not-both d l
-one-said N E P F o u (different k d n) (same {c} g h x y) = absurd (n c x y)
-one-said N E P F o u (different k d n) (different g h m) = refl
+pub one-same-skeleton : (N : ℕ) (E : List ℕ) (P : ℕ) (F : List ℕ) (o u : Finding) → SameSkeleton N E P F o → SameSkeleton N E P F u → o ≡ u
+one-same-skeleton N E P F o u (first-refused l) (first-refused m) = let n = one-lowest l m in ap₂ (refused 1) (n .0) (n .1)
+one-same-skeleton N E P F o u (first-refused l) (second-refused k m) = not-both k l
+one-same-skeleton N E P F o u (first-refused l) (same k d x y) = not-both k l
+one-same-skeleton N E P F o u (first-refused l) (different k d n) = not-both k l
+one-same-skeleton N E P F o u (second-refused k l) (first-refused m) = not-both k m
+one-same-skeleton N E P F o u (second-refused k l) (second-refused g m) = let n = one-lowest l m in ap₂ (refused 2) (n .0) (n .1)
+one-same-skeleton N E P F o u (second-refused k l) (same g d x y) = not-both d l
+one-same-skeleton N E P F o u (second-refused k l) (different g d n) = not-both d l
+one-same-skeleton N E P F o u (same k d x y) (first-refused l) = not-both k l
+one-same-skeleton N E P F o u (same k d x y) (second-refused g l) = not-both d l
+one-same-skeleton N E P F o u (same k d x y) (same g h v w) = refl
+one-same-skeleton N E P F o u (same {c} k d x y) (different g h n) = absurd (n c x y)
+one-same-skeleton N E P F o u (different k d n) (first-refused l) = not-both k l
+one-same-skeleton N E P F o u (different k d n) (second-refused g l) = not-both d l
+one-same-skeleton N E P F o u (different k d n) (same {c} g h x y) = absurd (n c x y)
+one-same-skeleton N E P F o u (different k d n) (different g h m) = refl
 
 -- two verdicts of which the same is said are one
-said-apart : (r s : Verdict) → said r ≡ said s → r ≡ s
+pub said-apart : (r s : Verdict) → said r ≡ said s → r ≡ s
 said-apart Same Same e = cc
 said-apart Same Different e = cc
 said-apart Same (Refused i k p) e = cc
@@ -108,6 +107,7 @@ said-apart (Refused i k p) Same e = cc
 said-apart (Refused i k p) Different e = cc
 said-apart (Refused i k p) (Refused j l q) e = cc
 
-pub one-same-skeleton :
+-- so the verdict itself is one
+pub one-verdict :
     (N : ℕ) (E : List ℕ) (P : ℕ) (F : List ℕ) (r s : Verdict) → SameSkeleton N E P F (said r) → SameSkeleton N E P F (said s) → r ≡ s
-one-same-skeleton N E P F r s a b = said-apart r s (one-said N E P F (said r) (said s) a b)
+one-verdict N E P F r s a b = said-apart r s (one-same-skeleton N E P F (said r) (said s) a b)
