@@ -28,32 +28,36 @@ module _ {N : ℕ} {E old digits : List ℕ} (s : IsSkeleton size valence N E) (
   pub code-digits : Code (take N digits)
   code-digits = lawful valence (omega arith) (take N digits) (others code-clear)
 
+-- l is what Of has it to be of the centred code
+abbrev Made : ℕ → List ℕ → (List ℕ → List ℕ → Type 0) → List ℕ → Type 0
+Made N E Of l = (c : List ℕ) × centred N E c × Of c l
+
 module _ (N : ℕ) (E : List ℕ) (clear : Clear (edgeRows size valence N E 1)) where
   centred-size : (c : List ℕ) → centred N E c → length c ≡ N
   centred-size c x = form-size centred centred-form N E c (skeleton-of clear .tree) x
 
-  -- a result of n bytes: what Of has it to be of the code
+  -- a result of n bytes
   module _ (Of : List ℕ → List ℕ → Type 0) (n : ℕ) (sized : (c l : List ℕ) → length c ≡ N → Of c l → length l ≡ n) where
-    all-sized : (l : List ℕ) → (c : List ℕ) × centred N E c × Of c l → length l ≡ n
+    all-sized : (l : List ℕ) → Made N E Of l → length l ≡ n
     all-sized l (c, x, o) = sized c l (centred-size c x) o
 
     pub of-short :
         {old new : List ℕ} → ((c : List ℕ) → (l : List ℕ) × Of c l) → length old < n → new ≡ old
-        → Gives (edgeRows size valence N E 1) (λ l. (c : List ℕ) × centred N E c × Of c l) old new (refuses 15 n)
+        → Gives (edgeRows size valence N E 1) (Made N E Of) old new (refuses 15 n)
     of-short some h e =
         let (c, x) = centred-form .some N E (skeleton-of clear .tree) in
         let (l, o) = some c in refused-short clear all-sized (c, x, o) h e
 
     pub of-given :
         {l old new digits before : List ℕ} {m : ℕ} → n ≤ length old → Writes (centred N E) before N digits → Of (take N digits) l → Laid l old new m
-        → Gives (edgeRows size valence N E 1) (λ l. (c : List ℕ) × centred N E c × Of c l) old new (gives m)
+        → Gives (edgeRows size valence N E 1) (Made N E Of) old new (gives m)
     of-given {l} {old} {new} {digits} {m = m} h w o k =
         let e : m ≡ n = k .count ∙ sized (take N digits) l (sym (written-length w)) o in
-        subst (λ (i : ℕ). Gives (edgeRows size valence N E 1) (λ l. (c : List ℕ) × centred N E c × Of c l) old new (gives i)) (sym e)
+        subst (λ (i : ℕ). Gives (edgeRows size valence N E 1) (Made N E Of) old new (gives i)) (sym e)
         (given clear all-sized h
         (record { result = l; right = (take N digits, subst (centred N E) (sym (written w)) (w .right), o); count = sym e ∙ k .count; lies = k .lies }))
 
-  -- what f makes of the code
+  -- the same of what f makes of the code
   module _ (f : List ℕ → List ℕ) (n : ℕ) (sized : (c : List ℕ) → length c ≡ N → length (f c) ≡ n) where
     made-sized : (c l : List ℕ) → length c ≡ N → l ≡ f c → length l ≡ n
     made-sized c l h e = ap length e ∙ sized c h
