@@ -1,9 +1,9 @@
--- The definitions, run on document 01's own figures. Assumes nothing.
+-- The definitions, run on document 01's own figures. Its whole numbers are in the P table, `Figures` of the crate `zurkhovel`. Assumes nothing.
 use mathlib.Core.Path.{_≡_, refl, ap}
 use mathlib.Core.Logic.{⊎-elim}
 use mathlib.Core.Bool.{Bool, true, false, true≢false}
 use mathlib.Core.List.{List, [], _∷_, _++_}
-use Prim.Native.Nat.{ℕ, zero, suc, _-_, _*_, _^_}
+use Prim.Native.Nat.{ℕ, zero, suc, _*_, _^_, _<_}
 use native.Mathlib.Omega.{arith}
 use lib.ListN.{length, getD}
 use Rattle.refusal.specs.Table.{Lowest, row3}
@@ -12,35 +12,19 @@ use Rattle.code.specs.Limits.{valence}
 use Rattle.code.specs.Code as code
 use Rattle.code.specs.Ends.{ends-iff}
 use Rattle.bits.specs.Limits.{wholeSize}
-use Rattle.bits.specs.Bits.{bits, bit, word, bytes, digitsFrom, whole, fractionBits, Zeros, Nothing, row4, bitRows, wholeRows}
+use Rattle.bits.specs.Bits.{bits, bit, word, bytes, fractionBits, Zeros, Nothing, row4, bitRows, wholeRows}
 use Rattle.bits.specs.Reading.{more-refused}
+use Rattle.bits.specs.Written.{Packs}
 
--- x is the whole number of c
-abbrev Number : List ℕ → ℕ → Type 0
-Number c x = word (2 * length c - 1) x ≡ bits c
-
--- the column "Whole number" of "Skeletons to hold it against"
-pub numbers :
-    Number (0 ∷ []) 0
-    × Number (1 ∷ 0 ∷ []) 4
-    × Number (2 ∷ 0 ∷ 0 ∷ []) 24
-    × Number (2 ∷ 1 ∷ 0 ∷ 0 ∷ []) 104
-    × Number (3 ∷ 0 ∷ 0 ∷ 0 ∷ []) 112
-    × Number (4 ∷ 0 ∷ 0 ∷ 0 ∷ 0 ∷ []) 480
-    × Number (2 ∷ 2 ∷ 0 ∷ 0 ∷ 1 ∷ 0 ∷ []) 1732
-    × Number (3 ∷ 1 ∷ 1 ∷ 0 ∷ 1 ∷ 0 ∷ 0 ∷ []) 7496
-    × Number (3 ∷ 2 ∷ 1 ∷ 0 ∷ 0 ∷ 1 ∷ 0 ∷ 0 ∷ []) 30344
-unfolding word bit bits
-numbers = (refl, refl, refl, refl, refl, refl, refl, refl, refl)
-
--- 002's example: read from its whole number, packed into two bytes, and as the fraction 30344/32768 at 53 bits
-pub read-back : whole (word 15 30344) ≡ 3 ∷ 2 ∷ 1 ∷ 0 ∷ 0 ∷ 1 ∷ 0 ∷ 0 ∷ []
-unfolding word bit digitsFrom
-read-back = refl
-
-pub packed : bytes (237 ∷ 16 ∷ []) ≡ bits (3 ∷ 2 ∷ 1 ∷ 0 ∷ 0 ∷ 1 ∷ 0 ∷ 0 ∷ []) ++ (false ∷ [])
+-- 002's example, packed into two bytes, and as the fraction 30344/32768 at 53 bits
+pub packed : Packs (3 ∷ 2 ∷ 1 ∷ 0 ∷ 0 ∷ 1 ∷ 0 ∷ 0 ∷ []) (237 ∷ 16 ∷ [])
 unfolding word bit bits bytes
-packed = refl
+packed = record { carries = record { fill = false ∷ []; same = refl; may = (refl, omega arith) }; are-bytes = record { below = small-bytes } }
+  where
+    small-bytes : (i : ℕ) → getD (237 ∷ 16 ∷ []) i 0 < 256
+    small-bytes zero = omega arith
+    small-bytes (suc zero) = omega arith
+    small-bytes (suc (suc i)) = omega arith
 
 pub fraction : fractionBits (30344 * 2 ^ 38) false ≡ bits (3 ∷ 2 ∷ 1 ∷ 0 ∷ 0 ∷ 1 ∷ 0 ∷ 0 ∷ []) ++ word 38 0
 unfolding word bit bits fractionBits

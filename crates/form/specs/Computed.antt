@@ -1,5 +1,6 @@
 -- Skeletons of a few vertices, computed with: a tree by the lower neighbour of each vertex, its centred code by peeling a list of its
--- vertices, and its N-tuple code by trying every root (`some-n-tuple` of `One`). `Figures` proves document 01's table by them. Assumes nothing.
+-- vertices, and its N-tuple code by trying every root (`some-n-tuple` of `One`); and the three in one. Document 01's table, `Figures` of the
+-- crate `zurkhovel`, is proved by them. Assumes nothing.
 use mathlib.Core.Path.{_≡_, refl}
 use mathlib.Core.Logic.{inl, inr, ⊎-elim, ite}
 use mathlib.Core.List.{List, [], _∷_, List·Memᴰ, List·Memᴰ·head, List·Memᴰ·tail, List·Memᴰ·cases-cons, List·Memᴰ·eq-of-singleton, List·Memᴰ·not-nil}
@@ -10,14 +11,14 @@ use lib.ListN.{length}
 use Rattle.laws.specs.Order.{_≽_, dec≽}
 use Rattle.laws.specs.Sorting.{below≽}
 use Rattle.laws.specs.Once.{upTo, in-upTo, upTo-in}
-use Rattle.tree.specs.Skeleton.{Arc, arcs, Walk, here, along, IsTree}
+use Rattle.tree.specs.Skeleton.{Arc, arcs, degree, Walk, here, along, IsTree, Degrees, IsSkeleton, rooted}
 use Rattle.tree.specs.Walks.{walk-on}
 use Rattle.path.specs.Path.{middle₁, middle₂, IsCentre}
 use Rattle.path.specs.Peel.{Left, start, round}
 use Rattle.path.specs.Centre.{done}
 use Rattle.path.specs.Run.{In, peel, peel-is}
-use Rattle.form.specs.Form.{Centred}
-use Rattle.form.specs.One.{at-first, at-second}
+use Rattle.form.specs.Form.{Centred, nTuple, centred}
+use Rattle.form.specs.One.{at-first, at-second, some-n-tuple}
 
 -- ---- a tree by lower neighbours
 
@@ -87,3 +88,20 @@ module _ (N : ℕ) (E : List ℕ) (t : IsTree N E) where
       step : (u v : ℕ) → IsCentre N E u v → (d : Dec (at u ≽ at v)) → Centred N E at (ite d (at u) (at v))
       step u v z (yes g) = at-first z g
       step u v z (no g) = at-second z (below≽ (at u) (at v) g)
+
+-- ---- the three in one
+
+-- a skeleton, its centred code c by n rounds of peeling, and its N-tuple code d by trying every root
+pub computed : (most R : ℕ) {N : ℕ} {E c d : List ℕ} (n : ℕ) (e : length E + 2 ≡ 2 * N) (l : Lower 2 E) →
+    let rest = left E n (upTo N) in
+    let tried = some-n-tuple N E (rooted N E) (lower-tree N E e l) in
+    (N ≤ most) × (degree E (tried .1 .root) ≤ R) × (1 ≤ length rest) × (length rest ≤ 2)
+    → larger (rooted N E (middle₁ rest)) (rooted N E (middle₂ rest)) ≡ c → tried .0 ≡ d → IsSkeleton most R N E × centred N E c × nTuple N E d
+unfolding Degrees
+computed most R {N} {E} n e l (few, k, one, two) p q =
+    let t : IsTree N E = lower-tree N E e l in
+    let top = some-n-tuple N E (rooted N E) t .1 in (
+      record { tree = t; few = few; degrees = λ v a b. omega (arith, top .widest v a b) },
+      rw p at (peeled N E t (rooted N E) n one two),
+      rw q at top,
+    )

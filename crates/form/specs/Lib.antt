@@ -6,4 +6,3 @@ pub mod Forms
 pub mod Accepted
 pub mod Theorems
 pub mod Computed
-pub mod Figures

@@ -1,5 +1,4 @@
--- The theorems of the N-tuple code and the centred code, each under a plain sentence and proved by a name from elsewhere. Document 01's
--- figures are in `Figures`. Assumes nothing.
+-- The theorems of the N-tuple code and the centred code, each under a plain sentence and proved by a name from elsewhere. Assumes nothing.
 use mathlib.Core.Path.{_≡_}
 use mathlib.Core.Logic.{_↔_}
 use mathlib.Core.List.{List}

@@ -4,6 +4,7 @@ pub mod Floats
 pub mod Drawing
 pub mod Range
 pub mod Outcome
+pub mod Apart
 pub mod Writing
 pub mod Back
 pub mod Examples

@@ -1,5 +1,6 @@
 -- Refusals, once, for every call of every crate. Assumes nothing.
 pub mod Table
 pub mod Outcome
+pub mod Apart
 pub mod Laws
 pub mod Giving

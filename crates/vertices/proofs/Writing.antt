@@ -8,7 +8,7 @@ use native.Mathlib.Omega.{arith}
 use lib.ListN.{length, take, set}
 use Rattle.laws.specs.Laid.{laidOver, Laid, laid-length}
 use Rattle.laws.specs.Laying.{laid-none, laid-front, laid-more}
-use Rattle.vertices.specs.Numbering.{greatest, classOf, numbering}
+use Rattle.vertices.specs.Classes.{greatest, classOf, numbering}
 use Rattle.vertices.specs.Appearance.{greatest-more, numbering-length, numbering-most}
 
 module _ {R : ℕ → ℕ → Type 0} (R? : (u v : ℕ) → Dec (R u v)) where

@@ -1,7 +1,7 @@
 -- The numbering that goes from vertex to vertex, of an equivalence, is by first appearance, and it is the only one that is.
 --
--- In order: the greatest number; which class a vertex is given; the numbering, places counted from 0; that there is one. The definitions are
--- in `Numbering`. Assumes nothing.
+-- In order: the greatest number; which class a vertex is given; the numbering, places counted from 0; that there is one. What by first
+-- appearance means is in `Numbering`, the numbering in `Classes`. Assumes nothing.
 use mathlib.Core.Path.{_≡_, refl, sym, ap, _∙_, subst}
 use mathlib.Core.Logic.{_↔_, ite}
 use mathlib.Core.List.{List, [], _∷_, _++_}
@@ -10,7 +10,8 @@ use native.Mathlib.Decide.{decLt}
 use native.Mathlib.Omega.{arith}
 use lib.ListN.{length, getD, length-append, List·getD-append}
 use lib.Seq.{getD-at, ext-getD}
-use Rattle.vertices.specs.Numbering.{class, ByAppearance, greatest, classOf, numbering}
+use Rattle.vertices.specs.Numbering.{class, ByAppearance}
+use Rattle.vertices.specs.Classes.{greatest, classOf, numbering}
 
 -- ---- the greatest number
 

@@ -12,8 +12,7 @@ ghost use Rattle.code.specs.Limits.{size, valence};
 ghost use Rattle.code.specs.Code.{codeRows};
 ghost use Rattle.code.specs.Ends.{Ends};
 ghost use Rattle.code.specs.Search.{Known};
-ghost use Rattle.vertices.specs.Numbering.{classOf};
-ghost use Rattle.vertices.specs.Vertices.{alike?, classes};
+ghost use Rattle.vertices.specs.Classes.{classOf, alike?, classes};
 ghost use Rattle.vertices.specs.Search.{Deep, Tells};
 
 // How deep each vertex lies: the open places are kept, each by the depth of the vertex that is to stand there.

@@ -28,27 +28,47 @@ module _ {N : ℕ} {E old digits : List ℕ} (s : IsSkeleton size valence N E) (
   pub code-digits : Code (take N digits)
   code-digits = lawful valence (omega arith) (take N digits) (others code-clear)
 
+-- l is what Of has it to be of the centred code
+abbrev Made : ℕ → List ℕ → (List ℕ → List ℕ → Type 0) → List ℕ → Type 0
+Made N E Of l = (c : List ℕ) × centred N E c × Of c l
+
 module _ (N : ℕ) (E : List ℕ) (clear : Clear (edgeRows size valence N E 1)) where
   centred-size : (c : List ℕ) → centred N E c → length c ≡ N
   centred-size c x = form-size centred centred-form N E c (skeleton-of clear .tree) x
 
   -- a result of n bytes
+  module _ (Of : List ℕ → List ℕ → Type 0) (n : ℕ) (sized : (c l : List ℕ) → length c ≡ N → Of c l → length l ≡ n) where
+    all-sized : (l : List ℕ) → Made N E Of l → length l ≡ n
+    all-sized l (c, x, o) = sized c l (centred-size c x) o
+
+    pub of-short :
+        {old new : List ℕ} → ((c : List ℕ) → (l : List ℕ) × Of c l) → length old < n → new ≡ old
+        → Gives (edgeRows size valence N E 1) (Made N E Of) old new (refuses 15 n)
+    of-short some h e =
+        let (c, x) = centred-form .some N E (skeleton-of clear .tree) in
+        let (l, o) = some c in refused-short clear all-sized (c, x, o) h e
+
+    pub of-given :
+        {l old new digits before : List ℕ} {m : ℕ} → n ≤ length old → Writes (centred N E) before N digits → Of (take N digits) l → Laid l old new m
+        → Gives (edgeRows size valence N E 1) (Made N E Of) old new (gives m)
+    of-given {l} {old} {new} {digits} {m = m} h w o k =
+        let e : m ≡ n = k .count ∙ sized (take N digits) l (sym (written-length w)) o in
+        subst (λ (i : ℕ). Gives (edgeRows size valence N E 1) (Made N E Of) old new (gives i)) (sym e)
+        (given clear all-sized h
+        (record { result = l; right = (take N digits, subst (centred N E) (sym (written w)) (w .right), o); count = sym e ∙ k .count; lies = k .lies }))
+
+  -- the same of what f makes of the code
   module _ (f : List ℕ → List ℕ) (n : ℕ) (sized : (c : List ℕ) → length c ≡ N → length (f c) ≡ n) where
-    all-sized : (l : List ℕ) → ofCentred N E f l → length l ≡ n
-    all-sized l (c, x, e) = ap length e ∙ sized c (centred-size c x)
+    made-sized : (c l : List ℕ) → length c ≡ N → l ≡ f c → length l ≡ n
+    made-sized c l h e = ap length e ∙ sized c h
 
     pub derived-size : {before digits : List ℕ} → Writes (centred N E) before N digits → length (f (take N digits)) ≡ n
     derived-size {digits = digits} w = sized (take N digits) (sym (written-length w))
 
     pub derived-short : {old new : List ℕ} → length old < n → new ≡ old → Gives (edgeRows size valence N E 1) (ofCentred N E f) old new (refuses 15 n)
-    derived-short h e =
-        let (c, x) = centred-form .some N E (skeleton-of clear .tree) in refused-short clear all-sized (c, x, refl) h e
+    derived-short = of-short (λ c l. l ≡ f c) n made-sized (λ c. (f c, refl))
 
     pub derived-given :
         {old new digits before : List ℕ} {m : ℕ} → n ≤ length old → Writes (centred N E) before N digits → Laid (f (take N digits)) old new m
         → Gives (edgeRows size valence N E 1) (ofCentred N E f) old new (gives m)
-    derived-given {old} {new} {digits} {m = m} h w l =
-        let k : m ≡ n = l .count ∙ derived-size w in
-        subst (λ (i : ℕ). Gives (edgeRows size valence N E 1) (ofCentred N E f) old new (gives i)) (sym k)
-        (given clear all-sized h
-        (record { result = f (take N digits); right = (take N digits, subst (centred N E) (sym (written w)) (w .right), refl); count = sym k ∙ l .count; lies = l .lies }))
+    derived-given h w = of-given (λ c l. l ≡ f c) n made-sized h w refl

@@ -4,9 +4,9 @@ use Prim.Native.Nat.{ℕ}
 use Rattle.refusal.specs.Table.{Outcome, Gives}
 use Rattle.code.specs.Limits.{size, valence}
 use Rattle.skeleton.specs.Edges.{edgeRows}
-use Rattle.form.specs.Form.{ofCentred}
-use Rattle.vertices.specs.Vertices.{classes}
+use Rattle.form.specs.Form.{centred}
+use Rattle.vertices.specs.Vertices.{ClassesOf}
 
--- the classes of the vertices in the centred code's numbering
+-- the classes of the vertices "in the centred code's numbering"
 abbrev pub EqualVertices : ℕ → List ℕ → List ℕ → List ℕ → Outcome ℕ → Type 0
-EqualVertices N E old new o = Gives (edgeRows size valence N E 1) (ofCentred N E classes) old new o
+EqualVertices N E old new o = Gives (edgeRows size valence N E 1) (λ l. (c : List ℕ) × centred N E c × ClassesOf c l) old new o

@@ -1,22 +1,66 @@
--- Document 01, "Skeletons to hold it against": the rows marked P, in every form, as one table about the definitions.
+-- Document 01, "Skeletons to hold it against": the rows marked P and 001's line below them, as one table about the definitions that the
+-- promises of the calls cite.
 --
--- The codes are `table` of the crate `form`, which has their proofs. Assumes nothing.
+-- Where a skeleton has a name, its longest chain is numbered along, and its branches behind that. 002's example has the numbers of its code,
+-- and 001's skeleton has 001's own. In order: a row; 001's line; the table. Assumes nothing.
 use mathlib.Core.Path.{_≡_, refl}
-use mathlib.Core.List.{List, [], _∷_}
-use Prim.Native.Nat.{ℕ, _-_, _*_}
+use mathlib.Core.Logic.{Dec·and, Dec·not}
+use mathlib.Core.List.{List, [], _∷_, _++_, flatten}
+use Prim.Native.Nat.{ℕ, _+_, _-_, _*_, _^_, _≤_, _<_}
 use native.Mathlib.Decide.{ℕ-discrete, decLt}
+use native.Mathlib.Omega.{arith}
 use lib.ListN.{length}
+use Rattle.laws.specs.Order.{dec≽, insert, sort}
+use Rattle.laws.specs.Perms.{decIn}
+use Rattle.laws.specs.Once.{upTo}
+use Rattle.code.specs.Limits.{size, valence}
 use Rattle.code.specs.Code.{sum, edgesFrom, decode}
-use Rattle.tree.specs.Skeleton.{arcs, neighbours}
-use Rattle.form.specs.Figures as Form
+use Rattle.tree.specs.Skeleton.{arcs, neighbours, degree, IsSkeleton, children, join, codeAt, rooted}
+use Rattle.path.specs.Path.{middle₁, middle₂}
+use Rattle.path.specs.Run.{seek, sift, decTwo, peel}
+use Rattle.form.specs.Form.{nTuple, centred}
+use Rattle.form.specs.One.{largest, some-n-tuple}
+use Rattle.form.specs.Computed.{left, larger, computed}
 use Rattle.bits.specs.Bits.{bit, bits, word}
+use Rattle.bits.specs.Written.{Numbers}
 use Rattle.adjacency.specs.Mixed.{mixed}
 use Rattle.adjacency.specs.Adjacency as A
+use Rattle.adjacency.specs.Entries.{none, more, cam-physical}
+use Rattle.zurkhovel.specs.Matrix.{ByCode}
 
--- a row: the tree of N vertices with the edges E has the centred code c and the N-tuple code d, and x is the whole number of c
+-- a row: the skeleton of N vertices with the edges E has the centred code c and the N-tuple code d, and x is the whole number of c
 pub record Figure (N : ℕ) (E c d : List ℕ) (x : ℕ) : Type 0 where
-  pub codes : Form.Holds N E c d
-  pub whole : word (2 * length c - 1) x ≡ bits c
+  pub skeleton : IsSkeleton size valence N E
+  pub centre : centred N E c
+  pub n-tuple : nTuple N E d
+  pub whole : Numbers c x
+
+row :
+    {N : ℕ} {E c d : List ℕ} {x : ℕ} → IsSkeleton size valence N E × centred N E c × nTuple N E d → word (2 * length c - 1) x ≡ bits c ++ []
+    → x < 2 ^ (2 * length c - 1) → Figure N E c d x
+row (s, c, d) e l =
+    record { skeleton = s; centre = c; n-tuple = d; whole = record { carries = record { fill = []; same = e; may = refl }; below = l } }
+
+-- 001's line: the CAM f "with N is" the skeleton of a row, with the 0A z and the A0 a; "its numbering by code has" the CAM g and the 0A y
+pub record Numbered (N : ℕ) (E c d : List ℕ) (x : ℕ) (f : List ℕ) (z a : ℕ) (g : List ℕ) (y : ℕ) : Type 0 where
+  pub figure : Figure N E c d x
+  pub edges : E ≡ A.camEdges f
+  pub physical : A.Physical N E
+  pub cam : f ≡ A.cam N E
+  pub zeroA : z ≡ A.zeroA (A.cam N E)
+  pub aZero : a ≡ A.aZero N E
+  pub cam-by-code : ByCode (A.cam N) N E g
+  pub zeroA-by-code : ByCode (λ F. A.zeroA (A.cam N F)) N E y
+
+-- the numbering by code is that of the row's centred code
+by-code : {B : Type 0} {of : List ℕ → B} {N : ℕ} {E c : List ℕ} {b : B} → centred N E c → b ≡ of (decode c) → ByCode of N E b
+by-code {c = c} x e = record { edges = decode c; numbering = record { code = c; right = x; edges = refl }; is = e }
+
+numbered :
+    {N : ℕ} {E c d : List ℕ} {x : ℕ} {f : List ℕ} {z a : ℕ} {g : List ℕ} {y : ℕ} → Figure N E c d x → E ≡ A.camEdges f → A.Physical N E → f ≡ A.cam N E
+    → z ≡ A.zeroA (A.cam N E) → a ≡ A.aZero N E → g ≡ A.cam N (decode c) → y ≡ A.zeroA (A.cam N (decode c)) → Numbered N E c d x f z a g y
+numbered r e p f z a g y =
+    record { figure = r; edges = e; physical = p; cam = f; zeroA = z; aZero = a; cam-by-code = by-code (r .centre) g; zeroA-by-code = by-code (r .centre) y }
 
 pub table :
     -- one vertex
@@ -35,34 +79,33 @@ pub table :
     × Figure 6 (1 ∷ 2 ∷ 2 ∷ 3 ∷ 3 ∷ 4 ∷ 4 ∷ 5 ∷ 2 ∷ 6 ∷ []) (2 ∷ 2 ∷ 0 ∷ 0 ∷ 1 ∷ 0 ∷ []) (3 ∷ 1 ∷ 1 ∷ 0 ∷ 0 ∷ 0 ∷ []) 1732
     -- 3-methylhexane
     × Figure 7 (1 ∷ 2 ∷ 2 ∷ 3 ∷ 3 ∷ 4 ∷ 4 ∷ 5 ∷ 5 ∷ 6 ∷ 3 ∷ 7 ∷ []) (3 ∷ 1 ∷ 1 ∷ 0 ∷ 1 ∷ 0 ∷ 0 ∷ []) (3 ∷ 1 ∷ 1 ∷ 0 ∷ 1 ∷ 0 ∷ 0 ∷ []) 7496
-    -- 3-methylhexane in 001's numbering
-    × Figure 7 (1 ∷ 2 ∷ 2 ∷ 3 ∷ 2 ∷ 4 ∷ 3 ∷ 5 ∷ 1 ∷ 6 ∷ 6 ∷ 7 ∷ []) (3 ∷ 1 ∷ 1 ∷ 0 ∷ 1 ∷ 0 ∷ 0 ∷ []) (3 ∷ 1 ∷ 1 ∷ 0 ∷ 1 ∷ 0 ∷ 0 ∷ []) 7496
     -- 002's example
     × Figure 8 (1 ∷ 2 ∷ 2 ∷ 3 ∷ 3 ∷ 4 ∷ 2 ∷ 5 ∷ 1 ∷ 6 ∷ 6 ∷ 7 ∷ 1 ∷ 8 ∷ []) (3 ∷ 2 ∷ 1 ∷ 0 ∷ 0 ∷ 1 ∷ 0 ∷ 0 ∷ []) (3 ∷ 2 ∷ 1 ∷ 0 ∷ 0 ∷ 1 ∷ 0 ∷ 0 ∷ []) 30344
-unfolding word bit bits
+    -- 001's line: 3-methylhexane in 001's numbering
+    × Numbered 7 (1 ∷ 2 ∷ 2 ∷ 3 ∷ 2 ∷ 4 ∷ 3 ∷ 5 ∷ 1 ∷ 6 ∷ 6 ∷ 7 ∷ []) (3 ∷ 1 ∷ 1 ∷ 0 ∷ 1 ∷ 0 ∷ 0 ∷ []) (3 ∷ 1 ∷ 1 ∷ 0 ∷ 1 ∷ 0 ∷ 0 ∷ []) 7496
+    (1 ∷ 2 ∷ 2 ∷ 3 ∷ 1 ∷ 6 ∷ []) 545 1646688 (1 ∷ 2 ∷ 3 ∷ 1 ∷ 5 ∷ 1 ∷ []) 624
+unfolding rooted codeAt join children neighbours degree arcs sort insert dec≽ flatten ℕ-discrete decLt Dec·and Dec·not decIn seek sift decTwo peel left larger upTo middle₁ middle₂ largest some-n-tuple word bit bits decode edgesFrom sum mixed A.from A.lower A.entry A.cam A.entryEdges A.zeroA A.bits A.powers A.aZero
 table = (
-  record { codes = Form.table .0; whole = refl },
-  record { codes = Form.table .1; whole = refl },
-  record { codes = Form.table .2; whole = refl },
-  record { codes = Form.table .3; whole = refl },
-  record { codes = Form.table .4; whole = refl },
-  record { codes = Form.table .5; whole = refl },
-  record { codes = Form.table .6; whole = refl },
-  record { codes = Form.table .7; whole = refl },
-  record { codes = Form.table .8; whole = refl },
-  record { codes = Form.table .9; whole = refl },
+  row (computed size valence 0 refl (omega arith) (omega arith) refl refl) refl (omega arith),
+  row (computed size valence 0 refl (omega arith) (omega arith) refl refl) refl (omega arith),
+  row (computed size valence 1 refl (omega arith) (omega arith) refl refl) refl (omega arith),
+  row (computed size valence 1 refl (omega arith) (omega arith) refl refl) refl (omega arith),
+  row (computed size valence 1 refl (omega arith) (omega arith) refl refl) refl (omega arith),
+  row (computed size valence 1 refl (omega arith) (omega arith) refl refl) refl (omega arith),
+  row (computed size valence 2 refl (omega arith) (omega arith) refl refl) refl (omega arith),
+  row (computed size valence 2 refl (omega arith) (omega arith) refl refl) refl (omega arith),
+  row (computed size valence 2 refl (omega arith) (omega arith) refl refl) refl (omega arith),
+  numbered
+      (row (computed size valence 2 refl (omega arith) (omega arith) refl refl) refl (omega arith))
+      refl
+      (cam-physical
+      7
+      (1 ∷ 2 ∷ 2 ∷ 3 ∷ 1 ∷ 6 ∷ [])
+      refl
+      (more (omega arith) (omega arith) (more (omega arith) (omega arith) (more (omega arith) (omega arith) (more (omega arith) (omega arith) (more (omega arith) (omega arith) (more (omega arith) (omega arith) none)))))))
+      refl
+      refl
+      refl
+      refl
+      refl,
 )
-
--- 001's skeleton: its CAM, 0A and A0, and the CAM and 0A of its numbering by code
-pub record Numbered (N : ℕ) (E c : List ℕ) (zero a : ℕ) : Type 0 where
-  pub cam : A.cam N E ≡ c
-  pub zeroA : A.zeroA c ≡ zero
-  pub aZero : A.aZero N E ≡ a
-
-pub of-001 : Numbered 7 (1 ∷ 2 ∷ 2 ∷ 3 ∷ 2 ∷ 4 ∷ 3 ∷ 5 ∷ 1 ∷ 6 ∷ 6 ∷ 7 ∷ []) (1 ∷ 2 ∷ 2 ∷ 3 ∷ 1 ∷ 6 ∷ []) 545 1646688
-unfolding A.from A.lower A.entry A.cam A.zeroA A.bits A.powers A.aZero arcs neighbours mixed sum ℕ-discrete decLt
-of-001 = record { cam = refl; zeroA = refl; aZero = refl }
-
-pub by-code : (A.cam 7 (decode (3 ∷ 1 ∷ 1 ∷ 0 ∷ 1 ∷ 0 ∷ 0 ∷ [])) ≡ 1 ∷ 2 ∷ 3 ∷ 1 ∷ 5 ∷ 1 ∷ []) × (A.zeroA (1 ∷ 2 ∷ 3 ∷ 1 ∷ 5 ∷ 1 ∷ []) ≡ 624)
-unfolding A.from A.lower A.entry A.cam A.zeroA arcs neighbours decode edgesFrom mixed ℕ-discrete decLt
-by-code = (refl, refl)

@@ -1,15 +1,22 @@
--- Read from its promise alone, every public call has one possible answer and one possible state of its lent output. Each is a case of
--- one law, `one-result`, by way of `one-given` where the call writes. The verdict on two edge lists is a law of its own. Assumes nothing.
+-- Read from its promise alone, every public call has one possible result and one possible state of its lent output. r, s: the call's own
+-- results; new, new′: the output after it. Each is a case of one law, `one-result`, by way of `one-given` where the call writes; the law is
+-- about what is told of a result, which tells two different ones apart (`Apart` of the crate `refusal`). The verdict on two edge lists is a
+-- law of its own: `one-same-skeleton` of what is said, `one-verdict` of the result. Assumes nothing.
 use mathlib.Core.Path.{_≡_, refl, sym, ap₂, _∙_}
 use mathlib.Core.List.{List}
 use Prim.Native.Nat.{ℕ}
-use Rattle.refusal.specs.Table.{Row, Clear, Lowest, Outcome, Answered}
+use Rattle.refusal.specs.Table.{Row, Clear, Lowest, Answered}
+use Rattle.refusal.specs.Outcome.{told}
+use Rattle.refusal.specs.declared.Answer.{Answer}
+use Rattle.refusal.specs.Apart.{told-apart, told-both}
 use Rattle.refusal.specs.Laws.{one-lowest, one-result}
 use Rattle.refusal.specs.Giving.{one-given, one-clear}
 use Rattle.form.specs.Form.{nTuple, centred}
 use Rattle.form.specs.Forms.{IsForm, n-tuple-form, centred-form}
 use Rattle.zurkhovel.specs.Codes.{CheckCode, DecodeCode, DecodeForm, CheckEdges, RootedCode, FormCode}
-use Rattle.zurkhovel.specs.Same.{Finding, refused, SameSkeleton, first-refused, second-refused, same, different}
+use Rattle.zurkhovel.specs.declared.codes.Verdict.{Verdict}
+use Rattle.zurkhovel.specs.declared.codes.Verdict.the-variants.{Same, Different, Refused}
+use Rattle.zurkhovel.specs.Same.{Finding, refused, said, SameSkeleton, first-refused, second-refused, same, different}
 use Rattle.zurkhovel.specs.Accepted.{tree-of}
 
 -- two results that are the same thing are one
@@ -17,43 +24,53 @@ equal : (x c d : List ℕ) → c ≡ x → d ≡ x → c ≡ d
 equal x c d p q = p ∙ sym q
 
 -- a call that only checks
-one-check : {rs : List Row} {o u : Outcome ℕ} → Answered rs (λ n. n ≡ 0) o → Answered rs (λ n. n ≡ 0) u → o ≡ u
-one-check a b = one-result (λ n m p q. (p ∙ sym q, refl)) a b .0
+one-check : {rs : List Row} (r s : Answer) → Answered rs (λ n. n ≡ 0) (told r) → Answered rs (λ n. n ≡ 0) (told s) → r ≡ s
+one-check r s a b = told-apart r s (one-result (λ n m p q. (p ∙ sym q, refl)) a b .0)
 
-pub one-check-code : (c : List ℕ) (o u : Outcome ℕ) → CheckCode c o → CheckCode c u → o ≡ u
-one-check-code c o u a b = one-check a b
+pub one-check-code : (c : List ℕ) (r s : Answer) → CheckCode c (told r) → CheckCode c (told s) → r ≡ s
+one-check-code c = one-check
 
-pub one-decode-code : (c old s t : List ℕ) (o u : Outcome ℕ) → DecodeCode c old s o → DecodeCode c old t u → (o ≡ u) × (s ≡ t)
-one-decode-code c old s t o u a b = one-given (equal _) a b
+pub one-decode-code :
+    (c old new new′ : List ℕ) (r s : Answer) → DecodeCode c old new (told r) → DecodeCode c old new′ (told s) → (r ≡ s) × (new ≡ new′)
+one-decode-code c old new new′ r s a b = told-both r s (one-given (equal _) a b)
 
-pub one-check-edges : (N : ℕ) (E : List ℕ) (r : ℕ) (o u : Outcome ℕ) → CheckEdges N E r o → CheckEdges N E r u → o ≡ u
-one-check-edges N E r o u a b = one-check a b
+pub one-check-edges : (N : ℕ) (E : List ℕ) (root : ℕ) (r s : Answer) → CheckEdges N E root (told r) → CheckEdges N E root (told s) → r ≡ s
+one-check-edges N E root = one-check
 
 pub one-rooted-code :
-    (N : ℕ) (E : List ℕ) (r : ℕ) (old s t : List ℕ) (o u : Outcome ℕ) → RootedCode N E r old s o → RootedCode N E r old t u → (o ≡ u) × (s ≡ t)
-one-rooted-code N E r old s t o u a b = one-given (equal _) a b
+    (N : ℕ) (E : List ℕ) (root : ℕ) (old new new′ : List ℕ) (r s : Answer) → RootedCode N E root old new (told r) → RootedCode N E root old new′ (told s)
+    → (r ≡ s) × (new ≡ new′)
+one-rooted-code N E root old new new′ r s a b = told-both r s (one-given (equal _) a b)
 
 -- of either form
 one-form-code :
-    (form : ℕ → List ℕ → List ℕ → Type 0) (f : IsForm form) (N : ℕ) (E old s t : List ℕ) (o u : Outcome ℕ)
-    → FormCode form N E old s o → FormCode form N E old t u → (o ≡ u) × (s ≡ t)
-one-form-code form f N E old s t o u a b = one-clear (λ k c d x y. f .one (tree-of N E 1 k) x y) a b
+    (form : ℕ → List ℕ → List ℕ → Type 0) (f : IsForm form) (N : ℕ) (E old new new′ : List ℕ) (r s : Answer)
+    → FormCode form N E old new (told r) → FormCode form N E old new′ (told s) → (r ≡ s) × (new ≡ new′)
+one-form-code form f N E old new new′ r s a b = told-both r s (one-clear (λ k c d x y. f .one (tree-of N E 1 k) x y) a b)
 
 one-decode-form :
-    (form : ℕ → List ℕ → List ℕ → Type 0) (c old s t : List ℕ) (o u : Outcome ℕ)
-    → DecodeForm form c old s o → DecodeForm form c old t u → (o ≡ u) × (s ≡ t)
-one-decode-form form c old s t o u a b = one-given (equal _) a b
+    (form : ℕ → List ℕ → List ℕ → Type 0) (c old new new′ : List ℕ) (r s : Answer)
+    → DecodeForm form c old new (told r) → DecodeForm form c old new′ (told s) → (r ≡ s) × (new ≡ new′)
+one-decode-form form c old new new′ r s a b = told-both r s (one-given (equal _) a b)
 
-pub one-n-tuple-code : (N : ℕ) (E old s t : List ℕ) (o u : Outcome ℕ) → FormCode nTuple N E old s o → FormCode nTuple N E old t u → (o ≡ u) × (s ≡ t)
+pub one-n-tuple-code :
+    (N : ℕ) (E old new new′ : List ℕ) (r s : Answer) → FormCode nTuple N E old new (told r) → FormCode nTuple N E old new′ (told s)
+    → (r ≡ s) × (new ≡ new′)
 one-n-tuple-code = one-form-code nTuple n-tuple-form
 
-pub one-centred-code : (N : ℕ) (E old s t : List ℕ) (o u : Outcome ℕ) → FormCode centred N E old s o → FormCode centred N E old t u → (o ≡ u) × (s ≡ t)
+pub one-centred-code :
+    (N : ℕ) (E old new new′ : List ℕ) (r s : Answer) → FormCode centred N E old new (told r) → FormCode centred N E old new′ (told s)
+    → (r ≡ s) × (new ≡ new′)
 one-centred-code = one-form-code centred centred-form
 
-pub one-decode-n-tuple : (c old s t : List ℕ) (o u : Outcome ℕ) → DecodeForm nTuple c old s o → DecodeForm nTuple c old t u → (o ≡ u) × (s ≡ t)
+pub one-decode-n-tuple :
+    (c old new new′ : List ℕ) (r s : Answer) → DecodeForm nTuple c old new (told r) → DecodeForm nTuple c old new′ (told s)
+    → (r ≡ s) × (new ≡ new′)
 one-decode-n-tuple = one-decode-form nTuple
 
-pub one-decode-centred : (c old s t : List ℕ) (o u : Outcome ℕ) → DecodeForm centred c old s o → DecodeForm centred c old t u → (o ≡ u) × (s ≡ t)
+pub one-decode-centred :
+    (c old new new′ : List ℕ) (r s : Answer) → DecodeForm centred c old new (told r) → DecodeForm centred c old new′ (told s)
+    → (r ≡ s) × (new ≡ new′)
 one-decode-centred = one-decode-form centred
 
 -- a table is clear, or has a lowest number
@@ -77,3 +94,20 @@ one-same-skeleton N E P F o u (different k d n) (first-refused l) = not-both k l
 one-same-skeleton N E P F o u (different k d n) (second-refused g l) = not-both d l
 one-same-skeleton N E P F o u (different k d n) (same {c} g h x y) = absurd (n c x y)
 one-same-skeleton N E P F o u (different k d n) (different g h m) = refl
+
+-- two verdicts of which the same is said are one
+pub said-apart : (r s : Verdict) → said r ≡ said s → r ≡ s
+said-apart Same Same e = cc
+said-apart Same Different e = cc
+said-apart Same (Refused i k p) e = cc
+said-apart Different Same e = cc
+said-apart Different Different e = cc
+said-apart Different (Refused i k p) e = cc
+said-apart (Refused i k p) Same e = cc
+said-apart (Refused i k p) Different e = cc
+said-apart (Refused i k p) (Refused j l q) e = cc
+
+-- so the verdict itself is one
+pub one-verdict :
+    (N : ℕ) (E : List ℕ) (P : ℕ) (F : List ℕ) (r s : Verdict) → SameSkeleton N E P F (said r) → SameSkeleton N E P F (said s) → r ≡ s
+one-verdict N E P F r s a b = said-apart r s (one-same-skeleton N E P F (said r) (said s) a b)

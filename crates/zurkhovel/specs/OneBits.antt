@@ -1,43 +1,54 @@
--- Read from its promise alone, every public call on the bit-tuple has one possible answer and one possible state of its lent output.
--- Assumes nothing.
+-- Read from its promise alone, every public call on the bit-tuple has one possible result and one possible state of its lent output, as in
+-- `One`. Assumes nothing.
 use mathlib.Core.Path.{_≡_, refl, sym, ap, _∙_}
 use mathlib.Core.Bool.{Bool}
 use mathlib.Core.List.{List}
 use Prim.Native.Nat.{ℕ}
 use lib.Ieee.{Float}
 use Rattle.refusal.specs.Table.{Row, Outcome, Answered}
+use Rattle.refusal.specs.Outcome.{told, numbered}
+use Rattle.refusal.specs.declared.Answer.{Answer}
+use Rattle.refusal.specs.declared.Number.{Number}
+use Rattle.refusal.specs.Apart.{told-both, numbered-apart}
 use Rattle.refusal.specs.Laws.{one-result}
 use Rattle.refusal.specs.Giving.{one-given}
 use Rattle.code.specs.Code.{decode}
 use Rattle.bits.specs.Reading.{one-reading}
 use Rattle.bits.specs.Written.{packed-again, number-again}
+use Rattle.fraction.specs.declared.Fraction.{Fraction}
+use Rattle.fraction.specs.Outcome as fraction
+use Rattle.fraction.specs.Apart as apart
 use Rattle.fraction.specs.Back.{fraction-again}
 use Rattle.zurkhovel.specs.Bits.{Pack, Whole, InFraction, Decodes, Unpack, Unwhole, Unfraction}
 
--- a call that gives a value, where the right one is one
-pub one-value :
+-- a call that gives a value, where the right one is one: what is told is one
+one-value :
     {A : Type 0} {rs : List Row} {Right : A → Type 0} {o q : Outcome A} → ((a b : A) → Right a → Right b → a ≡ b) → Answered rs Right o → Answered rs Right q
     → o ≡ q
 one-value one a b = one-result (λ x y p q. (one x y p q, refl)) a b .0
 
-pub one-pack : (N : ℕ) (E : List ℕ) (r : ℕ) (old t u : List ℕ) (o q : Outcome ℕ) → Pack N E r old t o → Pack N E r old u q → (o ≡ q) × (t ≡ u)
-one-pack N E r old t u o q a b = one-given (λ c d p s. packed-again p s) a b
+pub one-pack :
+    (N : ℕ) (E : List ℕ) (root : ℕ) (old new new′ : List ℕ) (r s : Answer) → Pack N E root old new (told r) → Pack N E root old new′ (told s)
+    → (r ≡ s) × (new ≡ new′)
+one-pack N E root old new new′ r s a b = told-both r s (one-given (λ c d p q. packed-again p q) a b)
 
-pub one-whole : (N : ℕ) (E : List ℕ) (r : ℕ) (o q : Outcome ℕ) → Whole N E r o → Whole N E r q → o ≡ q
-one-whole N E r o q a b = one-value (λ x y p s. number-again p s) a b
+pub one-whole : (N : ℕ) (E : List ℕ) (root : ℕ) (r s : Number) → Whole N E root (numbered r) → Whole N E root (numbered s) → r ≡ s
+one-whole N E root r s a b = numbered-apart r s (one-value (λ x y p q. number-again p q) a b)
 
-pub one-fraction : (N : ℕ) (E : List ℕ) (r : ℕ) (o q : Outcome Float) → InFraction N E r o → InFraction N E r q → o ≡ q
-one-fraction N E r o q a b = one-value (λ x y p s. fraction-again p s) a b
+pub one-fraction :
+    (N : ℕ) (E : List ℕ) (root : ℕ) (r s : Fraction) → InFraction N E root (fraction.told r) → InFraction N E root (fraction.told s) → r ≡ s
+one-fraction N E root r s a b = apart.told-apart r s (one-value (λ x y p q. fraction-again p q) a b)
 
 -- bits carry one code, and so have one list of edges
 pub one-decoded : {May : List Bool → Type 0} {bs : List Bool} (E F : List ℕ) → Decodes May bs E → Decodes May bs F → E ≡ F
 one-decoded E F d e = d .edges ∙ ap decode (one-reading (d .reads) (e .reads)) ∙ sym (e .edges)
 
-pub one-unpack : (s old t u : List ℕ) (o q : Outcome ℕ) → Unpack s old t o → Unpack s old u q → (o ≡ q) × (t ≡ u)
-one-unpack s old t u o q a b = one-given one-decoded a b
+pub one-unpack : (b old new new′ : List ℕ) (r s : Answer) → Unpack b old new (told r) → Unpack b old new′ (told s) → (r ≡ s) × (new ≡ new′)
+one-unpack b old new new′ r s g h = told-both r s (one-given one-decoded g h)
 
-pub one-unwhole : (n v : ℕ) (old t u : List ℕ) (o q : Outcome ℕ) → Unwhole n v old t o → Unwhole n v old u q → (o ≡ q) × (t ≡ u)
-one-unwhole n v old t u o q a b = one-given one-decoded a b
+pub one-unwhole : (N x : ℕ) (old new new′ : List ℕ) (r s : Answer) → Unwhole N x old new (told r) → Unwhole N x old new′ (told s) → (r ≡ s) × (new ≡ new′)
+one-unwhole N x old new new′ r s a b = told-both r s (one-given one-decoded a b)
 
-pub one-unfraction : (x : Float) (old t u : List ℕ) (o q : Outcome ℕ) → Unfraction x old t o → Unfraction x old u q → (o ≡ q) × (t ≡ u)
-one-unfraction x old t u o q a b = one-given one-decoded a b
+pub one-unfraction :
+    (x : Float) (old new new′ : List ℕ) (r s : Answer) → Unfraction x old new (told r) → Unfraction x old new′ (told s) → (r ≡ s) × (new ≡ new′)
+one-unfraction x old new new′ r s a b = told-both r s (one-given one-decoded a b)

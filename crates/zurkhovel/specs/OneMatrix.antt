@@ -1,11 +1,16 @@
--- Read from its promise alone, every public call on CAM, 0A and A0 has one possible answer and one possible state of its lent output.
+-- Read from its promise alone, every public call on CAM, 0A and A0 has one possible result and one possible state of its lent output, as in
+-- `One`.
 --
 -- In order: a form read into edges; a form in the caller's numbering; a form by code, where what is right is one because the edges are
 -- accepted. Assumes nothing.
 use mathlib.Core.Path.{_≡_, refl, sym, ap, _∙_}
 use mathlib.Core.List.{List}
 use Prim.Native.Nat.{ℕ}
-use Rattle.refusal.specs.Table.{Outcome, Answered}
+use Rattle.refusal.specs.Table.{Answered}
+use Rattle.refusal.specs.Outcome.{told, numbered}
+use Rattle.refusal.specs.declared.Answer.{Answer}
+use Rattle.refusal.specs.declared.Number.{Number}
+use Rattle.refusal.specs.Apart.{told-both, numbered-apart}
 use Rattle.refusal.specs.Laws.{one-accepted, one-result}
 use Rattle.refusal.specs.Giving.{one-given, one-clear}
 use Rattle.code.specs.Limits.{valence}
@@ -18,25 +23,28 @@ use Rattle.zurkhovel.specs.Matrix.{DecodeCam, DecodeZeroA, DecodeAZero, 
 
 -- ---- a form read into edges
 
-pub one-decode-cam : (N : ℕ) (c old s t : List ℕ) (o u : Outcome ℕ) → DecodeCam N c old s o → DecodeCam N c old t u → (o ≡ u) × (s ≡ t)
-one-decode-cam N c old s t o u a b = one-given (λ E F p q. p ∙ sym q) a b
+pub one-decode-cam :
+    (N : ℕ) (c old new new′ : List ℕ) (r s : Answer) → DecodeCam N c old new (told r) → DecodeCam N c old new′ (told s) → (r ≡ s) × (new ≡ new′)
+one-decode-cam N c old new new′ r s a b = told-both r s (one-given (λ E F p q. p ∙ sym q) a b)
 
-pub one-decode-zero-a : (N x : ℕ) (old s t : List ℕ) (o u : Outcome ℕ) → DecodeZeroA N x old s o → DecodeZeroA N x old t u → (o ≡ u) × (s ≡ t)
-one-decode-zero-a N x old s t o u a b = one-given (λ E F p q. p ∙ sym q) a b
+pub one-decode-zero-a :
+    (N x : ℕ) (old new new′ : List ℕ) (r s : Answer) → DecodeZeroA N x old new (told r) → DecodeZeroA N x old new′ (told s) → (r ≡ s) × (new ≡ new′)
+one-decode-zero-a N x old new new′ r s a b = told-both r s (one-given (λ E F p q. p ∙ sym q) a b)
 
-pub one-decode-a-zero : (N x : ℕ) (old s t : List ℕ) (o u : Outcome ℕ) → DecodeAZero N x old s o → DecodeAZero N x old t u → (o ≡ u) × (s ≡ t)
-one-decode-a-zero N x old s t o u a b = one-given (λ E F p q. p ∙ sym q) a b
+pub one-decode-a-zero :
+    (N x : ℕ) (old new new′ : List ℕ) (r s : Answer) → DecodeAZero N x old new (told r) → DecodeAZero N x old new′ (told s) → (r ≡ s) × (new ≡ new′)
+one-decode-a-zero N x old new new′ r s a b = told-both r s (one-given (λ E F p q. p ∙ sym q) a b)
 
 -- ---- in the caller's numbering
 
-pub one-cam : (N : ℕ) (E old s t : List ℕ) (o u : Outcome ℕ) → Cam N E old s o → Cam N E old t u → (o ≡ u) × (s ≡ t)
-one-cam N E old s t o u a b = one-given (λ c d p q. p ∙ sym q) a b
+pub one-cam : (N : ℕ) (E old new new′ : List ℕ) (r s : Answer) → Cam N E old new (told r) → Cam N E old new′ (told s) → (r ≡ s) × (new ≡ new′)
+one-cam N E old new new′ r s a b = told-both r s (one-given (λ c d p q. p ∙ sym q) a b)
 
-pub one-zero-a : (N : ℕ) (E : List ℕ) (o u : Outcome ℕ) → ZeroA N E o → ZeroA N E u → o ≡ u
-one-zero-a N E o u a b = one-result (λ x y p q. (p ∙ sym q, refl)) a b .0
+pub one-zero-a : (N : ℕ) (E : List ℕ) (r s : Number) → ZeroA N E (numbered r) → ZeroA N E (numbered s) → r ≡ s
+one-zero-a N E r s a b = numbered-apart r s (one-result (λ x y p q. (p ∙ sym q, refl)) a b .0)
 
-pub one-a-zero : (N : ℕ) (E : List ℕ) (o u : Outcome ℕ) → AZero N E o → AZero N E u → o ≡ u
-one-a-zero N E o u a b = one-result (λ x y p q. (p ∙ sym q, refl)) a b .0
+pub one-a-zero : (N : ℕ) (E : List ℕ) (r s : Number) → AZero N E (numbered r) → AZero N E (numbered s) → r ≡ s
+one-a-zero N E r s a b = numbered-apart r s (one-result (λ x y p q. (p ∙ sym q, refl)) a b .0)
 
 -- ---- by code
 
@@ -49,15 +57,16 @@ one-by-code {of = of} t a b p q = p .is ∙ ap of (one-numbering t (p .numbering
 
 -- a number by code
 one-number :
-    (most N : ℕ) (E : List ℕ) {of : List ℕ → ℕ} {o u : Outcome ℕ} → Answered (edgeRows most valence N E 1) (ByCode of N E) o
-    → Answered (edgeRows most valence N E 1) (ByCode of N E) u → o ≡ u
-one-number most N E a b = one-accepted (λ k x y p q. (one-by-code (tree-of N E 1 k) x y p q, refl)) a b .0
+    (most N : ℕ) (E : List ℕ) {of : List ℕ → ℕ} (r s : Number) → Answered (edgeRows most valence N E 1) (ByCode of N E) (numbered r)
+    → Answered (edgeRows most valence N E 1) (ByCode of N E) (numbered s) → r ≡ s
+one-number most N E r s a b = numbered-apart r s (one-accepted (λ k x y p q. (one-by-code (tree-of N E 1 k) x y p q, refl)) a b .0)
 
-pub one-cam-by-code : (N : ℕ) (E old s t : List ℕ) (o u : Outcome ℕ) → CamByCode N E old s o → CamByCode N E old t u → (o ≡ u) × (s ≡ t)
-one-cam-by-code N E old s t o u a b = one-clear (λ k. one-by-code (tree-of N E 1 k)) a b
+pub one-cam-by-code :
+    (N : ℕ) (E old new new′ : List ℕ) (r s : Answer) → CamByCode N E old new (told r) → CamByCode N E old new′ (told s) → (r ≡ s) × (new ≡ new′)
+one-cam-by-code N E old new new′ r s a b = told-both r s (one-clear (λ k. one-by-code (tree-of N E 1 k)) a b)
 
-pub one-zero-a-by-code : (N : ℕ) (E : List ℕ) (o u : Outcome ℕ) → ZeroAByCode N E o → ZeroAByCode N E u → o ≡ u
-one-zero-a-by-code N E o u a b = one-number _ N E a b
+pub one-zero-a-by-code : (N : ℕ) (E : List ℕ) (r s : Number) → ZeroAByCode N E (numbered r) → ZeroAByCode N E (numbered s) → r ≡ s
+one-zero-a-by-code N E r s a b = one-number _ N E r s a b
 
-pub one-a-zero-by-code : (N : ℕ) (E : List ℕ) (o u : Outcome ℕ) → AZeroByCode N E o → AZeroByCode N E u → o ≡ u
-one-a-zero-by-code N E o u a b = one-number _ N E a b
+pub one-a-zero-by-code : (N : ℕ) (E : List ℕ) (r s : Number) → AZeroByCode N E (numbered r) → AZeroByCode N E (numbered s) → r ≡ s
+one-a-zero-by-code N E r s a b = one-number _ N E r s a b

@@ -1,42 +1,54 @@
--- Read from its promise alone, every call on lines, and the call on equal vertices, has one possible answer and one possible state of what it
--- is lent. Assumes nothing.
-use mathlib.Core.Path.{_≡_, sym, ap, _∙_}
+-- Read from its promise alone, every call on lines, and the call on equal vertices, has one possible result and one possible state of what it
+-- is lent, as in `One`. Assumes nothing.
+use mathlib.Core.Path.{_≡_, sym, ap₂, subst, _∙_}
 use mathlib.Core.List.{List}
 use Prim.Native.Nat.{ℕ}
 use native.Mathlib.Omega.{arith}
-use Rattle.refusal.specs.Table.{Clear, Outcome}
+use Rattle.refusal.specs.Table.{Clear}
+use Rattle.refusal.specs.Outcome.{told}
+use Rattle.refusal.specs.declared.Answer.{Answer}
+use Rattle.refusal.specs.Apart.{told-both}
 use Rattle.refusal.specs.Giving.{one-clear}
 use Rattle.code.specs.Limits.{size, valence}
 use Rattle.skeleton.specs.Edges.{edgeRows}
-use Rattle.form.specs.Form.{ofCentred}
+use Rattle.form.specs.Form.{centred}
 use Rattle.form.specs.Forms.{centred-form}
 use Rattle.lines.specs.Judged.{digitTable}
+use Rattle.lines.specs.declared.Progress.{Progress}
 use Rattle.lines.specs.Theorems as Lines
+use Rattle.vertices.specs.Vertices.{ClassesOf}
+use Rattle.vertices.specs.Theorems.{one-classes}
+use Rattle.zurkhovel.specs.declared.text.Counts.{Counts}
 use Rattle.zurkhovel.specs.Lines.{ReadLine, WriteLine, ReadText, Counted}
 use Rattle.zurkhovel.specs.Alike.{EqualVertices}
 use Rattle.zurkhovel.specs.Accepted.{tree-of}
 
-pub one-read-line : (t old new new′ : List ℕ) (o u : Outcome ℕ) → ReadLine t old new o → ReadLine t old new′ u → (o ≡ u) × (new ≡ new′)
-one-read-line t old new new′ o u a b = Lines.one-line size digitTable t old new new′ o u a b
+pub one-read-line : (t old new new′ : List ℕ) (r s : Answer) → ReadLine t old new (told r) → ReadLine t old new′ (told s) → (r ≡ s) × (new ≡ new′)
+one-read-line t old new new′ r s a b = told-both r s (Lines.one-line size digitTable t old new new′ (told r) (told s) a b)
 
 pub one-read-text :
-    (t rec num pla rec₁ num₁ pla₁ rec₂ num₂ pla₂ : List ℕ) (k at j to : ℕ)
-    → ReadText t rec num pla rec₁ num₁ pla₁ k at → ReadText t rec num pla rec₂ num₂ pla₂ j to
-    → (k ≡ j) × (at ≡ to) × (rec₁ ≡ rec₂) × (num₁ ≡ num₂) × (pla₁ ≡ pla₂)
-one-read-text t rec num pla rec₁ num₁ pla₁ rec₂ num₂ pla₂ k at j to a b =
-    Lines.one-text size digitTable size t rec num pla rec₁ num₁ pla₁ rec₂ num₂ pla₂ k at j to a b
+    (t rec num pla rec₁ num₁ pla₁ rec₂ num₂ pla₂ : List ℕ) (r s : Progress)
+    → ReadText t rec num pla rec₁ num₁ pla₁ (r .lines) (r .at) → ReadText t rec num pla rec₂ num₂ pla₂ (s .lines) (s .at)
+    → (r ≡ s) × (rec₁ ≡ rec₂) × (num₁ ≡ num₂) × (pla₁ ≡ pla₂)
+one-read-text t rec num pla rec₁ num₁ pla₁ rec₂ num₂ pla₂ r s a b =
+    let (k, at, e, f, g) = Lines.one-text size digitTable size t rec num pla rec₁ num₁ pla₁ rec₂ num₂ pla₂ (r .lines) (r .at) (s .lines) (s .at) a b in
+    (ap₂ (λ (i j : ℕ). record { lines = i; at = j }) k at, e, f, g)
 
-pub one-count : (numbers : List ℕ) (r f s g : ℕ) → Counted numbers r f → Counted numbers s g → (r ≡ s) × (f ≡ g)
-one-count numbers r f s g a b =
-    let e : r ≡ s = a .records ∙ sym (b .records) in (e, omega (arith, a .others, b .others))
+pub one-count : (numbers : List ℕ) (r s : Counts) → Counted numbers (r .read) (r .refused) → Counted numbers (s .read) (s .refused) → r ≡ s
+one-count numbers r s a b =
+    let e : r .read ≡ s .read = a .records ∙ sym (b .records) in
+    ap₂ (λ (i j : ℕ). record { read = i; refused = j }) e (omega (arith, a .others, b .others))
 
--- what is made of the centred code is one, where the list is accepted
+-- what Of has it to be of the centred code is one, where it is of any code and the list is accepted
 one-derived :
-    (N : ℕ) (E : List ℕ) (f : List ℕ → List ℕ) → Clear (edgeRows size valence N E 1) → (l m : List ℕ) → ofCentred N E f l → ofCentred N E f m → l ≡ m
-one-derived N E f k l m (c, x, e) (d, y, g) = e ∙ ap f (centred-form .one (tree-of N E 1 k) x y) ∙ sym g
+    {N : ℕ} {E : List ℕ} {Of : List ℕ → List ℕ → Type 0} → ((c l m : List ℕ) → Of c l → Of c m → l ≡ m) → Clear (edgeRows size valence N E 1)
+    → (l m : List ℕ) → (c : List ℕ) × centred N E c × Of c l → (c : List ℕ) × centred N E c × Of c m → l ≡ m
+one-derived {N} {E} {Of} one k l m (c, x, o) (d, y, p) = one c l m o (subst (λ (b : List ℕ). Of b m) (centred-form .one (tree-of N E 1 k) y x) p)
 
-pub one-write-line : (N : ℕ) (E old s t : List ℕ) (o u : Outcome ℕ) → WriteLine N E old s o → WriteLine N E old t u → (o ≡ u) × (s ≡ t)
-one-write-line N E old s t o u a b = one-clear (one-derived N E _) a b
+pub one-write-line :
+    (N : ℕ) (E old new new′ : List ℕ) (r s : Answer) → WriteLine N E old new (told r) → WriteLine N E old new′ (told s) → (r ≡ s) × (new ≡ new′)
+one-write-line N E old new new′ r s a b = told-both r s (one-clear (one-derived (λ c l m e f. e ∙ sym f)) a b)
 
-pub one-equal-vertices : (N : ℕ) (E old s t : List ℕ) (o u : Outcome ℕ) → EqualVertices N E old s o → EqualVertices N E old t u → (o ≡ u) × (s ≡ t)
-one-equal-vertices N E old s t o u a b = one-clear (one-derived N E _) a b
+pub one-equal-vertices :
+    (N : ℕ) (E old new new′ : List ℕ) (r s : Answer) → EqualVertices N E old new (told r) → EqualVertices N E old new′ (told s) → (r ≡ s) × (new ≡ new′)
+one-equal-vertices N E old new new′ r s a b = told-both r s (one-clear (one-derived {Of = ClassesOf} one-classes) a b)

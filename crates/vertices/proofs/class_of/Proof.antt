@@ -2,7 +2,7 @@
 use Prim.Native.Nat.{_-_}
 use native.Mathlib.Omega.{arith}
 use denote.Ref.{now}
-use Rattle.vertices.specs.Vertices.{alike?}
+use Rattle.vertices.specs.Classes.{alike?}
 use Rattle.vertices.specs.Search.{was-alike, was-different}
 use Rattle.vertices.proofs.Looking.{Looking, look-none, look-all, look-here, look-past}
 use Rattle.vertices.proofs.class_of.Statement.{statement}

@@ -10,7 +10,7 @@ use Rattle.laws.specs.Laid.{Laid}
 use Rattle.code.specs.Limits.{size, valence}
 use Rattle.code.specs.Search.{Known}
 use Rattle.code.specs.Right.{Right, clear-right}
-use Rattle.vertices.specs.Vertices.{alike?, classes}
+use Rattle.vertices.specs.Classes.{alike?, classes}
 use Rattle.vertices.specs.Search.{Deep}
 use Rattle.vertices.proofs.Writing.{Writing, writing-none, writing-length, writing-low, writing-next, writing-all}
 use Rattle.vertices.proofs.write_classes.Statement.{statement}

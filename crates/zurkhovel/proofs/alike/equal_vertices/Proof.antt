@@ -8,10 +8,11 @@ use Rattle.refusal.specs.Laws.{was-clear, was-lowest, at-most}
 use Rattle.refusal.specs.Giving.{refused-first, written-length}
 use Rattle.code.specs.Limits.{size, valence}
 use Rattle.skeleton.specs.Edges.{edgeRows}
-use Rattle.vertices.specs.Vertices.{classes}
+use Rattle.vertices.specs.Vertices.{ClassesOf}
+use Rattle.vertices.specs.Classes.{classes}
 use Rattle.vertices.specs.Theorems.{classes-numbered}
 use Rattle.zurkhovel.specs.Accepted.{skeleton-of}
-use Rattle.zurkhovel.proofs.Derived.{code-clear, derived-short, derived-given}
+use Rattle.zurkhovel.proofs.Derived.{code-clear, of-short, of-given}
 use Rattle.zurkhovel.proofs.alike.equal_vertices.Statement.{statement}
 use Rattle.zurkhovel.proofs.alike.equal_vertices.Tie as tie
 
@@ -30,7 +31,7 @@ equal-vertices-spec =
     (λ c. search needs)
     (λ c. refused-first refl (was-lowest (c .before .before .before .check .ensures) (c .before .k .given .1)) refl)
     (λ c. search needs)
-    (λ c. let d = c .before in derived-short (start d .args .n) (now (start d .args .edges)) (clear d) classes (start d .args .n) (λ x e. classes-numbered x .count ∙ e) (c .if1 .taken) refl)
+    (λ c. let d = c .before in of-short (start d .args .n) (now (start d .args .edges)) (clear d) ClassesOf (start d .args .n) (λ x l e k. k .count ∙ e) (λ x. (classes x, classes-numbered x)) (c .if1 .taken) refl)
     (λ c. search needs)
     (λ c κs. let d = c .before .before in (skeleton-of (clear d), omega (arith, at-most (clear d))))
     (λ c. let d = c .before .before .before .before in omega (arith, at-most (clear d)))
@@ -40,5 +41,5 @@ equal-vertices-spec =
     (code-clear (skeleton-of (clear d)) w, omega (arith, written-length w, c .before .before .before .before .before .if1 .left)))
     (λ c. search needs)
     (λ c. let d = c .before .before .before .before .before .before .before .before .before in
-    derived-given (start d .args .n) (now (start d .args .edges)) (clear d) classes (start d .args .n) (λ x e. classes-numbered x .count ∙ e) (c .before .before .before .before .before .before .before .before .if1 .left)
-    (c .before .before .before .before .before .before .centred .ensures) (c .before .before .write-classes .ensures)))
+    of-given (start d .args .n) (now (start d .args .edges)) (clear d) ClassesOf (start d .args .n) (λ x l e k. k .count ∙ e) (c .before .before .before .before .before .before .before .before .if1 .left)
+    (c .before .before .before .before .before .before .centred .ensures) (classes-numbered _) (c .before .before .write-classes .ensures)))
