@@ -7,8 +7,8 @@ use mathlib.Core.List.{List, [], _∷_, _++_}
 use Prim.Native.Nat.{ℕ, _≤_}
 use native.Mathlib.Omega.{arith}
 use lib.ListN.{length, take}
-use Rattle.refusal.specs.Table.{Row, Clear, Lowest, passes, fails, row3}
-use Rattle.refusal.specs.Laws.{clear-both, size-clear, lowest-front, lowest-back, was-clear, was-lowest, under}
+use Rattle.refusal.specs.Table.{Row, Clear, FirstRefusal, passes, fails, row3}
+use Rattle.refusal.specs.Laws.{clear-both, size-clear, refusal-front, refusal-back, was-clear, was-refused, under}
 use Rattle.refusal.specs.declared.Answer.{Answer}
 use Rattle.refusal.specs.declared.Answer.the-variants.{Done, Refused}
 use Rattle.code.specs.Limits.{size}
@@ -30,7 +30,7 @@ pub record Right (R : ℕ) (May : List Bool → Type 0) (bs : List Bool) (out : 
 -- the answer of a table, with out what the reader has written
 pub data Decided (rs : List Row) (R : ℕ) (May : List Bool → Type 0) (bs : List Bool) (out : List ℕ) : Answer → Type 0 where
   gives : {n : ℕ} → Clear rs → Right R May bs out n → Decided rs R May bs out (Done n)
-  refuses : {k p : ℕ} → Lowest rs k p → Decided rs R May bs out (Refused k p)
+  refuses : {k p : ℕ} → FirstRefusal rs k p → Decided rs R May bs out (Refused k p)
 
 -- and the output keeps its length
 pub record Decision (rs : List Row) (R : ℕ) (May : List Bool → Type 0) (bs : List Bool) (out : List ℕ) (r : Answer) : Type 0 where
@@ -45,7 +45,7 @@ Ended out (Refused k p) = Unit {0}
 -- what the order of siblings in the code c of n digits answers
 pub data Falling (c : List ℕ) (n : ℕ) : Answer → Type 0 where
   falling : Clear (row13 c ∷ []) → Falling c n (Done n)
-  larger : {k p : ℕ} → Lowest (row13 c ∷ []) k p → Falling c n (Refused k p)
+  larger : {k p : ℕ} → FirstRefusal (row13 c ∷ []) k p → Falling c n (Refused k p)
 
 -- and what it makes of the answer before it: a refusal stays
 abbrev pub Ordered : List ℕ → Answer → Answer → Type 0
@@ -77,11 +77,11 @@ module _ {R : ℕ} {May : List Bool → Type 0} {bs : List Bool} {out : List ℕ
         some = some;
         most = m;
       })
-  decided t m (larger l) = refuses (lowest-back f (was-lowest (answer-ordered t (fails l)) refl))
+  decided t m (larger l) = refuses (refusal-back f (was-refused (answer-ordered t (fails l)) refl))
 
   judged : {r a : Answer} → Judged R May bs out r → length out ≡ size → Ordered out r a → Decided (fs ++ bitRows R May bs) R May bs out a
   judged (accepted t) h o = decided t (omega (arith, t .room)) o
-  judged (refused l) h e = rw e (refuses (lowest-back f (lowest-front (bits.row13 bs ∷ []) refl l)))
+  judged (refused l) h e = rw e (refuses (refusal-back f (refusal-front (bits.row13 bs ∷ []) l)))
 
   pub decide-ordered : {r a : Answer} → Reading R May bs out r → Ordered out r a → Decision (fs ++ bitRows R May bs) R May bs out a
   decide-ordered s o = record { answer = judged (s .answer) (s .long) o; long = s .long }
@@ -89,5 +89,5 @@ module _ {R : ℕ} {May : List Bool → Type 0} {bs : List Bool} {out : List ℕ
 -- a row before them applies
 pub decide-front :
     {R : ℕ} {May : List Bool → Type 0} {bs : List Bool} {out : List ℕ} {xs : List Row} {k p : ℕ} (ys : List Row) → under xs ys ≡ true
-    → Lowest xs k p → length out ≡ size → Decision (xs ++ ys) R May bs out (Refused k p)
-decide-front ys t l h = record { answer = refuses (lowest-front ys t l); long = h }
+    → FirstRefusal xs k p → length out ≡ size → Decision (xs ++ ys) R May bs out (Refused k p)
+decide-front ys t l h = record { answer = refuses (refusal-front ys t l); long = h }

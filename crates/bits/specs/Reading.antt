@@ -10,8 +10,8 @@ use mathlib.Core.List.{List, [], _∷_, _++_}
 use Prim.Native.Nat.{ℕ, suc, _+_, _-_, _≤_, _<_}
 use native.Mathlib.Omega.{arith}
 use lib.ListN.{length, take, length-append, List·getD-append}
-use Rattle.refusal.specs.Table.{Row, Applies, Clear, Lowest, Answers, passes, fails}
-use Rattle.refusal.specs.Laws.{clear-one, first-place, lowest-front, lowest-back}
+use Rattle.refusal.specs.Table.{Row, Applies, Clear, FirstRefusal, Answers, passes, fails}
+use Rattle.refusal.specs.Laws.{clear-one, first-place, refusal-front, refusal-back}
 use Rattle.refusal.specs.declared.Check.{Check}
 use Rattle.code.specs.Code.{EndsAt, Larger, digit, row12, digitRows}
 use Rattle.code.specs.Code as code
@@ -106,13 +106,13 @@ module _ (c : List ℕ) (fs : List Bool) (h : EndsAt c (length c)) where
       from k p (inl a) = inl (a .0, thirteen-digits p (a .1))
 
 -- where more follows the end than may, and no digit is above its cap, 11 is given at the next digit's number
-pub more-lowest :
+pub end-refused :
     (R : ℕ) (May : List Bool → Type 0) (bs : List Bool) {n : ℕ} → Clear (row10 R bs ∷ []) → EndsAt (whole bs) n → (May (after bs n) → ⊥)
-    → Lowest (endRows R May bs) 11 (n + 1)
-more-lowest R May bs {n} c w m =
+    → FirstRefusal (endRows R May bs) 11 (n + 1)
+end-refused R May bs {n} c w m =
     let z : n + 1 - 1 ≡ n = omega arith in
-    lowest-front (row12 (whole bs) ∷ []) refl
-    (lowest-back c (first-place {r = row11 May bs} {p = n + 1} (rw z w, rw z m) (λ q l a. omega (arith, one-end (a .0) w, w .less))))
+    refusal-front (row12 (whole bs) ∷ [])
+    (refusal-back c (first-place {r = row11 May bs} {p = n + 1} (rw z w, rw z m) (λ q l a. omega (arith, one-end (a .0) w, w .less))))
 
 -- up to its end, what is read is carried, and what follows it may follow
 pub carries-end : {May : List Bool → Type 0} {bs : List Bool} {e : ℕ} → EndsAt (whole bs) e → May (after bs e) → Carries May bs (take e (whole bs))
@@ -156,7 +156,7 @@ one-reading {c = c} {d} r q =
 -- bits that begin with a code whose digits are within their caps, and go on as May does not allow, are refused 11 behind it
 pub more-refused :
     (R : ℕ) (May : List Bool → Type 0) (c : List ℕ) (fs : List Bool) → EndsAt c (length c) → ((p : ℕ) → code.row10 R c .applies p → ⊥)
-    → (May fs → ⊥) → Lowest (bitRows R May (bits c ++ fs)) 11 (length c + 1)
+    → (May fs → ⊥) → FirstRefusal (bitRows R May (bits c ++ fs)) 11 (length c + 1)
 more-refused R May c fs h s m =
-    lowest-front (row13 (bits c ++ fs) ∷ []) refl
-    (more-lowest R May (bits c ++ fs) (clear-one (λ p a. s p (ten-digits c fs h R p a))) (code-ends fs h) (rw (after-code c fs h) m))
+    refusal-front (row13 (bits c ++ fs) ∷ [])
+    (end-refused R May (bits c ++ fs) (clear-one (λ p a. s p (ten-digits c fs h R p a))) (code-ends fs h) (rw (after-code c fs h) m))

@@ -11,8 +11,8 @@ use lib.ListN.{length, take, drop, length-map}
 use lib.Seq.{take-all, split-at}
 use Rattle.laws.specs.Laid.{laidOver}
 use Rattle.laws.specs.Part.{part, part-length}
-use Rattle.refusal.specs.Table.{Row, Applies, Clear, Lowest, Outcome, gives, refuses, kept, left, row3}
-use Rattle.refusal.specs.Laws.{under, one-result, clear-one, first-place, applies-left, applies-either, clear-left, clear-both, lowest-front, lowest-back}
+use Rattle.refusal.specs.Table.{Row, Applies, Clear, FirstRefusal, Outcome, gives, refuses, kept, left, row3}
+use Rattle.refusal.specs.Laws.{under, one-result, clear-one, first-place, applies-left, applies-either, clear-left, clear-both, refusal-front, refusal-back}
 use Rattle.refusal.specs.Giving.{one-written}
 use Rattle.lines.specs.Line.{Free, Cut, DigitRow, judged, ofLine, frontRows, lineRows, LineAnswers, Reply}
 use Rattle.lines.specs.Form.{UpTo, values, Stands}
@@ -47,8 +47,8 @@ module _ (most : ℕ) (rows : List DigitRow) where
   -- a refusal before the digits are judged
   pub read-front :
       {t old : List ℕ} {k p : ℕ} → under (frontRows most t) (map (ofLine t) rows ++ (lineRow15 t (length old) ∷ [])) ≡ true
-      → Lowest (frontRows most t) k p → ReadLine most rows t old old (refuses k p)
-  read-front {t} {old} u l = left (lowest-front {xs = frontRows most t} (map (ofLine t) rows ++ (lineRow15 t (length old) ∷ [])) u l) refl
+      → FirstRefusal (frontRows most t) k p → ReadLine most rows t old old (refuses k p)
+  read-front {t} {old} u l = left (refusal-front {xs = frontRows most t} (map (ofLine t) rows ++ (lineRow15 t (length old) ∷ [])) u l) refl
 
   module _ {t : List ℕ} {s e : ℕ} (h : Stands most t s e) where
     as-many : length (values (part s e t)) ≡ e - s
@@ -72,7 +72,7 @@ module _ (most : ℕ) (rows : List DigitRow) where
     abbrev pub checked : List Row
     checked = row3 most (length (values (part s e t))) ∷ judged rows (values (part s e t))
 
-    lowest-digits : {k p : ℕ} → Lowest checked k p → Lowest (map (ofLine t) rows) k p
+    lowest-digits : {k p : ℕ} → FirstRefusal checked k p → FirstRefusal (map (ofLine t) rows) k p
     lowest-digits {k} {p} l =
         record {
           applies = ⊎-elim (λ a. absurd (inside p (a .1))) (λ a. of-digits (h .shape) rows k p a) (l .applies);
@@ -90,14 +90,14 @@ module _ (most : ℕ) (rows : List DigitRow) where
     module _ (old : List ℕ) where
       -- a refusal of the digits
       pub read-digits :
-          {k p : ℕ} → under (map (ofLine t) rows) (lineRow15 t (length old) ∷ []) ≡ true → Lowest checked k p → ReadLine most rows t old old (refuses k p)
-      read-digits u l = left (lowest-back front-clear (lowest-front (lineRow15 t (length old) ∷ []) u (lowest-digits l))) refl
+          {k p : ℕ} → under (map (ofLine t) rows) (lineRow15 t (length old) ∷ []) ≡ true → FirstRefusal checked k p → ReadLine most rows t old old (refuses k p)
+      read-digits u l = left (refusal-back front-clear (refusal-front (lineRow15 t (length old) ∷ []) u (lowest-digits l))) refl
 
       -- what is lent is too short
       pub read-short : Clear checked → length old < e - s → ReadLine most rows t old old (refuses 15 (e - s))
       read-short c l =
           left
-          (lowest-back (clear-digits c)
+          (refusal-back (clear-digits c)
           (first-place {r = lineRow15 t (length old)}
           (record { count = e - s; digits = values (part s e t); shape = h .shape; holds = (sym as-many, rw as-many l) })
           (λ q m a. let n = need (length old) q a .0 in let z : ⊥ = omega arith in z))) refl
@@ -120,7 +120,7 @@ module _ (most : ℕ) (rows : List DigitRow) where
 
   module _ {t : List ℕ} {lent : ℕ} (room : most ≤ lent) where
     -- 15 is never the lowest
-    no-15 : {k p : ℕ} → Lowest (lineRows most rows t ++ (lineRow15 t lent ∷ [])) k p → k ≡ 15 → lineRow15 t lent .applies p → ⊥
+    no-15 : {k p : ℕ} → FirstRefusal (lineRows most rows t ++ (lineRow15 t lent ∷ [])) k p → k ≡ 15 → lineRow15 t lent .applies p → ⊥
     no-15 {k} {p} l e w = go (ℕ-discrete (length (w .digits)) (w .count))
       where
         lower : (j : ℕ) → j < 15 → Applies (lineRows most rows t) j 0 → ⊥
@@ -136,7 +136,7 @@ module _ (most : ℕ) (rows : List DigitRow) where
             lower 5 (omega arith)
             (inr (inr (inr (inl (refl, (refl, record { count = w .count; digits = w .digits; shape = w .shape; holds = n }))))))
 
-    lowest-line : {k p : ℕ} → Lowest (lineRows most rows t ++ (lineRow15 t lent ∷ [])) k p → Lowest (lineRows most rows t) k p
+    lowest-line : {k p : ℕ} → FirstRefusal (lineRows most rows t ++ (lineRow15 t lent ∷ [])) k p → FirstRefusal (lineRows most rows t) k p
     lowest-line {k} {p} l =
         record {
           applies =

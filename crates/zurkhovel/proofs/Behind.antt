@@ -4,7 +4,7 @@ use mathlib.Core.List.{List, [], _∷_, _++_}
 use Prim.Native.Nat.{ℕ}
 use lib.ListN.{length}
 use Rattle.refusal.specs.Table.{Row, Applies, Clear, Outcome, Promise, kept, left, Writes, short, Gives}
-use Rattle.refusal.specs.Laws.{clear-both, lowest-back}
+use Rattle.refusal.specs.Laws.{clear-both, refusal-back}
 
 -- a table of no rows
 pub none : Clear []
@@ -29,7 +29,7 @@ behind {rs} {P} {Q} {old} {new} k to back g = record { promise = go (g .promise)
     go (kept c w) =
         kept (clear-both k (record { nowhere = λ j p a. c .nowhere j p (short-to back (length old) j p a) })) (writes-to to w)
     go (left {k = j} {p} l e) =
-        left (lowest-back k (record {
+        left (refusal-back k (record {
           applies = short-to to (length old) j p (l .applies);
           first = λ i q a. l .first i q (short-to back (length old) i q a);
         })) e

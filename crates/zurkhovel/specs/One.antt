@@ -3,8 +3,8 @@
 use mathlib.Core.Path.{_≡_, refl, sym, ap₂, _∙_}
 use mathlib.Core.List.{List}
 use Prim.Native.Nat.{ℕ}
-use Rattle.refusal.specs.Table.{Row, Clear, Lowest, Outcome, Answered}
-use Rattle.refusal.specs.Laws.{one-lowest, one-result}
+use Rattle.refusal.specs.Table.{Row, Clear, FirstRefusal, Outcome, Answered}
+use Rattle.refusal.specs.Laws.{one-refusal, one-result}
 use Rattle.refusal.specs.Giving.{one-given, one-clear}
 use Rattle.form.specs.Form.{nTuple, centred}
 use Rattle.form.specs.Forms.{IsForm, n-tuple-form, centred-form}
@@ -57,16 +57,16 @@ pub one-decode-centred : (c old s t : List ℕ) (o u : Outcome ℕ) → DecodeFo
 one-decode-centred = one-decode-form centred
 
 -- a table is clear, or has a lowest number
-not-both : {rs : List Row} {k p : ℕ} {A : Type 0} → Clear rs → Lowest rs k p → A
+not-both : {rs : List Row} {k p : ℕ} {A : Type 0} → Clear rs → FirstRefusal rs k p → A
 not-both c l = absurd (c .nowhere _ _ (l .applies))
 
 pub one-same-skeleton : (N : ℕ) (E : List ℕ) (P : ℕ) (F : List ℕ) (o u : Finding) → SameSkeleton N E P F o → SameSkeleton N E P F u → o ≡ u
-one-same-skeleton N E P F o u (first-refused l) (first-refused m) = let n = one-lowest l m in ap₂ (refused 1) (n .0) (n .1)
+one-same-skeleton N E P F o u (first-refused l) (first-refused m) = let n = one-refusal l m in ap₂ (refused 1) (n .0) (n .1)
 one-same-skeleton N E P F o u (first-refused l) (second-refused k m) = not-both k l
 one-same-skeleton N E P F o u (first-refused l) (same k d x y) = not-both k l
 one-same-skeleton N E P F o u (first-refused l) (different k d n) = not-both k l
 one-same-skeleton N E P F o u (second-refused k l) (first-refused m) = not-both k m
-one-same-skeleton N E P F o u (second-refused k l) (second-refused g m) = let n = one-lowest l m in ap₂ (refused 2) (n .0) (n .1)
+one-same-skeleton N E P F o u (second-refused k l) (second-refused g m) = let n = one-refusal l m in ap₂ (refused 2) (n .0) (n .1)
 one-same-skeleton N E P F o u (second-refused k l) (same g d x y) = not-both d l
 one-same-skeleton N E P F o u (second-refused k l) (different g d n) = not-both d l
 one-same-skeleton N E P F o u (same k d x y) (first-refused l) = not-both k l

@@ -6,7 +6,7 @@
 use mathlib.Core.Bool.{Bool, true, false}
 use mathlib.Core.List.{List}
 use Prim.Native.Nat.{ℕ}
-use Rattle.refusal.specs.Table.{Row, Clear, Lowest}
+use Rattle.refusal.specs.Table.{Row, Clear, FirstRefusal}
 use Rattle.code.specs.Limits.{size, valence}
 use Rattle.skeleton.specs.Edges.{edgeRows}
 use Rattle.form.specs.Form.{centred}
@@ -30,7 +30,7 @@ listRows N E = edgeRows size valence N E 1
 
 -- N vertices with the edges E, and P vertices with the edges F
 pub data SameSkeleton (N : ℕ) (E : List ℕ) (P : ℕ) (F : List ℕ) : Finding → Type 0 where
-  first-refused : {k p : ℕ} → Lowest (listRows N E) k p → SameSkeleton N E P F (refused 1 k p)
-  second-refused : {k p : ℕ} → Clear (listRows N E) → Lowest (listRows P F) k p → SameSkeleton N E P F (refused 2 k p)
+  first-refused : {k p : ℕ} → FirstRefusal (listRows N E) k p → SameSkeleton N E P F (refused 1 k p)
+  second-refused : {k p : ℕ} → Clear (listRows N E) → FirstRefusal (listRows P F) k p → SameSkeleton N E P F (refused 2 k p)
   same : {c : List ℕ} → Clear (listRows N E) → Clear (listRows P F) → centred N E c → centred P F c → SameSkeleton N E P F (found true)
   different : Clear (listRows N E) → Clear (listRows P F) → ((c : List ℕ) → centred N E c → centred P F c → ⊥) → SameSkeleton N E P F (found false)

@@ -2,7 +2,7 @@
 use mathlib.Core.Path.{refl}
 use native.Mathlib.Omega.{arith}
 use borrow.Author.Needs.{needs}
-use Rattle.refusal.specs.Laws.{was-clear, was-lowest}
+use Rattle.refusal.specs.Laws.{was-clear, was-refused}
 use Rattle.code.specs.Limits.{size}
 use Rattle.lines.specs.Form.{Stands}
 use Rattle.lines.specs.Judged.{digitTable}
@@ -46,7 +46,7 @@ read-line-spec =
     read-digits-requires
     (λ c. read-front size digitTable refl (unlocated (c .before .before .before .locate .ensures) (c .before .k .given .1)))
     (λ c. let j = c .before .before .before in
-    read-digits size digitTable (at (j .before .before .before)) _ refl (was-lowest (j .judge .ensures) (c .before .k2 .given .1)))
+    read-digits size digitTable (at (j .before .before .before)) _ refl (was-refused (j .judge .ensures) (c .before .k2 .given .1)))
     (λ c. search needs)
     (λ c. let e = c .before .before .before .before .before in
     let j = e .before .before .before in
