@@ -10,7 +10,7 @@ use native.Mathlib.Omega.{arith}
 use lib.ListN.{length, take, length-append, length-take}
 use lib.Seq.{length-take-le}
 use Rattle.refusal.specs.Table.{Clear, FirstRefusal, Answers, passes}
-use Rattle.refusal.specs.Laws.{clear-one, clear-both, first-place, refusal-front, refusal-back, goes-on}
+use Rattle.refusal.specs.Laws.{clear-one, clear-both, first-place, refusal-front, refusal-back, goes-on, alike-answers}
 use Rattle.refusal.specs.declared.Answer.{Answer}
 use Rattle.refusal.specs.declared.Answer.the-variants.{Done, Refused}
 use Rattle.refusal.specs.declared.Check.{Check}
@@ -24,7 +24,7 @@ use Rattle.bits.specs.Bits.{whole, after, row10, row11, endRows, bitRows
 use Rattle.bits.specs.Ends.{end-sum, first-end}
 use Rattle.bits.specs.Laws.{length-bits, after-end}
 use Rattle.bits.specs.Found.{Finds, over, short, ended, Scanned}
-use Rattle.bits.specs.Reading.{end-refused, carries-end, carried-alike, alike-answers, siblings-alike}
+use Rattle.bits.specs.Reading.{end-refused, carries-end, carried-alike, siblings-alike}
 
 -- the n digits in out end a code, the bits carry it, and none of rows 10 to 12 applies
 pub record Accepted (R : ℕ) (May : List Bool → Type 0) (bs : List Bool) (out : List ℕ) (n : ℕ) : Type 0 where

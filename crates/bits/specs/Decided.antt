@@ -1,14 +1,14 @@
--- What a form gives once all its rows are judged: a right digit code, or the lowest number that applies at its first place.
+-- What a form gives once all its rows are judged: a right digit code, or the table's refusal.
 --
 -- In order: the contracts; the order of siblings behind rows 10 to 12; the rows that stand before them. Assumes nothing.
 use mathlib.Core.Path.{_≡_, refl}
-use mathlib.Core.Bool.{Bool, true}
+use mathlib.Core.Bool.{Bool}
 use mathlib.Core.List.{List, [], _∷_, _++_}
 use Prim.Native.Nat.{ℕ, _≤_}
 use native.Mathlib.Omega.{arith}
 use lib.ListN.{length, take}
 use Rattle.refusal.specs.Table.{Row, Clear, FirstRefusal, passes, fails, row3}
-use Rattle.refusal.specs.Laws.{clear-both, size-clear, refusal-front, refusal-back, was-clear, was-refused, under}
+use Rattle.refusal.specs.Laws.{clear-both, size-clear, refusal-front, refusal-back, was-clear, was-refused, alike-clear}
 use Rattle.refusal.specs.declared.Answer.{Answer}
 use Rattle.refusal.specs.declared.Answer.the-variants.{Done, Refused}
 use Rattle.code.specs.Limits.{size}
@@ -16,7 +16,7 @@ use Rattle.code.specs.Code.{codeRows, row13}
 use Rattle.code.specs.Ends.{Ends, ends-iff}
 use Rattle.bits.specs.Bits.{bitRows, Reads}
 use Rattle.bits.specs.Bits as bits
-use Rattle.bits.specs.Reading.{alike-clear, alike-back, carried-alike}
+use Rattle.bits.specs.Reading.{carried-alike}
 use Rattle.bits.specs.Answered.{Accepted, Judged, accepted, refused, Reading, answer-ordered}
 
 -- the n digits in out are a right code, and the bits carry it
@@ -67,7 +67,7 @@ module _ {R : ℕ} {May : List Bool → Type 0} {bs : List Bool} {out : List ℕ
   decided : {n : ℕ} {a : Answer} → Accepted R May bs out n → n ≤ size → Falling (take n out) n a → Decided (fs ++ bitRows R May bs) R May bs out a
   decided {n} t m (falling c) =
       let all = was-clear (answer-ordered t (passes c)) refl in
-      let right = alike-clear (alike-back (carried-alike R (t .carries) (t .ends))) all in
+      let right = alike-clear (carried-alike R (t .carries) (t .ends)) .1 all in
       let some : 1 ≤ n = omega (arith, t .ends .less, t .count) in
       gives (clear-both f all)
       (record {
@@ -88,6 +88,6 @@ module _ {R : ℕ} {May : List Bool → Type 0} {bs : List Bool} {out : List ℕ
 
 -- a row before them applies
 pub decide-front :
-    {R : ℕ} {May : List Bool → Type 0} {bs : List Bool} {out : List ℕ} {xs : List Row} {k p : ℕ} (ys : List Row) → under xs ys ≡ true
+    {R : ℕ} {May : List Bool → Type 0} {bs : List Bool} {out : List ℕ} {xs : List Row} {k p : ℕ} (ys : List Row)
     → FirstRefusal xs k p → length out ≡ size → Decision (xs ++ ys) R May bs out (Refused k p)
-decide-front ys t l h = record { answer = refuses (refusal-front ys t l); long = h }
+decide-front ys l h = record { answer = refuses (refusal-front ys l); long = h }

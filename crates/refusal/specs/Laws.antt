@@ -11,7 +11,7 @@ use native.Mathlib.Omega.{arith}
 use Rattle.refusal.specs.declared.Check.{Check}
 use Rattle.refusal.specs.declared.Check.the-variants.{Passed, Refuse}
 use Rattle.refusal.specs.Outcome.{checked}
-use Rattle.refusal.specs.Table.{RowOf, Row, renamed, Applies, Clear, First, FirstRefusal, Answers, passes, fails, OutcomeOf, Outcome, gives, refuses, Promise, Answered, kept, left, row3, row15}
+use Rattle.refusal.specs.Table.{RowOf, Row, renamed, ofList, Applies, Clear, First, FirstRefusal, Answers, passes, fails, OutcomeOf, Outcome, gives, refuses, Promise, Answered, kept, left, row3, row15}
 
 -- ---- one answer
 
@@ -116,15 +116,11 @@ module _ {K : Type 0} (k : K) (p : ℕ) where
   first-back [] ys c h = h
   first-back (r ∷ xs) ys c h = inr (never c, first-back xs ys (others c) h)
 
-  first-behind : (xs ys : List (RowOf K)) → Clear xs → First (xs ++ ys) k p → First ys k p
-  first-behind [] ys c h = h
-  first-behind (r ∷ xs) ys c (inl h) = absurd (never c p (h .1))
-  first-behind (r ∷ xs) ys c (inr h) = first-behind xs ys (others c) (h .1)
-
-  first-before : (xs ys : List (RowOf K)) → (Clear xs → Clear ys) → First (xs ++ ys) k p → First xs k p
-  first-before [] ys f h = f (record { nowhere = λ j q a. a }) .nowhere k p (first-applies ys k p h)
-  first-before (r ∷ xs) ys f (inl h) = inl h
-  first-before (r ∷ xs) ys f (inr h) = inr (h .0, first-before xs ys (λ c. f (clear-both (clear-one {r = r} (h .0)) c)) (h .1))
+  first-either : (xs ys : List (RowOf K)) → First (xs ++ ys) k p → First xs k p ⊎ (Clear xs × First ys k p)
+  first-either [] ys h = inr (record { nowhere = λ j q a. a }, h)
+  first-either (r ∷ xs) ys (inl h) = inl (inl h)
+  first-either (r ∷ xs) ys (inr h) =
+      ⊎-elim (λ a. inl (inr (h .0, a))) (λ b. inr (clear-both (clear-one {r = r} (h .0)) (b .0), b .1)) (first-either xs ys (h .1))
 
 module _ {K : Type 0} {k : K} {p : ℕ} where
   -- a refusal by the front of the table is the table's
@@ -135,13 +131,17 @@ module _ {K : Type 0} {k : K} {p : ℕ} where
   pub refusal-back : {xs ys : List (RowOf K)} → Clear xs → FirstRefusal ys k p → FirstRefusal (xs ++ ys) k p
   refusal-back {xs} {ys} c l = record { is = first-back k p xs ys c (l .is) }
 
-  -- and the table's is that of the rest then
-  pub refusal-behind : (xs ys : List (RowOf K)) → Clear xs → FirstRefusal (xs ++ ys) k p → FirstRefusal ys k p
-  refusal-behind xs ys c l = record { is = first-behind k p xs ys c (l .is) }
+  -- and the table has no others
+  pub refusal-either : (xs ys : List (RowOf K)) → FirstRefusal (xs ++ ys) k p → FirstRefusal xs k p ⊎ (Clear xs × FirstRefusal ys k p)
+  refusal-either xs ys l = ⊎-elim (λ a. inl (record { is = a })) (λ b. inr (b .0, record { is = b .1 })) (first-either k p xs ys (l .is))
 
-  -- it is that of the front, where the rest is clear with the front
+  -- so it is that of the rest where the front is clear
+  pub refusal-behind : (xs ys : List (RowOf K)) → Clear xs → FirstRefusal (xs ++ ys) k p → FirstRefusal ys k p
+  refusal-behind xs ys c l = ⊎-elim (λ a. not-both c a) (λ b. b .1) (refusal-either xs ys l)
+
+  -- and that of the front where the rest is clear with it
   pub refusal-before : (xs ys : List (RowOf K)) → (Clear xs → Clear ys) → FirstRefusal (xs ++ ys) k p → FirstRefusal xs k p
-  refusal-before xs ys f l = record { is = first-before k p xs ys f (l .is) }
+  refusal-before xs ys f l = ⊎-elim (λ a. a) (λ b. not-both (f (b .0)) (b .1)) (refusal-either xs ys l)
 
 -- what a check answered, as its caller learns it
 pub was-clear : {rs : List Row} {a : Check} → Answers rs a → a ≡ Passed → Clear rs
@@ -200,12 +200,19 @@ module _ {K L : Type 0} (f : K → L) where
       inl (ap f (h .0) ∙ sym (m .0), m .1 p .0 (h .1), λ q l a. h .2 q l (m .1 q .1 a))
   first-to (r ∷ xs) (s ∷ ys) k p m (inr h) = inr ((λ q a. h .0 q (m .1 q .1 a)), first-to xs ys k p (m .2) (h .1))
 
+  first-from : (xs : List (RowOf K)) (ys : List (RowOf L)) (j : L) (p : ℕ) → RowByRow f xs ys → First ys j p → (k : K) × (j ≡ f k) × First xs k p
+  first-from [] (s ∷ ys) j p m h = absurd m
+  first-from (r ∷ xs) (s ∷ ys) j p m (inl h) = (r .number, h .0 ∙ m .0, inl (refl, m .1 p .1 (h .1), λ q l a. h .2 q l (m .1 q .0 a)))
+  first-from (r ∷ xs) (s ∷ ys) j p m (inr h) =
+      let (k, e, a) = first-from xs ys j p (m .2) (h .1) in
+      (k, e, inr ((λ q b. h .0 q (m .1 q .0 b)), a))
+
   -- a table whose rows are only called otherwise
   renamed-rows : (rs : List (RowOf K)) → RowByRow f rs (map (renamed f) rs)
   renamed-rows [] = tt
   renamed-rows (r ∷ rs) = (refl, (λ p. ((λ h. h), (λ h. h))), renamed-rows rs)
 
-  pub renamed-alike : (rs : List (RowOf K)) → AlikeBy f rs (map (renamed f) rs)
+  renamed-alike : (rs : List (RowOf K)) → AlikeBy f rs (map (renamed f) rs)
   renamed-alike rs = record { rows = renamed-rows rs }
 
 module _ {K L : Type 0} {f : K → L} {xs : List (RowOf K)} {ys : List (RowOf L)} (a : AlikeBy f xs ys) where
@@ -220,9 +227,26 @@ module _ {K L : Type 0} {f : K → L} {xs : List (RowOf K)} {ys : List (RowOf L)
   pub alike-refusal : {k : K} {p : ℕ} → FirstRefusal xs k p → FirstRefusal ys (f k) p
   alike-refusal {k} {p} l = record { is = first-to f xs ys k p (a .rows) (l .is) }
 
+  alike-back : {j : L} {p : ℕ} → FirstRefusal ys j p → (k : K) × (j ≡ f k) × FirstRefusal xs k p
+  alike-back {j} {p} l = let (k, e, b) = first-from f xs ys j p (a .rows) (l .is) in (k, e, record { is = b })
+
 pub alike-answers : {xs ys : List Row} {r : Check} → Alike xs ys → Answers xs r → Answers ys r
 alike-answers a (passes c) = passes (alike-clear a .0 c)
 alike-answers a (fails l) = fails (alike-refusal a l)
+
+-- the table of one list among several
+module _ (i : ℕ) (rs : List Row) where
+  pub list-clear : Clear rs ↔ Clear (ofList i rs)
+  list-clear = alike-clear (renamed-alike (λ k. (i, k)) rs)
+
+  pub list-refused : {k p : ℕ} → FirstRefusal rs k p → FirstRefusal (ofList i rs) (i, k) p
+  list-refused l = alike-refusal (renamed-alike (λ k. (i, k)) rs) l
+
+  -- it names its list, and says what the list alone says
+  pub list-told : {j k p : ℕ} → FirstRefusal (ofList i rs) (j, k) p → (j ≡ i) × FirstRefusal rs k p
+  list-told {j} {k} {p} l =
+      let (n, e, a) = alike-back (renamed-alike (λ k. (i, k)) rs) l in
+      (ap (λ (x : ℕ × ℕ). x .0) e, subst (λ (m : ℕ). FirstRefusal rs m p) (sym (ap (λ (x : ℕ × ℕ). x .1) e)) a)
 
 -- ---- rows 3 and 15
 

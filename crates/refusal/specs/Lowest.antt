@@ -1,6 +1,6 @@
 -- Document 01, "Refusal numbers": "Where several apply, the lowest number wins, then its first place."
 --
--- In order: a table whose numbers rise; of such a table the refusal is just that. Assumes nothing.
+-- In order: a table whose numbers rise; that the lowest number wins; in a table whose numbers rise it does. Assumes nothing.
 use mathlib.Core.Path.{_≡_, refl}
 use mathlib.Core.Logic.{_⊎_, inl, inr, ⊎-elim, _↔_}
 use mathlib.Core.Bool.{Bool, true, false}
@@ -30,6 +30,10 @@ rises (r ∷ rs) = above (r .number) rs
 pub record Lowest (rs : List Row) (k p : ℕ) : Type 0 where
   pub here : Applies rs k p
   pub lowest : (j q : ℕ) → Applies rs j q → (k < j) ⊎ ((k ≡ j) × (p ≤ q))
+
+-- the table refuses with the lowest number that applies, at its first place
+abbrev pub LowestWins : List Row → Type 0
+LowestWins rs = (k p : ℕ) → FirstRefusal rs k p ↔ Lowest rs k p
 
 both-left : (a b : Bool) → both a b ≡ true → a ≡ true
 both-left true b h = refl
@@ -68,9 +72,8 @@ lowest-first (r ∷ rs) k p t (inr a) f =
       lowest-first rs k p (above-rises (r .number) rs t) a (λ j q b. f j q (inr b)),
     )
 
--- a table whose numbers rise refuses with the lowest number that applies, at its first place
-pub lowest-number : {rs : List Row} (k p : ℕ) → rises rs ≡ true → FirstRefusal rs k p ↔ Lowest rs k p
-lowest-number {rs} k p t = (
+pub lowest-number : {rs : List Row} → rises rs ≡ true → LowestWins rs
+lowest-number {rs} t k p = (
   (λ l. record { here = applied l; lowest = first-lowest rs k p t (l .is) }),
   (λ l. record { is = lowest-first rs k p t (l .here) (l .lowest) }),
 )

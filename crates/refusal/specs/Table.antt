@@ -1,15 +1,15 @@
 -- Document 01, "Refusal numbers": "Where several apply, the lowest number wins, then its first place; a number that a later request
 -- adds stands in this order where that request puts it."
 --
--- A table is a list of rows in that order, and the first row that applies wins, at its first place. Where the numbers of a table rise,
--- and in document 01's own tables they do, this is the lowest number: `Lowest`.
+-- A table is a list of rows in that order, and the first row that applies wins, at its first place. Where the numbers of a table rise
+-- this is the lowest number that applies (`Lowest`); that they do in document 01's own tables is in the crate `zurkhovel`, `Tables`.
 --
 -- In order: a row of the table; the answer that a table allows; the promise of a call with a lent output.
 -- What each row says stands with the input it speaks of. That a table allows one answer, and how checks are put together, is
 -- in `Laws`. Assumes nothing.
 use mathlib.Core.Path.{_≡_}
 use mathlib.Core.Logic.{_⊎_}
-use mathlib.Core.List.{List, [], _∷_, _++_}
+use mathlib.Core.List.{List, [], _∷_, _++_, map}
 use Prim.Native.Nat.{ℕ, _≤_, _<_}
 use lib.ListN.{length}
 use Rattle.laws.specs.Laid.{laidOver}
@@ -29,6 +29,10 @@ Row = RowOf ℕ
 -- the row under another name
 abbrev pub renamed : {K L : Type 0} → (K → L) → RowOf K → RowOf L
 renamed f r = record { number = f (r .number); applies = r .applies }
+
+-- the table of the list i, where a call has several: "A refusal says which list; the first list's comes first."
+abbrev pub ofList : ℕ → List Row → List (RowOf (ℕ × ℕ))
+ofList i rs = map (renamed (λ k. (i, k))) rs
 
 -- one of the rows has the number k and applies at the place p
 abbrev pub Applies : {K : Type 0} → List (RowOf K) → K → ℕ → Type 0

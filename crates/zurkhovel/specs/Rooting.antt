@@ -18,7 +18,7 @@ use Rattle.adjacency.specs.Adjacency.{camEdges}
 use Rattle.zurkhovel.specs.Codes.{LaysEdges}
 use Rattle.zurkhovel.specs.Matrix.{Numbering}
 
--- what is Known where none of rs applies, or the lowest number that does, at its first place
+-- what is Known where none of rs applies, or the refusal of rs
 abbrev pub Judged : List Row → Type 0 → Check → Type 0
 Judged rs Known Passed = Known
 Judged rs Known (Refuse k p) = FirstRefusal rs k p
