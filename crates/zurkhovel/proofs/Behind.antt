@@ -7,7 +7,7 @@ use Rattle.refusal.specs.Table.{Row, Clear, Outcome, Promise, kept, left, Write
 use Rattle.refusal.specs.Laws.{clear-both, refusal-back, Alike, alike-clear, alike-refusal}
 
 -- a table of no rows
-pub none : Clear []
+pub none : Clear {K = ℕ} []
 none = record { nowhere = λ k p a. a }
 
 -- P and Q are the same results

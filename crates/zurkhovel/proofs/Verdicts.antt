@@ -24,16 +24,16 @@ module _ (N P : ℕ) (E F : List ℕ) where
 -- of different sizes
 pub verdict-sizes : {N P : ℕ} {E F : List ℕ} → Clear (listRows N E) → Clear (listRows P F) → (N ≡ P → ⊥) → SameSkeleton N E P F (gives false)
 verdict-sizes {N} {P} {E} {F} k l n =
-    kept (both-clear N P E F .1 (k, l))
+    kept {a = false} (both-clear N P E F .1 (k, l))
     (λ c x y. n (sym (form-size centred centred-form N E c (tree-of N E 1 k) x) ∙ form-size centred centred-form P F c (tree-of P F 1 l) y))
 
 -- by their codes
 module _ {N P : ℕ} {E F : List ℕ} (k : Clear (listRows N E)) (l : Clear (listRows P F)) {old a rest b : List ℕ}
     (v : Writes (centred N E) old N a) (w : Writes (centred P F) rest P b) where
   pub verdict-same : take N a ≡ take P b → SameSkeleton N E P F (gives true)
-  verdict-same e = kept (both-clear N P E F .1 (k, l)) (v .result, v .right, subst (centred P F) (sym (written w) ∙ sym e ∙ written v) (w .right))
+  verdict-same e = kept {a = true} (both-clear N P E F .1 (k, l)) (v .result, v .right, subst (centred P F) (sym (written w) ∙ sym e ∙ written v) (w .right))
 
   pub verdict-different : (take N a ≡ take P b → ⊥) → SameSkeleton N E P F (gives false)
   verdict-different n =
-      kept (both-clear N P E F .1 (k, l))
+      kept {a = false} (both-clear N P E F .1 (k, l))
       (λ c x y. n (written v ∙ centred-form .one (tree-of N E 1 k) (v .right) x ∙ centred-form .one (tree-of P F 1 l) y (w .right) ∙ sym (written w)))

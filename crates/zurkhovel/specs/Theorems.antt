@@ -37,4 +37,4 @@ same-exactly N P E F = (forth, λ (k, l, n, r). back k l (n, r))
     back k l r =
         let (c, x) = centred-form .some N E (tree-of N E 1 k) in
         let (d, y) = centred-form .some P F (tree-of P F 1 l) in
-        kept (both-clear N P E F .1 (k, l)) (d, subst (centred N E) (form-verdict centred centred-form N P E F c d (tree-of N E 1 k) (tree-of P F 1 l) x y .1 r) x, y)
+        kept {a = true} (both-clear N P E F .1 (k, l)) (d, subst (centred N E) (form-verdict centred centred-form N P E F c d (tree-of N E 1 k) (tree-of P F 1 l) x y .1 r) x, y)
