@@ -3,4 +3,5 @@ pub mod Table
 pub mod Outcome
 pub mod Apart
 pub mod Laws
+pub mod Lowest
 pub mod Giving
