@@ -1,7 +1,6 @@
 -- A local array whose first numbers are lent and written, and the answer of an edge list's check behind rows that have nothing to say.
 -- Assumes nothing.
 use mathlib.Core.Path.{_≡_, sym, _∙_}
-use mathlib.Core.Logic.{⊎-elim}
 use mathlib.Core.List.{List, _++_}
 use Prim.Native.Nat.{ℕ, _≤_}
 use native.Mathlib.Omega.{arith}
@@ -10,7 +9,7 @@ use lib.Seq.{length-take-le, take-at}
 use Rattle.laws.specs.Laid.{laidOver}
 use Rattle.refusal.specs.declared.Check.{Check}
 use Rattle.refusal.specs.Table.{Row, Clear, Answers, passes, fails}
-use Rattle.refusal.specs.Laws.{applies-either, applies-right, clear-right}
+use Rattle.refusal.specs.Laws.{clear-right, refusal-behind}
 use Rattle.adjacency.proofs.Writing.{laid-all}
 
 -- ---- the array
@@ -32,8 +31,4 @@ front-laid w n l c h e f = f ∙ laid-all c (take n (replicate {A = ℕ} w 0)) (
 
 pub behind : (xs ys : List Row) {a : Check} → Clear xs → Answers (xs ++ ys) a → Answers ys a
 behind xs ys c (passes k) = passes (clear-right xs ys k)
-behind xs ys c (fails {k} {p} l) =
-    fails (record {
-      applies = ⊎-elim (λ h. absurd (c .nowhere k p h)) (λ h. h) (applies-either xs ys k p (l .applies));
-      first = λ j q a. l .first j q (applies-right xs ys j q a);
-    })
+behind xs ys c (fails l) = fails (refusal-behind xs ys c l)

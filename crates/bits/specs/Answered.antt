@@ -9,8 +9,8 @@ use Prim.Native.Nat.{ℕ, _+_, _-_, _*_, _≤_}
 use native.Mathlib.Omega.{arith}
 use lib.ListN.{length, take, length-append, length-take}
 use lib.Seq.{length-take-le}
-use Rattle.refusal.specs.Table.{Clear, Lowest, Answers, passes}
-use Rattle.refusal.specs.Laws.{clear-one, clear-both, first-place, lowest-front, lowest-back, goes-on}
+use Rattle.refusal.specs.Table.{Clear, FirstRefusal, Answers, passes}
+use Rattle.refusal.specs.Laws.{clear-one, clear-both, first-place, refusal-front, refusal-back, goes-on, alike-answers}
 use Rattle.refusal.specs.declared.Answer.{Answer}
 use Rattle.refusal.specs.declared.Answer.the-variants.{Done, Refused}
 use Rattle.refusal.specs.declared.Check.{Check}
@@ -24,7 +24,7 @@ use Rattle.bits.specs.Bits.{whole, after, row10, row11, endRows, bitRows
 use Rattle.bits.specs.Ends.{end-sum, first-end}
 use Rattle.bits.specs.Laws.{length-bits, after-end}
 use Rattle.bits.specs.Found.{Finds, over, short, ended, Scanned}
-use Rattle.bits.specs.Reading.{more-lowest, carries-end, carried-alike, alike-answers, siblings-alike}
+use Rattle.bits.specs.Reading.{end-refused, carries-end, carried-alike, siblings-alike}
 
 -- the n digits in out end a code, the bits carry it, and none of rows 10 to 12 applies
 pub record Accepted (R : ℕ) (May : List Bool → Type 0) (bs : List Bool) (out : List ℕ) (n : ℕ) : Type 0 where
@@ -37,7 +37,7 @@ pub record Accepted (R : ℕ) (May : List Bool → Type 0) (bs : List Bool) (out
 -- the answer, with out what the reader has written
 pub data Judged (R : ℕ) (May : List Bool → Type 0) (bs : List Bool) (out : List ℕ) : Answer → Type 0 where
   accepted : {n : ℕ} → Accepted R May bs out n → Judged R May bs out (Done n)
-  refused : {k p : ℕ} → Lowest (endRows R May bs) k p → Judged R May bs out (Refused k p)
+  refused : {k p : ℕ} → FirstRefusal (endRows R May bs) k p → Judged R May bs out (Refused k p)
 
 -- and the output keeps its length
 pub record Reading (R : ℕ) (May : List Bool → Type 0) (bs : List Bool) (out : List ℕ) (r : Answer) : Type 0 where
@@ -66,7 +66,7 @@ pub record Within (n len : ℕ) : Type 0 where
   pub long : 2 * n ≤ len + 1
 
 module _ {R : ℕ} {bs : List Bool} {out : List ℕ} where
-  was-over : {r : Found} {p : ℕ} → Finds R bs out r → r ≡ Over p → Lowest (row10 R bs ∷ []) 10 p
+  was-over : {r : Found} {p : ℕ} → Finds R bs out r → r ≡ Over p → FirstRefusal (row10 R bs ∷ []) 10 p
   was-over {p = p} (over {p = q} l) e = let z : q ≡ p = cc in rw z at l
   was-over (short c a) e = let z : _≡_ {A = ℕ} 0 1 = cc in absurd (omega arith)
   was-over (ended c w t) e = let z : _≡_ {A = ℕ} 0 1 = cc in absurd (omega arith)
@@ -94,7 +94,7 @@ module _ {R : ℕ} {bs : List Bool} {out : List ℕ} where
 module _ {R : ℕ} (May : List Bool → Type 0) {bs : List Bool} {out : List ℕ} {r : Found} (s : Scanned R bs out r) where
   pub answer-over : {p : ℕ} → r ≡ Over p → Reading R May bs out (Refused 10 p)
   answer-over e =
-      record { answer = refused (lowest-front (row11 May bs ∷ row12 (whole bs) ∷ []) refl (was-over (s .finds) e)); long = s .long }
+      record { answer = refused (refusal-front (row11 May bs ∷ row12 (whole bs) ∷ []) (was-over (s .finds) e)); long = s .long }
 
   pub answer-short : {n : ℕ} → r ≡ Short n → Reading R May bs out (Refused 12 n)
   answer-short {n} e =
@@ -102,7 +102,7 @@ module _ {R : ℕ} (May : List Bool → Type 0) {bs : List Bool} {out : List ℕ
       let a = t .1 in
       let c : Clear (row11 May bs ∷ []) = clear-one (λ p h. a .1 (p - 1) (h .0)) in
       record {
-        answer = refused (lowest-back (clear-both (t .0) c) (first-place a (λ q l b. omega (arith, a .0, b .0))));
+        answer = refused (refusal-back (clear-both (t .0) c) (first-place a (λ q l b. omega (arith, a .0, b .0))));
         long = s .long;
       }
 
@@ -116,7 +116,7 @@ module _ {R : ℕ} (May : List Bool → Type 0) {bs : List Bool} {out : List ℕ
     -- more follows than may
     pub answer-more : (May (after bs n) → ⊥) → Reading R May bs out (Refused 11 (n + 1))
     answer-more m =
-        record { answer = refused (more-lowest R May bs (was-ended (s .finds) e .0) end-at m); long = s .long }
+        record { answer = refused (end-refused R May bs (was-ended (s .finds) e .0) end-at m); long = s .long }
 
     -- what follows may follow
     pub answer-read : May (after bs n) → Reading R May bs out (Done n)

@@ -1,14 +1,14 @@
--- What a form gives once all its rows are judged: a right digit code, or the lowest number that applies at its first place.
+-- What a form gives once all its rows are judged: a right digit code, or the table's refusal.
 --
 -- In order: the contracts; the order of siblings behind rows 10 to 12; the rows that stand before them. Assumes nothing.
 use mathlib.Core.Path.{_≡_, refl}
-use mathlib.Core.Bool.{Bool, true}
+use mathlib.Core.Bool.{Bool}
 use mathlib.Core.List.{List, [], _∷_, _++_}
 use Prim.Native.Nat.{ℕ, _≤_}
 use native.Mathlib.Omega.{arith}
 use lib.ListN.{length, take}
-use Rattle.refusal.specs.Table.{Row, Clear, Lowest, passes, fails, row3}
-use Rattle.refusal.specs.Laws.{clear-both, size-clear, lowest-front, lowest-back, was-clear, was-lowest, under}
+use Rattle.refusal.specs.Table.{Row, Clear, FirstRefusal, passes, fails, row3}
+use Rattle.refusal.specs.Laws.{clear-both, size-clear, refusal-front, refusal-back, was-clear, was-refused, alike-clear}
 use Rattle.refusal.specs.declared.Answer.{Answer}
 use Rattle.refusal.specs.declared.Answer.the-variants.{Done, Refused}
 use Rattle.code.specs.Limits.{size}
@@ -16,7 +16,7 @@ use Rattle.code.specs.Code.{codeRows, row13}
 use Rattle.code.specs.Ends.{Ends, ends-iff}
 use Rattle.bits.specs.Bits.{bitRows, Reads}
 use Rattle.bits.specs.Bits as bits
-use Rattle.bits.specs.Reading.{alike-clear, alike-back, carried-alike}
+use Rattle.bits.specs.Reading.{carried-alike}
 use Rattle.bits.specs.Answered.{Accepted, Judged, accepted, refused, Reading, answer-ordered}
 
 -- the n digits in out are a right code, and the bits carry it
@@ -30,7 +30,7 @@ pub record Right (R : ℕ) (May : List Bool → Type 0) (bs : List Bool) (out : 
 -- the answer of a table, with out what the reader has written
 pub data Decided (rs : List Row) (R : ℕ) (May : List Bool → Type 0) (bs : List Bool) (out : List ℕ) : Answer → Type 0 where
   gives : {n : ℕ} → Clear rs → Right R May bs out n → Decided rs R May bs out (Done n)
-  refuses : {k p : ℕ} → Lowest rs k p → Decided rs R May bs out (Refused k p)
+  refuses : {k p : ℕ} → FirstRefusal rs k p → Decided rs R May bs out (Refused k p)
 
 -- and the output keeps its length
 pub record Decision (rs : List Row) (R : ℕ) (May : List Bool → Type 0) (bs : List Bool) (out : List ℕ) (r : Answer) : Type 0 where
@@ -45,7 +45,7 @@ Ended out (Refused k p) = Unit {0}
 -- what the order of siblings in the code c of n digits answers
 pub data Falling (c : List ℕ) (n : ℕ) : Answer → Type 0 where
   falling : Clear (row13 c ∷ []) → Falling c n (Done n)
-  larger : {k p : ℕ} → Lowest (row13 c ∷ []) k p → Falling c n (Refused k p)
+  larger : {k p : ℕ} → FirstRefusal (row13 c ∷ []) k p → Falling c n (Refused k p)
 
 -- and what it makes of the answer before it: a refusal stays
 abbrev pub Ordered : List ℕ → Answer → Answer → Type 0
@@ -67,7 +67,7 @@ module _ {R : ℕ} {May : List Bool → Type 0} {bs : List Bool} {out : List ℕ
   decided : {n : ℕ} {a : Answer} → Accepted R May bs out n → n ≤ size → Falling (take n out) n a → Decided (fs ++ bitRows R May bs) R May bs out a
   decided {n} t m (falling c) =
       let all = was-clear (answer-ordered t (passes c)) refl in
-      let right = alike-clear (alike-back (carried-alike R (t .carries) (t .ends))) all in
+      let right = alike-clear (carried-alike R (t .carries) (t .ends)) .1 all in
       let some : 1 ≤ n = omega (arith, t .ends .less, t .count) in
       gives (clear-both f all)
       (record {
@@ -77,17 +77,17 @@ module _ {R : ℕ} {May : List Bool → Type 0} {bs : List Bool} {out : List ℕ
         some = some;
         most = m;
       })
-  decided t m (larger l) = refuses (lowest-back f (was-lowest (answer-ordered t (fails l)) refl))
+  decided t m (larger l) = refuses (refusal-back f (was-refused (answer-ordered t (fails l)) refl))
 
   judged : {r a : Answer} → Judged R May bs out r → length out ≡ size → Ordered out r a → Decided (fs ++ bitRows R May bs) R May bs out a
   judged (accepted t) h o = decided t (omega (arith, t .room)) o
-  judged (refused l) h e = rw e (refuses (lowest-back f (lowest-front (bits.row13 bs ∷ []) refl l)))
+  judged (refused l) h e = rw e (refuses (refusal-back f (refusal-front (bits.row13 bs ∷ []) l)))
 
   pub decide-ordered : {r a : Answer} → Reading R May bs out r → Ordered out r a → Decision (fs ++ bitRows R May bs) R May bs out a
   decide-ordered s o = record { answer = judged (s .answer) (s .long) o; long = s .long }
 
 -- a row before them applies
 pub decide-front :
-    {R : ℕ} {May : List Bool → Type 0} {bs : List Bool} {out : List ℕ} {xs : List Row} {k p : ℕ} (ys : List Row) → under xs ys ≡ true
-    → Lowest xs k p → length out ≡ size → Decision (xs ++ ys) R May bs out (Refused k p)
-decide-front ys t l h = record { answer = refuses (lowest-front ys t l); long = h }
+    {R : ℕ} {May : List Bool → Type 0} {bs : List Bool} {out : List ℕ} {xs : List Row} {k p : ℕ} (ys : List Row)
+    → FirstRefusal xs k p → length out ≡ size → Decision (xs ++ ys) R May bs out (Refused k p)
+decide-front ys l h = record { answer = refuses (refusal-front ys l); long = h }

@@ -6,8 +6,8 @@ use mathlib.Core.List.{List, [], _∷_, _++_}
 use Prim.Native.Nat.{ℕ, zero, suc, _-_, _*_, _^_}
 use native.Mathlib.Omega.{arith}
 use lib.ListN.{length, getD}
-use Rattle.refusal.specs.Table.{Lowest, row3}
-use Rattle.refusal.specs.Laws.{clear-one, clear-both, lowest-back}
+use Rattle.refusal.specs.Table.{FirstRefusal, row3}
+use Rattle.refusal.specs.Laws.{clear-one, clear-both, refusal-back}
 use Rattle.code.specs.Limits.{valence}
 use Rattle.code.specs.Code as code
 use Rattle.code.specs.Ends.{ends-iff}
@@ -63,7 +63,7 @@ quarter : fractionBits (2 ^ 51) false ≡ bits (0 ∷ []) ++ (true ∷ word 51 0
 unfolding word bit bits fractionBits
 quarter = refl
 
-pub refused-quarter : Lowest (bitRows valence Zeros (fractionBits (2 ^ 51) false)) 11 2
+pub refused-quarter : FirstRefusal (bitRows valence Zeros (fractionBits (2 ^ 51) false)) 11 2
 refused-quarter =
     rw quarter (more-refused valence Zeros (0 ∷ []) (true ∷ word 51 0) (ends-iff (0 ∷ []) .0 tt) none-over first-bit)
   where
@@ -78,7 +78,7 @@ last-bit : Zeros (word 52 0 ++ (true ∷ [])) → ⊥
 unfolding word bit
 last-bit z = true≢false (ap (λ (l : List Bool). getD l 52 false) z)
 
-pub refused-small : Lowest (bitRows valence Zeros (fractionBits 0 true)) 11 2
+pub refused-small : FirstRefusal (bitRows valence Zeros (fractionBits 0 true)) 11 2
 refused-small =
     rw small (more-refused valence Zeros (0 ∷ []) (word 52 0 ++ (true ∷ [])) (ends-iff (0 ∷ []) .0 tt) none-over last-bit)
 
@@ -87,9 +87,9 @@ sixteen : word 5 16 ≡ bits (1 ∷ 0 ∷ []) ++ (false ∷ false ∷ [])
 unfolding word bit bits
 sixteen = refl
 
-pub refused-sixteen : Lowest (wholeRows wholeSize valence 3 16) 11 3
+pub refused-sixteen : FirstRefusal (wholeRows wholeSize valence 3 16) 11 3
 refused-sixteen =
-    lowest-back
+    refusal-back
     (clear-both (clear-one {r = row3 32 3} in-range) (clear-one {r = row4 3 16} (λ p a. omega (arith, a .1))))
     (rw sixteen
     (more-refused valence Nothing (1 ∷ 0 ∷ []) (false ∷ false ∷ []) (ends-iff (1 ∷ 0 ∷ []) .0 tt) none-over-10 more))

@@ -10,7 +10,7 @@ use native.Mathlib.Nat.{le-refl}
 use native.Mathlib.Omega.{arith}
 use lib.ListN.{length, take, drop, set, length-append, length-set, drop-of-length-le}
 use lib.Seq.{take-suc-set, take-take}
-use Rattle.refusal.specs.Table.{Clear, Lowest}
+use Rattle.refusal.specs.Table.{Clear, FirstRefusal}
 use Rattle.code.specs.Limits.{size}
 use Rattle.code.specs.Code.{sum, EndsAt, cap, row12}
 use Rattle.bits.specs.declared.Found.{Found}
@@ -25,7 +25,7 @@ use Rattle.bits.specs.Steps.{Front, front-none, step-over, step-short, s
 
 -- what was found of the bits, with out what the reader has written
 pub data Finds (R : ℕ) (bs : List Bool) (out : List ℕ) : Found → Type 0 where
-  over : {p : ℕ} → Lowest (row10 R bs ∷ []) 10 p → Finds R bs out (Over p)
+  over : {p : ℕ} → FirstRefusal (row10 R bs ∷ []) 10 p → Finds R bs out (Over p)
   short : {n : ℕ} → Clear (row10 R bs ∷ []) → row12 (whole bs) .applies n → Finds R bs out (Short n)
   ended : {n : ℕ} → Clear (row10 R bs ∷ []) → EndsAt (whole bs) n → take n out ≡ take n (whole bs) → Finds R bs out (Ended n)
 

@@ -1,7 +1,7 @@
 -- An accepted input carries a right digit code, and no other input does; what is refused of the bits is what is refused of the digits
 -- and of what follows them. For every form: May says what may follow.
 --
--- In order: tables that apply alike; the rows of bits that carry a code; both ways between a clear table and a reading; one code.
+-- In order: the rows of bits that carry a code; both ways between a clear table and a reading; one code.
 -- Assumes nothing.
 use mathlib.Core.Path.{_≡_, refl, sym, _∙_}
 use mathlib.Core.Logic.{_⊎_, inl, inr}
@@ -10,30 +10,14 @@ use mathlib.Core.List.{List, [], _∷_, _++_}
 use Prim.Native.Nat.{ℕ, suc, _+_, _-_, _≤_, _<_}
 use native.Mathlib.Omega.{arith}
 use lib.ListN.{length, take, length-append, List·getD-append}
-use Rattle.refusal.specs.Table.{Row, Applies, Clear, Lowest, Answers, passes, fails}
-use Rattle.refusal.specs.Laws.{clear-one, first-place, lowest-front, lowest-back}
-use Rattle.refusal.specs.declared.Check.{Check}
+use Rattle.refusal.specs.Table.{Clear, FirstRefusal}
+use Rattle.refusal.specs.Laws.{clear-one, first-place, refusal-front, refusal-back, Alike, alike-clear}
 use Rattle.code.specs.Code.{EndsAt, Larger, digit, row12, digitRows}
 use Rattle.code.specs.Code as code
 use Rattle.code.specs.Counting.{one-end, some-end}
 use Rattle.bits.specs.Bits.{bits, whole, runs, after, row10, row11, row13, endRows, bitRows, Carries, Reads}
 use Rattle.bits.specs.Ends.{first-end, right-ends}
 use Rattle.bits.specs.Laws.{read-bits, after-end, after-code, code-ends, code-read, one-code}
-
--- two tables apply alike
-pub record Alike (xs ys : List Row) : Type 0 where
-  pub to : (k p : ℕ) → Applies xs k p → Applies ys k p
-  pub from : (k p : ℕ) → Applies ys k p → Applies xs k p
-
-pub alike-clear : {xs ys : List Row} → Alike xs ys → Clear xs → Clear ys
-alike-clear a c = record { nowhere = λ k p h. c .nowhere k p (a .from k p h) }
-
-pub alike-answers : {xs ys : List Row} {r : Check} → Alike xs ys → Answers xs r → Answers ys r
-alike-answers a (passes c) = passes (alike-clear a c)
-alike-answers a (fails {k} {p} l) = fails (record { applies = a .to k p (l .applies); first = λ j q h. l .first j q (a .from j q h) })
-
-pub alike-back : {xs ys : List Row} → Alike xs ys → Alike ys xs
-alike-back a = record { to = a .from; from = a .to }
 
 -- the bits of a code that ends, and anything behind them
 module _ (c : List ℕ) (fs : List Bool) (h : EndsAt c (length c)) where
@@ -81,38 +65,35 @@ module _ (c : List ℕ) (fs : List Bool) (h : EndsAt c (length c)) where
 
   -- the bits are refused as the digits are
   pub rows-alike : (R : ℕ) (May : List Bool → Type 0) → May fs → Alike (digitRows R c) (bitRows R May (bits c ++ fs))
-  rows-alike R May m = record { to = to; from = from }
-    where
-      to : (k p : ℕ) → Applies (digitRows R c) k p → Applies (bitRows R May (bits c ++ fs)) k p
-      to k p (inl a) = inl (a .0, ten-bits R p (a .1))
-      to k p (inr (inl a)) = absurd (never-eleven p (a .1))
-      to k p (inr (inr (inl a))) = absurd (never-twelve p (a .1))
-      to k p (inr (inr (inr (inl a)))) = inr (inr (inr (inl (a .0, thirteen-bits p (a .1)))))
-
-      from : (k p : ℕ) → Applies (bitRows R May (bits c ++ fs)) k p → Applies (digitRows R c) k p
-      from k p (inl a) = inl (a .0, ten-digits R p (a .1))
-      from k p (inr (inl a)) = absurd (never-more May m p (a .1))
-      from k p (inr (inr (inl a))) = absurd (never-cut p (a .1))
-      from k p (inr (inr (inr (inl a)))) = inr (inr (inr (inl (a .0, thirteen-digits p (a .1)))))
+  rows-alike R May m =
+      record {
+        rows = (
+          refl,
+          (λ p. (ten-bits R p, ten-digits R p)),
+          (
+            refl,
+            (λ p. ((λ a. absurd (never-eleven p a)), (λ a. absurd (never-more May m p a)))),
+            (
+              refl,
+              (λ p. ((λ a. absurd (never-twelve p a)), (λ a. absurd (never-cut p a)))),
+              (refl, (λ p. (thirteen-bits p, thirteen-digits p)), tt),
+            ),
+          ),
+        );
+      }
 
   -- 13 of the bits is 13 of the digits
   pub siblings-alike : Alike (code.row13 c ∷ []) (row13 (bits c ++ fs) ∷ [])
-  siblings-alike = record { to = to; from = from }
-    where
-      to : (k p : ℕ) → Applies (code.row13 c ∷ []) k p → Applies (row13 (bits c ++ fs) ∷ []) k p
-      to k p (inl a) = inl (a .0, thirteen-bits p (a .1))
-
-      from : (k p : ℕ) → Applies (row13 (bits c ++ fs) ∷ []) k p → Applies (code.row13 c ∷ []) k p
-      from k p (inl a) = inl (a .0, thirteen-digits p (a .1))
+  siblings-alike = record { rows = (refl, (λ p. (thirteen-bits p, thirteen-digits p)), tt) }
 
 -- where more follows the end than may, and no digit is above its cap, 11 is given at the next digit's number
-pub more-lowest :
+pub end-refused :
     (R : ℕ) (May : List Bool → Type 0) (bs : List Bool) {n : ℕ} → Clear (row10 R bs ∷ []) → EndsAt (whole bs) n → (May (after bs n) → ⊥)
-    → Lowest (endRows R May bs) 11 (n + 1)
-more-lowest R May bs {n} c w m =
+    → FirstRefusal (endRows R May bs) 11 (n + 1)
+end-refused R May bs {n} c w m =
     let z : n + 1 - 1 ≡ n = omega arith in
-    lowest-front (row12 (whole bs) ∷ []) refl
-    (lowest-back c (first-place {r = row11 May bs} {p = n + 1} (rw z w, rw z m) (λ q l a. omega (arith, one-end (a .0) w, w .less))))
+    refusal-front (row12 (whole bs) ∷ [])
+    (refusal-back c (first-place {r = row11 May bs} {p = n + 1} (rw z w, rw z m) (λ q l a. omega (arith, one-end (a .0) w, w .less))))
 
 -- up to its end, what is read is carried, and what follows it may follow
 pub carries-end : {May : List Bool → Type 0} {bs : List Bool} {e : ℕ} → EndsAt (whole bs) e → May (after bs e) → Carries May bs (take e (whole bs))
@@ -126,7 +107,7 @@ carried-alike {May} {bs} {c} R k h = rw (k .same) (rows-alike c (k .fill) h R Ma
 
 -- what carries a right code is clear
 pub reading-clear : {R : ℕ} {May : List Bool → Type 0} {bs : List Bool} {c : List ℕ} → Reads R May bs c → Clear (bitRows R May bs)
-reading-clear {R} {c = c} r = alike-clear (carried-alike R (r .carries) (right-ends c (r .right))) (r .right)
+reading-clear {R} {c = c} r = alike-clear (carried-alike R (r .carries) (right-ends c (r .right))) .0 (r .right)
 
 -- and what is clear carries one
 pub clear-reading
@@ -137,7 +118,7 @@ clear-reading {R} {May} dec bs t = go (some-end (whole bs))
     may : (e : ℕ) → EndsAt (whole bs) e → Dec (May (after bs e)) → (c : List ℕ) × Reads R May bs c
     may e w (yes m) =
         let k = carries-end w m in
-        (take e (whole bs), record { carries = k; right = alike-clear (alike-back (carried-alike R k (first-end w))) t })
+        (take e (whole bs), record { carries = k; right = alike-clear (carried-alike R k (first-end w)) .1 t })
     may e w (no m) =
         let z : suc e - 1 ≡ e = omega arith in
         absurd (t .nowhere 11 (suc e) (inr (inl (refl, (rw z w, rw z m)))))
@@ -156,7 +137,7 @@ one-reading {c = c} {d} r q =
 -- bits that begin with a code whose digits are within their caps, and go on as May does not allow, are refused 11 behind it
 pub more-refused :
     (R : ℕ) (May : List Bool → Type 0) (c : List ℕ) (fs : List Bool) → EndsAt c (length c) → ((p : ℕ) → code.row10 R c .applies p → ⊥)
-    → (May fs → ⊥) → Lowest (bitRows R May (bits c ++ fs)) 11 (length c + 1)
+    → (May fs → ⊥) → FirstRefusal (bitRows R May (bits c ++ fs)) 11 (length c + 1)
 more-refused R May c fs h s m =
-    lowest-front (row13 (bits c ++ fs) ∷ []) refl
-    (more-lowest R May (bits c ++ fs) (clear-one (λ p a. s p (ten-digits c fs h R p a))) (code-ends fs h) (rw (after-code c fs h) m))
+    refusal-front (row13 (bits c ++ fs) ∷ [])
+    (end-refused R May (bits c ++ fs) (clear-one (λ p a. s p (ten-digits c fs h R p a))) (code-ends fs h) (rw (after-code c fs h) m))

@@ -12,7 +12,7 @@ use native.Mathlib.Numerals.{add-one}
 use native.Mathlib.Omega.{arith}
 use lib.ListN.{length, take, drop, getD, replicate, length-append, length-drop, List·getD-append}
 use lib.Seq.{getD-append-seam, getD-append-add, take-append-seam, take-append-le, take-length, drop-drop}
-use Rattle.refusal.specs.Table.{Clear, Lowest}
+use Rattle.refusal.specs.Table.{Clear, FirstRefusal}
 use Rattle.refusal.specs.Laws.{clear-one, first-place}
 use Rattle.code.specs.Code.{sum, EndsAt, digit, cap, row12}
 use Rattle.code.specs.Counting.{sum-append}
@@ -112,7 +112,7 @@ module _ {R : ℕ} {bs : List Bool} {ds : List ℕ} {b : ℕ} (f : Front R bs ds
 
   -- the next digit is above its cap
   pub step-over
-      : (m k : ℕ) → Open ds (length ds) → Near m k (drop b bs) → cap R (length ds + 1) < k → Lowest (row10 R bs ∷ []) 10 (length ds + 1)
+      : (m k : ℕ) → Open ds (length ds) → Near m k (drop b bs) → cap R (length ds + 1) < k → FirstRefusal (row10 R bs ∷ []) 10 (length ds + 1)
   step-over m k o n l =
       first-place
       (omega arith, next-within, (λ e h. omega (arith, open-none (open-whole o) e h)), rw digit-next (omega (arith, n .low)))

@@ -10,8 +10,8 @@ use native.Mathlib.Decide.{decLt, ℕ-discrete}
 use native.Mathlib.Omega.{arith}
 use lib.ListN.{length, getD, take}
 use lib.Seq.{take-suc}
-use Rattle.refusal.specs.Table.{Clear, Lowest}
-use Rattle.refusal.specs.Laws.{clear-one, clear-both, first-place, lowest-front, lowest-back, never, others}
+use Rattle.refusal.specs.Table.{Clear, FirstRefusal}
+use Rattle.refusal.specs.Laws.{clear-one, clear-both, first-place, refusal-front, refusal-back, never, others}
 use Rattle.code.specs.Code.{sum, EndsAt, row11, row12}
 
 pub sum-append : (x y : List ℕ) → sum (x ++ y) ≡ sum x + sum y
@@ -74,15 +74,15 @@ module _ {c : List ℕ} where
       clear-both (clear-one (λ p h. let z : ⊥ = omega (arith, h .0, at-end p e a (h .1)) in z)) (clear-one (λ p h. h .1 e a))
 
   -- it ends before
-  pub ends-early : {e : ℕ} → EndsAt c e → e < length c → Lowest (row11 c ∷ row12 c ∷ []) 11 (e + 1)
+  pub ends-early : {e : ℕ} → EndsAt c e → e < length c → FirstRefusal (row11 c ∷ row12 c ∷ []) 11 (e + 1)
   ends-early {e} a h =
       let n : (e + 1) - 1 ≡ e = omega arith in
-      lowest-front (row12 c ∷ []) refl (first-place {r = row11 c} (omega arith, rw n a) (λ q l k. let z : ⊥ = omega (arith, at-end q e a (k .1)) in z))
+      refusal-front (row12 c ∷ []) (first-place {r = row11 c} (omega arith, rw n a) (λ q l k. let z : ⊥ = omega (arith, at-end q e a (k .1)) in z))
 
   -- it does not end
-  pub ends-not : {places i : ℕ} → Open c places i → length c ≤ i → Lowest (row11 c ∷ row12 c ∷ []) 12 i
+  pub ends-not : {places i : ℕ} → Open c places i → length c ≤ i → FirstRefusal (row11 c ∷ row12 c ∷ []) 12 i
   ends-not {i = i} o l =
-      lowest-back
+      refusal-back
       (clear-one {r = row11 c} (λ p h. none (p - 1) (h .1)))
       (first-place {r = row12 c} (omega (arith, o .within), none) (λ q g k. let z : ⊥ = omega (arith, k .0, o .within) in z))
     where

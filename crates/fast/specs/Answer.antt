@@ -7,7 +7,7 @@ use Prim.Native.Nat.{ℕ}
 use native.Mathlib.Omega.{arith}
 use lib.ListN.{length}
 use Rattle.refusal.specs.Table.{Answers, passes, fails}
-use Rattle.refusal.specs.Laws.{clear-one, clear-both, first-place, lowest-front, lowest-back}
+use Rattle.refusal.specs.Laws.{clear-one, clear-both, first-place, refusal-front, refusal-back}
 use Rattle.refusal.specs.declared.Check.{Check}
 use Rattle.refusal.specs.declared.Check.the-variants.{Passed, Refuse}
 use Rattle.code.specs.Code.{decode, codeRows}
@@ -33,8 +33,8 @@ module _ {most R : ℕ} {c : List ℕ} (k : Right most R c) where
 module _ {most R : ℕ} {c : List ℕ} where
   pub when-wrong : {r : Check} → (Right most R c → ⊥) → Answers (codeRows most R c) r → Answers (formRows centred most R c) r
   when-wrong n (passes k) = absurd (n (clear-right most R c k))
-  when-wrong n (fails l) = fails (lowest-front (row14 centred c ∷ []) refl l)
+  when-wrong n (fails l) = fails (refusal-front (row14 centred c ∷ []) l)
 
   pub when-right : {r : Check} → Right most R c → Answers (row14 centred c ∷ []) r → Answers (formRows centred most R c) r
   when-right k (passes d) = passes (clear-both (right-clear most R c k) d)
-  when-right k (fails l) = fails (lowest-back (right-clear most R c k) l)
+  when-right k (fails l) = fails (refusal-back (right-clear most R c k) l)

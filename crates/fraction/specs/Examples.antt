@@ -5,8 +5,8 @@ use mathlib.Core.List.{[], _∷_}
 use Prim.Native.Nat.{_^_}
 use lib.Dec.{lit<, lit≤}
 use lib.Ieee.{Float, binary64, ofBits, fits}
-use Rattle.refusal.specs.Table.{Lowest}
-use Rattle.refusal.specs.Laws.{lowest-front, was-lowest}
+use Rattle.refusal.specs.Table.{FirstRefusal}
+use Rattle.refusal.specs.Laws.{refusal-front, was-refused}
 use Rattle.code.specs.Limits.{valence}
 use Rattle.bits.specs.Bits.{bit, bits, word, fractionBits, Zeros, bitRows}
 use Rattle.bits.specs.Examples.{refused-quarter, refused-small}
@@ -45,16 +45,16 @@ unfolding ofBits
 small = refl
 
 pub refused-11 :
-    Lowest (bitRows valence Zeros (bitsOf (ofBits binary64 0x3fd0000000000000))) 11 2
-    × Lowest (bitRows valence Zeros (bitsOf (ofBits binary64 0x3c30000000000000))) 11 2
+    FirstRefusal (bitRows valence Zeros (bitsOf (ofBits binary64 0x3fd0000000000000))) 11 2
+    × FirstRefusal (bitRows valence Zeros (bitsOf (ofBits binary64 0x3c30000000000000))) 11 2
 refused-11 = (rw quarter refused-quarter, rw small refused-small)
 
-out-of-range : (x : Float) → Outside x → Lowest (fractionRows valence x) 4 0
-out-of-range x o = lowest-front (bitRows valence Zeros (bitsOf x)) refl (was-lowest (refused-outside x o) refl)
+out-of-range : (x : Float) → Outside x → FirstRefusal (fractionRows valence x) 4 0
+out-of-range x o = refusal-front (bitRows valence Zeros (bitsOf x)) (was-refused (refused-outside x o) refl)
 
 -- 1.0 and negative zero, refused 4
 pub refused-4 :
-    Lowest (fractionRows valence (ofBits binary64 0x3ff0000000000000)) 4 0
-    × Lowest (fractionRows valence (ofBits binary64 0x8000000000000000)) 4 0
+    FirstRefusal (fractionRows valence (ofBits binary64 0x3ff0000000000000)) 4 0
+    × FirstRefusal (fractionRows valence (ofBits binary64 0x8000000000000000)) 4 0
 unfolding ofBits
 refused-4 = (out-of-range (ofBits binary64 0x3ff0000000000000) (lit≤ tt), out-of-range (ofBits binary64 0x8000000000000000) tt)

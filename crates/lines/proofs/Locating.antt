@@ -1,15 +1,14 @@
--- The rows that are looked at before a line's digits: which of them is the lowest, from what was found. Assumes nothing.
+-- The rows that are looked at before a line's digits: which of them refuses, from what was found. Assumes nothing.
 use mathlib.Core.Path.{_≡_, refl, sym, subst, _∙_}
 use mathlib.Core.Logic.{⊎-elim}
-use mathlib.Core.Bool.{true}
 use mathlib.Core.List.{List, [], _∷_}
 use Prim.Native.Nat.{ℕ, zero, suc, _-_, _≤_}
 use native.Mathlib.Omega.{arith}
 use lib.ListN.{length, take, drop}
 use lib.Seq.{take-nil, length-take-le}
 use Rattle.laws.specs.Part.{part, part-length}
-use Rattle.refusal.specs.Table.{Row, Lowest, Outside}
-use Rattle.refusal.specs.Laws.{under, clear-one, first-place, lowest-front, lowest-back}
+use Rattle.refusal.specs.Table.{Row, FirstRefusal, Outside}
+use Rattle.refusal.specs.Laws.{clear-one, first-place, refusal-front, refusal-back}
 use Rattle.lines.specs.declared.Opening.{Opening}
 use Rattle.lines.specs.declared.Opening.the-variants.{At, Nothing}
 use Rattle.lines.specs.declared.Span.{Span}
@@ -21,36 +20,36 @@ use Rattle.lines.specs.Answered.{where-is, shaped-fed}
 use Rattle.lines.specs.Taking.{length-values, unfed, fed-cut}
 
 -- the first row applies at 0
-here : {r : Row} (rs : List Row) → r .applies 0 → under (r ∷ []) rs ≡ true → Lowest (r ∷ rs) (r .number) 0
-here {r} rs h t = lowest-front {xs = r ∷ []} rs t (first-place h (λ q l a. absurd (omega arith)))
+here : {r : Row} (rs : List Row) → r .applies 0 → FirstRefusal (r ∷ rs) (r .number) 0
+here {r} rs h = refusal-front rs (first-place {r = r} h (λ q l a. absurd (omega arith)))
 
 -- or it does not apply
-after : {r : Row} {rs : List Row} {k p : ℕ} → ((q : ℕ) → r .applies q → ⊥) → Lowest rs k p → Lowest (r ∷ rs) k p
-after {r} f l = lowest-back {xs = r ∷ []} (clear-one f) l
+after : {r : Row} {rs : List Row} {k p : ℕ} → ((q : ℕ) → r .applies q → ⊥) → FirstRefusal rs k p → FirstRefusal (r ∷ rs) k p
+after {r} f l = refusal-back (clear-one {r = r} f) l
 
 module _ (most : ℕ) {t : List ℕ} where
-  lowest-1 : Free 10 t → Lowest (frontRows most t) 1 0
-  lowest-1 f = here {r = row1 t} (row2 t ∷ row3 most t ∷ row5 t ∷ []) (refl, f) refl
+  refused-1 : Free 10 t → FirstRefusal (frontRows most t) 1 0
+  refused-1 f = here {r = row1 t} (row2 t ∷ row3 most t ∷ row5 t ∷ []) (refl, f)
 
-  lowest-2 : {b rest : List ℕ} → Cut 10 t b rest → ((n : ℕ) (ds : List ℕ) → Formed b n ds → ⊥) → Lowest (frontRows most t) 2 0
-  lowest-2 {b} {rest} c h =
+  refused-2 : {b rest : List ℕ} → Cut 10 t b rest → ((n : ℕ) (ds : List ℕ) → Formed b n ds → ⊥) → FirstRefusal (frontRows most t) 2 0
+  refused-2 {b} {rest} c h =
       after {r = row1 t} (λ q f. not-free 10 b rest (rw (c .parts) at (f .1)))
       (here {r = row2 t} (row3 most t ∷ row5 t ∷ [])
-      (refl, λ n ds s. h n ds (rw (cut-once 10 t (s .text) (s .rest) b rest (s .feed) c .0) at (s .formed))) refl)
+      (refl, λ n ds s. h n ds (rw (cut-once 10 t (s .text) (s .rest) b rest (s .feed) c .0) at (s .formed))))
 
   module _ {n : ℕ} {ds : List ℕ} (s : Shaped t n ds) where
-    formed-on : {k p : ℕ} → Lowest (row3 most t ∷ row5 t ∷ []) k p → Lowest (frontRows most t) k p
+    formed-on : {k p : ℕ} → FirstRefusal (row3 most t ∷ row5 t ∷ []) k p → FirstRefusal (frontRows most t) k p
     formed-on l = after {r = row1 t} (λ q f. shaped-fed s (f .1)) (after {r = row2 t} (λ q f. f .1 n ds s) l)
 
-    lowest-3 : Outside most n → Lowest (frontRows most t) 3 0
-    lowest-3 o =
-        formed-on (here {r = row3 most t} (row5 t ∷ []) (refl, record { count = n; digits = ds; shape = s; holds = o }) refl)
+    refused-3 : Outside most n → FirstRefusal (frontRows most t) 3 0
+    refused-3 o =
+        formed-on (here {r = row3 most t} (row5 t ∷ []) (refl, record { count = n; digits = ds; shape = s; holds = o }))
 
-    lowest-5 : (Outside most n → ⊥) → (length ds ≡ n → ⊥) → Lowest (frontRows most t) 5 0
-    lowest-5 i e =
+    refused-5 : (Outside most n → ⊥) → (length ds ≡ n → ⊥) → FirstRefusal (frontRows most t) 5 0
+    refused-5 i e =
         formed-on
         (after {r = row3 most t} (λ q f. i (where-is (λ m es. Outside most m) s (f .1)))
-        (here {r = row5 t} [] (refl, record { count = n; digits = ds; shape = s; holds = e }) refl))
+        (here {r = row5 t} [] (refl, record { count = n; digits = ds; shape = s; holds = e })))
 
 -- ---- what was found
 
@@ -68,12 +67,12 @@ pub record Found (t : List ℕ) (e n s : ℕ) : Type 0 where
   pub shape : Shaped t n (values (part s e t))
 
 module _ {t : List ℕ} {e : ℕ} (u : UpTo t e) where
-  pub no-feed : (most : ℕ) → e ≡ length t → Lowest (frontRows most t) 1 0
-  no-feed most q = lowest-1 most {t = t} (unfed u q)
+  pub no-feed : (most : ℕ) → e ≡ length t → FirstRefusal (frontRows most t) 1 0
+  no-feed most q = refused-1 most {t = t} (unfed u q)
 
-  pub no-form : (most : ℕ) {o : Opening} → (e ≡ length t → ⊥) → Forms (take e t) o → o ≡ Nothing → Lowest (frontRows most t) 2 0
+  pub no-form : (most : ℕ) {o : Opening} → (e ≡ length t → ⊥) → Forms (take e t) o → o ≡ Nothing → FirstRefusal (frontRows most t) 2 0
   no-form most n (formed l f h) q = let z : _≡_ {A = ℕ} 0 1 = cc in absurd (let n : ⊥ = omega arith in n)
-  no-form most n (unformed h) q = lowest-2 most (fed-cut u n) h
+  no-form most n (unformed h) q = refused-2 most (fed-cut u n) h
 
   pub found : {o : Opening} {n s : ℕ} → (e ≡ length t → ⊥) → Forms (take e t) o → o ≡ At n s → Found t e n s
   found {n = n} {s} d (formed {n = m} {s = r} l f h) q =
@@ -91,15 +90,15 @@ module _ {t : List ℕ} {e : ℕ} (u : UpTo t e) where
   found d (unformed h) q = let z : _≡_ {A = ℕ} 0 1 = cc in absurd (let n : ⊥ = omega arith in n)
 
 module _ (most : ℕ) {t : List ℕ} {e n s : ℕ} (f : Found t e n s) where
-  pub not-sized : Outside most n → Lowest (frontRows most t) 3 0
-  not-sized o = lowest-3 most (f .shape) o
+  pub not-sized : Outside most n → FirstRefusal (frontRows most t) 3 0
+  not-sized o = refused-3 most (f .shape) o
 
   as-many : length (values (part s e t)) ≡ e - s
   as-many = length-values (part s e t) ∙ part-length s e t (f .within)
 
-  pub not-as-many : (n ≡ 0 → ⊥) → n ≤ most → (e - s ≡ n → ⊥) → Lowest (frontRows most t) 5 0
+  pub not-as-many : (n ≡ 0 → ⊥) → n ≤ most → (e - s ≡ n → ⊥) → FirstRefusal (frontRows most t) 5 0
   not-as-many a b c =
-      lowest-5 most (f .shape) (λ o. ⊎-elim (λ z. a z) (λ l. let x : ⊥ = omega arith in x) o) (λ q. c (sym as-many ∙ q))
+      refused-5 most (f .shape) (λ o. ⊎-elim (λ z. a z) (λ l. let x : ⊥ = omega arith in x) o) (λ q. c (sym as-many ∙ q))
 
   pub standing : (n ≡ 0 → ⊥) → n ≤ most → e - s ≡ n → Stands most t s e
   standing a b c =
@@ -118,6 +117,6 @@ pub located : {most : ℕ} {t : List ℕ} {o : Span} {s e : ℕ} → Located mos
 located {s = s} {e} (stands {s = a} {e = b} h) q = let p : a ≡ s = cc in let r : b ≡ e = cc in rw (← p, ← r) h
 located (refused l) q = let z : _≡_ {A = ℕ} 0 1 = cc in absurd (let n : ⊥ = omega arith in n)
 
-pub unlocated : {most : ℕ} {t : List ℕ} {o : Span} {k : ℕ} → Located most t o → o ≡ Refused k → Lowest (frontRows most t) k 0
+pub unlocated : {most : ℕ} {t : List ℕ} {o : Span} {k : ℕ} → Located most t o → o ≡ Refused k → FirstRefusal (frontRows most t) k 0
 unlocated (stands h) q = let z : _≡_ {A = ℕ} 0 1 = cc in absurd (let n : ⊥ = omega arith in n)
 unlocated {k = k} (refused {k = j} l) q = let p : j ≡ k = cc in rw (← p) l

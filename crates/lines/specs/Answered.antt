@@ -1,15 +1,15 @@
 -- What a line is answered. In order: a line has its form in one way; its table against that of its digits; `look`: a line is answered
 -- with a code exactly where it is that code's line; nothing behind the line feed is looked at. Assumes nothing.
 use mathlib.Core.Path.{_≡_, refl, sym, ap, _∙_}
-use mathlib.Core.Logic.{inl, inr}
+use mathlib.Core.Logic.{inl, inr, _↔_}
 use mathlib.Core.List.{List, [], _∷_, map}
 use Prim.Native.Nat.{ℕ, _≤_, _<_}
 use native.Mathlib.Decide.{ℕ-discrete}
 use native.Mathlib.Omega.{arith}
 use lib.ListN.{length}
 use Rattle.refusal.specs.Table.{Applies, Clear, gives, refuses, kept, left, Outside}
-use Rattle.refusal.specs.Laws.{one-result, never, others}
-use Rattle.lines.specs.Line.{body, Free, Cut, Formed, Shaped, Where, DigitRow, judged, ofLine, lineRows, LineAnswers, Reply}
+use Rattle.refusal.specs.Laws.{one-result, not-both, clear-both, never, others, RowByRow, Alike, alike-clear, alike-refusal}
+use Rattle.lines.specs.Line.{body, Free, Cut, Formed, Shaped, Where, DigitRow, judged, ofLine, frontRows, lineRows, LineAnswers, Reply}
 use Rattle.lines.specs.Damage.{Code, Accept}
 use Rattle.lines.specs.Cuts.{not-free, cut-once}
 use Rattle.lines.specs.Bodies.{formed-once, formed-body, Fits, body-formed, ends}
@@ -36,30 +36,33 @@ shaped-fed s f = not-free 10 (s .text) (s .rest) (rw (s .feed .parts) at f)
 -- ---- rows of a line and of its digits
 
 module _ {t : List ℕ} {n : ℕ} {ds : List ℕ} (s : Shaped t n ds) where
-  pub to-digits : (rows : List DigitRow) (k p : ℕ) → Applies (map (ofLine t) rows) k p → Applies (judged rows ds) k p
-  to-digits (r ∷ rows) k p (inl h) = inl (h .0, where-is (λ m es. r .applies es p) s (h .1))
-  to-digits (r ∷ rows) k p (inr h) = inr (to-digits rows k p h)
+  row-by-row : (rows : List DigitRow) → RowByRow (λ k. k) (judged rows ds) (map (ofLine t) rows)
+  row-by-row [] = tt
+  row-by-row (r ∷ rows) =
+      (refl, (λ p. ((λ h. record { count = n; digits = ds; shape = s; holds = h }), where-is (λ m es. r .applies es p) s)), row-by-row rows)
 
-  pub of-digits : (rows : List DigitRow) (k p : ℕ) → Applies (judged rows ds) k p → Applies (map (ofLine t) rows) k p
-  of-digits (r ∷ rows) k p (inl h) = inl (h .0, record { count = n; digits = ds; shape = s; holds = h .1 })
-  of-digits (r ∷ rows) k p (inr h) = inr (of-digits rows k p h)
+  -- the digits of a line are refused as those digits are
+  pub digits-alike : (rows : List DigitRow) → Alike (judged rows ds) (map (ofLine t) rows)
+  digits-alike rows = record { rows = row-by-row rows }
 
 module _ (most : ℕ) (rows : List DigitRow) where
   -- a line of the form whose digits are accepted, as many as it says
   pub line-clear :
       {t : List ℕ} {n : ℕ} {ds : List ℕ} → Shaped t n ds → length ds ≡ n → 1 ≤ n → Accept most rows ds → Clear (lineRows most rows t)
-  line-clear {t} {n} {ds} s l h a = record { nowhere = no-row }
+  line-clear {t} {n} {ds} s l h a = clear-both front (alike-clear (digits-alike s rows) .0 (a .clear))
     where
       inside : Outside most n → ⊥
       inside (inl e) = omega arith
       inside (inr e) = omega (arith, a .few)
 
-      no-row : (k p : ℕ) → Applies (lineRows most rows t) k p → ⊥
+      no-row : (k p : ℕ) → Applies (frontRows most t) k p → ⊥
       no-row k p (inl e) = shaped-fed s (e .1 .1)
       no-row k p (inr (inl e)) = e .1 .1 n ds s
       no-row k p (inr (inr (inl e))) = inside (where-is (λ m es. Outside most m) s (e .1 .1))
       no-row k p (inr (inr (inr (inl e)))) = where-is (λ m es. length es ≡ m → ⊥) s (e .1 .1) l
-      no-row k p (inr (inr (inr (inr e)))) = a .clear .nowhere k p (to-digits s rows k p e)
+
+      front : Clear (frontRows most t)
+      front = record { nowhere = no-row }
 
   pub clear-line : {t : List ℕ} {n : ℕ} {ds : List ℕ} → Clear (lineRows most rows t) → Shaped t n ds → (length ds ≡ n) × Accept most rows ds
   clear-line {t} {n} {ds} c s =
@@ -67,7 +70,7 @@ module _ (most : ℕ) (rows : List DigitRow) where
       let c5 = others c3 in
       let big : most < n → ⊥ = λ l. never c3 0 (refl, at (inr l)) in
       let l = as-many (ℕ-discrete (length ds) n) (λ e. never c5 0 (refl, at e)) in
-      (l, record { few = omega arith; clear = record { nowhere = λ k p a. others c5 .nowhere k p (of-digits s rows k p a) } })
+      (l, record { few = omega arith; clear = alike-clear (digits-alike s rows) .1 (others c5) })
     where
       at : {P : ℕ → List ℕ → Type 0} → P n ds → Where t P
       at h = record { count = n; digits = ds; shape = s; holds = h }
@@ -82,29 +85,33 @@ module _ {t u b rest more : List ℕ} (c : Cut 10 t b rest) (d : Cut 10 u b more
   where-moves : {P : ℕ → List ℕ → Type 0} → Where t P → Where u P
   where-moves w = record { count = w .count; digits = w .digits; shape = shape-moves c d (w .shape); holds = w .holds }
 
-  digit-rows-move : (rows : List DigitRow) (k p : ℕ) → Applies (map (ofLine t) rows) k p → Applies (map (ofLine u) rows) k p
-  digit-rows-move (r ∷ rows) k p (inl h) = inl (h .0, where-moves (h .1))
-  digit-rows-move (r ∷ rows) k p (inr h) = inr (digit-rows-move rows k p h)
+module _ {t u b rest more : List ℕ} (c : Cut 10 t b rest) (d : Cut 10 u b more) where
+  at-place : {P : ℕ → List ℕ → Type 0} (p : ℕ) → ((p ≡ 0) × Where t P) ↔ ((p ≡ 0) × Where u P)
+  at-place p = ((λ e. (e .0, where-moves c d (e .1))), (λ e. (e .0, where-moves d c (e .1))))
 
-  rows-move : (most : ℕ) (rows : List DigitRow) (k p : ℕ) → Applies (lineRows most rows t) k p → Applies (lineRows most rows u) k p
-  rows-move most rows k p (inl e) = absurd (not-free 10 b rest (rw (c .parts) at (e .1 .1)))
-  rows-move most rows k p (inr (inl e)) = inr (inl (e .0, (e .1 .0, λ n ds s. e .1 .1 n ds (shape-moves d c s))))
-  rows-move most rows k p (inr (inr (inl e))) = inr (inr (inl (e .0, (e .1 .0, where-moves (e .1 .1)))))
-  rows-move most rows k p (inr (inr (inr (inl e)))) = inr (inr (inr (inl (e .0, (e .1 .0, where-moves (e .1 .1))))))
-  rows-move most rows k p (inr (inr (inr (inr e)))) = inr (inr (inr (inr (digit-rows-move rows k p e))))
+  digit-rows : (rows : List DigitRow) → RowByRow (λ k. k) (map (ofLine t) rows) (map (ofLine u) rows)
+  digit-rows [] = tt
+  digit-rows (r ∷ rows) = (refl, (λ p. (where-moves c d, where-moves d c)), digit-rows rows)
+
+  lines-alike : (most : ℕ) (rows : List DigitRow) → Alike (lineRows most rows t) (lineRows most rows u)
+  lines-alike most rows =
+      record {
+        rows = (
+          refl,
+          (λ p. ((λ e. absurd (not-free 10 b rest (rw (c .parts) at (e .1)))), (λ e. absurd (not-free 10 b more (rw (d .parts) at (e .1)))))),
+          (
+            refl,
+            (λ p. ((λ e. (e .0, λ n ds s. e .1 n ds (shape-moves d c s))), (λ e. (e .0, λ n ds s. e .1 n ds (shape-moves c d s))))),
+            (refl, at-place, (refl, at-place, digit-rows rows)),
+          ),
+        );
+      }
 
 pub answer-moves :
     (most : ℕ) (rows : List DigitRow) {t u b rest more : List ℕ} {o : Reply} → Cut 10 t b rest → Cut 10 u b more →
     LineAnswers most rows t o → LineAnswers most rows u o
-answer-moves most rows c d (kept h r) =
-    kept (record { nowhere = λ k p a. h .nowhere k p (rows-move d c most rows k p a) }) (r .0, shape-moves c d (r .1))
-answer-moves most rows c d (left {k} {p} l e) =
-    left
-    (record {
-      applies = rows-move c d most rows k p (l .applies);
-      first = λ j q a. l .first j q (rows-move d c most rows j q a);
-    })
-    e
+answer-moves most rows c d (kept h r) = kept (alike-clear (lines-alike c d most rows) .0 h) (r .0, shape-moves c d (r .1))
+answer-moves most rows c d (left l e) = left (alike-refusal (lines-alike c d most rows) l) e
 
 pub answered-once : (most : ℕ) (rows : List DigitRow) {t : List ℕ} {o p : Reply} → LineAnswers most rows t o → LineAnswers most rows t p → o ≡ p
 answered-once most rows h k = one-result (λ ds es s r. (shaped-once (s .1) (r .1) .1, refl)) h k .0
@@ -132,7 +139,7 @@ module _ (most : ℕ) (rows : List DigitRow) (bound : most ≤ 99) (lawful : (c 
       let a = clear-line most rows h (r .1) in
       let e = cut-once 10 t (r .1 .text) (r .1 .rest) b rest (r .1 .feed) c in
       good (sym (e .0) ∙ formed-body (r .1 .formed) (a .0)) (a .1)
-  look {t} {b} {rest} c (left {k} {p} l e) = bad (λ d q a. refused d q a .nowhere k p (l .applies))
+  look {t} {b} {rest} c (left l e) = bad (λ d q a. not-both (refused d q a) l)
     where
       refused : (d : List ℕ) → b ≡ body d → Accept most rows d → Clear (lineRows most rows t)
       refused d q a =

@@ -5,7 +5,7 @@ use mathlib.Core.List.{List, _∷_, _++_, map}
 use Prim.Native.Nat.{ℕ, _+_, _-_, _≤_, _<_}
 use lib.ListN.{length, getD, take, drop}
 use Rattle.laws.specs.Part.{part}
-use Rattle.refusal.specs.Table.{Lowest}
+use Rattle.refusal.specs.Table.{FirstRefusal}
 use Rattle.lines.specs.declared.Opening.{Opening}
 use Rattle.lines.specs.declared.Opening.the-variants.{At, Nothing}
 use Rattle.lines.specs.declared.Span.{Span}
@@ -71,4 +71,4 @@ pub record Stands (most : ℕ) (t : List ℕ) (s e : ℕ) : Type 0 where
 -- where the digits of t's first line stand, or the refusal that comes before they are judged
 pub data Located (most : ℕ) (t : List ℕ) : Span → Type 0 where
   stands : {s e : ℕ} → Stands most t s e → Located most t (Digits s e)
-  refused : {k : ℕ} → Lowest (frontRows most t) k 0 → Located most t (Refused k)
+  refused : {k : ℕ} → FirstRefusal (frontRows most t) k 0 → Located most t (Refused k)

@@ -2,22 +2,20 @@
 -- is what `LineAnswers` allows. The lines of a text, one behind the other, are in `FirstLines`. Assumes nothing.
 use mathlib.Core.Path.{_≡_, refl, sym, ap, _∙_}
 use mathlib.Core.Logic.{inl, inr, ⊎-elim}
-use mathlib.Core.Bool.{true}
 use mathlib.Core.List.{List, [], _∷_, _++_, map}
 use Prim.Native.Nat.{ℕ, suc, _-_, _≤_, _<_}
-use native.Mathlib.Decide.{ℕ-discrete}
 use native.Mathlib.Omega.{arith}
 use lib.ListN.{length, take, drop, length-map}
 use lib.Seq.{take-all, split-at}
 use Rattle.laws.specs.Laid.{laidOver}
 use Rattle.laws.specs.Part.{part, part-length}
-use Rattle.refusal.specs.Table.{Row, Applies, Clear, Lowest, Outcome, gives, refuses, kept, left, row3}
-use Rattle.refusal.specs.Laws.{under, one-result, clear-one, first-place, applies-left, applies-either, clear-left, clear-both, lowest-front, lowest-back}
+use Rattle.refusal.specs.Table.{Row, Applies, Clear, FirstRefusal, Outcome, gives, refuses, kept, left, row3}
+use Rattle.refusal.specs.Laws.{one-result, clear-one, first-place, clear-left, clear-both, others, refusal-front, refusal-back, refusal-behind, refusal-before, alike-clear, alike-refusal}
 use Rattle.refusal.specs.Giving.{one-written}
 use Rattle.lines.specs.Line.{Free, Cut, DigitRow, judged, ofLine, frontRows, lineRows, LineAnswers, Reply}
 use Rattle.lines.specs.Form.{UpTo, values, Stands}
 use Rattle.lines.specs.Reading.{lineRow15, block, counted, ReadLine}
-use Rattle.lines.specs.Answered.{shaped-once, where-is, to-digits, of-digits, line-clear}
+use Rattle.lines.specs.Answered.{shaped-once, where-is, digits-alike, line-clear, clear-line}
 
 -- the first line feed, or none
 module _ {t : List ℕ} {e : ℕ} (u : UpTo t e) where
@@ -46,9 +44,8 @@ module _ (most : ℕ) (rows : List DigitRow) where
 
   -- a refusal before the digits are judged
   pub read-front :
-      {t old : List ℕ} {k p : ℕ} → under (frontRows most t) (map (ofLine t) rows ++ (lineRow15 t (length old) ∷ [])) ≡ true
-      → Lowest (frontRows most t) k p → ReadLine most rows t old old (refuses k p)
-  read-front {t} {old} u l = left (lowest-front {xs = frontRows most t} (map (ofLine t) rows ++ (lineRow15 t (length old) ∷ [])) u l) refl
+      {t old : List ℕ} {k p : ℕ} → FirstRefusal (frontRows most t) k p → ReadLine most rows t old old (refuses k p)
+  read-front {t} {old} l = left (refusal-front {xs = frontRows most t} (map (ofLine t) rows ++ (lineRow15 t (length old) ∷ [])) l) refl
 
   module _ {t : List ℕ} {s e : ℕ} (h : Stands most t s e) where
     as-many : length (values (part s e t)) ≡ e - s
@@ -72,16 +69,13 @@ module _ (most : ℕ) (rows : List DigitRow) where
     abbrev pub checked : List Row
     checked = row3 most (length (values (part s e t))) ∷ judged rows (values (part s e t))
 
-    lowest-digits : {k p : ℕ} → Lowest checked k p → Lowest (map (ofLine t) rows) k p
-    lowest-digits {k} {p} l =
-        record {
-          applies = ⊎-elim (λ a. absurd (inside p (a .1))) (λ a. of-digits (h .shape) rows k p a) (l .applies);
-          first = λ j q a. l .first j q (inr (to-digits (h .shape) rows j q a));
-        }
+    digits-refused : {k p : ℕ} → FirstRefusal checked k p → FirstRefusal (map (ofLine t) rows) k p
+    digits-refused l =
+        alike-refusal (digits-alike (h .shape) rows)
+        (refusal-behind (row3 most (length (values (part s e t))) ∷ []) (judged rows (values (part s e t))) (clear-one inside) l)
 
     clear-digits : Clear checked → Clear (lineRows most rows t)
-    clear-digits c =
-        clear-both front-clear (record { nowhere = λ k p a. c .nowhere k p (inr (to-digits (h .shape) rows k p a)) })
+    clear-digits c = clear-both front-clear (alike-clear (digits-alike (h .shape) rows) .0 (others c))
 
     -- what the digits need
     need : (lent p : ℕ) → lineRow15 t lent .applies p → (p ≡ e - s) × (lent < e - s)
@@ -90,14 +84,14 @@ module _ (most : ℕ) (rows : List DigitRow) where
     module _ (old : List ℕ) where
       -- a refusal of the digits
       pub read-digits :
-          {k p : ℕ} → under (map (ofLine t) rows) (lineRow15 t (length old) ∷ []) ≡ true → Lowest checked k p → ReadLine most rows t old old (refuses k p)
-      read-digits u l = left (lowest-back front-clear (lowest-front (lineRow15 t (length old) ∷ []) u (lowest-digits l))) refl
+          {k p : ℕ} → FirstRefusal checked k p → ReadLine most rows t old old (refuses k p)
+      read-digits l = left (refusal-back front-clear (refusal-front (lineRow15 t (length old) ∷ []) (digits-refused l))) refl
 
       -- what is lent is too short
       pub read-short : Clear checked → length old < e - s → ReadLine most rows t old old (refuses 15 (e - s))
       read-short c l =
           left
-          (lowest-back (clear-digits c)
+          (refusal-back (clear-digits c)
           (first-place {r = lineRow15 t (length old)}
           (record { count = e - s; digits = values (part s e t); shape = h .shape; holds = (sym as-many, rw as-many l) })
           (λ q m a. let n = need (length old) q a .0 in let z : ⊥ = omega arith in z))) refl
@@ -119,31 +113,12 @@ module _ (most : ℕ) (rows : List DigitRow) where
     pub lies : new ≡ block answer old
 
   module _ {t : List ℕ} {lent : ℕ} (room : most ≤ lent) where
-    -- 15 is never the lowest
-    no-15 : {k p : ℕ} → Lowest (lineRows most rows t ++ (lineRow15 t lent ∷ [])) k p → k ≡ 15 → lineRow15 t lent .applies p → ⊥
-    no-15 {k} {p} l e w = go (ℕ-discrete (length (w .digits)) (w .count))
-      where
-        lower : (j : ℕ) → j < 15 → Applies (lineRows most rows t) j 0 → ⊥
-        lower j h a =
-            ⊎-elim (λ x. let z : ⊥ = omega arith in z) (λ x. let z : ⊥ = omega (arith, x .0) in z)
-            (l .first j 0 (applies-left (lineRows most rows t) (lineRow15 t lent ∷ []) j 0 a))
+    -- 15 does not apply where no other row does
+    no-15 : Clear (lineRows most rows t) → Clear (lineRow15 t lent ∷ [])
+    no-15 c = clear-one {r = lineRow15 t lent} (λ p w. omega (arith, clear-line most rows c (w .shape) .1 .few, w .holds .1))
 
-        go : Dec (length (w .digits) ≡ w .count) → ⊥
-        go (yes q) =
-            lower 3 (omega arith)
-            (inr (inr (inl (refl, (refl, record { count = w .count; digits = w .digits; shape = w .shape; holds = inr (omega (arith, w .holds .1)) })))))
-        go (no n) =
-            lower 5 (omega arith)
-            (inr (inr (inr (inl (refl, (refl, record { count = w .count; digits = w .digits; shape = w .shape; holds = n }))))))
-
-    lowest-line : {k p : ℕ} → Lowest (lineRows most rows t ++ (lineRow15 t lent ∷ [])) k p → Lowest (lineRows most rows t) k p
-    lowest-line {k} {p} l =
-        record {
-          applies =
-              ⊎-elim (λ a. a) (λ a. ⊎-elim (λ b. absurd (no-15 l (b .0) (b .1))) (λ b. absurd b) a)
-              (applies-either (lineRows most rows t) (lineRow15 t lent ∷ []) k p (l .applies));
-          first = λ j q a. l .first j q (applies-left (lineRows most rows t) (lineRow15 t lent ∷ []) j q a);
-        }
+    line-refused : {k p : ℕ} → FirstRefusal (lineRows most rows t ++ (lineRow15 t lent ∷ [])) k p → FirstRefusal (lineRows most rows t) k p
+    line-refused l = refusal-before (lineRows most rows t) (lineRow15 t lent ∷ []) no-15 l
 
   pub line-read : {t old new : List ℕ} {o : Outcome ℕ} → most ≤ length old → ReadLine most rows t old new o → LineRead t old new o
   unfolding counted block
@@ -154,4 +129,4 @@ module _ (most : ℕ) (rows : List DigitRow) where
         told = ap gives (w .count);
         lies = w .lies;
       }
-  line-read {t} room (left {k} {p} l q) = record { answer = refuses k p; line = left (lowest-line {t = t} room l) refl; told = refl; lies = q }
+  line-read {t} room (left {k} {p} l q) = record { answer = refuses k p; line = left (line-refused {t = t} room l) refl; told = refl; lies = q }

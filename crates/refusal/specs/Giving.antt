@@ -4,14 +4,13 @@
 -- nothing.
 use mathlib.Core.Path.{_≡_, refl, sym, ap, _∙_, subst}
 use mathlib.Core.List.{List, [], _∷_, _++_}
-use mathlib.Core.Bool.{true}
 use Prim.Native.Nat.{ℕ, _≤_, _<_}
 use native.Mathlib.Omega.{arith}
 use lib.ListN.{length, take, drop, length-append}
 use Rattle.laws.specs.Laid.{laidOver, Laid}
 use Rattle.laws.specs.Laying.{laid-front}
-use Rattle.refusal.specs.Table.{Row, Clear, Lowest, Outcome, gives, refuses, Promise, Answered, kept, left, Writes, short, Gives}
-use Rattle.refusal.specs.Laws.{one-accepted, one-result, clear-one, clear-both, clear-left, first-place, under, lowest-front, lowest-back}
+use Rattle.refusal.specs.Table.{Row, Clear, FirstRefusal, Outcome, gives, refuses, Promise, Answered, kept, left, Writes, short, Gives}
+use Rattle.refusal.specs.Laws.{one-accepted, one-result, clear-one, clear-both, clear-left, first-place, refusal-front, refusal-back}
 
 -- ---- what is written
 
@@ -61,16 +60,15 @@ one-given one g h = one-clear (λ c. one) g h
 -- ---- the promise kept
 
 module _ {rs : List Row} {Right : List ℕ → Type 0} {old : List ℕ} where
-  -- a refusal by a lower row
-  pub refused-first :
-      {new : List ℕ} {k p : ℕ} → under rs (short Right (length old) ∷ []) ≡ true → Lowest rs k p → new ≡ old → Gives rs Right old new (refuses k p)
-  refused-first t l e = record { promise = left (lowest-front (short Right (length old) ∷ []) t l) e }
+  -- a refusal by one of rs
+  pub refused-first : {new : List ℕ} {k p : ℕ} → FirstRefusal rs k p → new ≡ old → Gives rs Right old new (refuses k p)
+  refused-first l e = record { promise = left (refusal-front (short Right (length old) ∷ []) l) e }
 
   module _ (clear : Clear rs) {n : ℕ} (sized : (c : List ℕ) → Right c → length c ≡ n) where
     -- a right result that does not fit
     pub refused-short : {new c : List ℕ} → Right c → length old < n → new ≡ old → Gives rs Right old new (refuses 15 n)
     refused-short {c = c} r h e =
-        record { promise = left (lowest-back clear (first-place {r = short Right (length old)} here before)) e }
+        record { promise = left (refusal-back clear (first-place {r = short Right (length old)} here before)) e }
       where
         here : short Right (length old) .applies n
         here = let l = sized c r in (c, r, (sym l, omega arith))

@@ -2,4 +2,5 @@
 pub mod Table
 pub mod Outcome
 pub mod Laws
+pub mod Lowest
 pub mod Giving

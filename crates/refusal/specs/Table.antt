@@ -1,53 +1,78 @@
--- Document 01, "Refusal numbers": "Where several apply, the lowest number wins, then its first place."
+-- Document 01, "Refusal numbers": "Where several apply, the lowest number wins, then its first place; a number that a later request
+-- adds stands in this order where that request puts it."
+--
+-- A table is a list of rows in that order, and the first row that applies wins, at its first place. Where the numbers of a table rise
+-- this is the lowest number that applies (`Lowest`); that they do in document 01's own tables is in the crate `zurkhovel`, `Tables`.
 --
 -- In order: a row of the table; the answer that a table allows; the promise of a call with a lent output.
 -- What each row says stands with the input it speaks of. That a table allows one answer, and how checks are put together, is
 -- in `Laws`. Assumes nothing.
 use mathlib.Core.Path.{_≡_}
 use mathlib.Core.Logic.{_⊎_}
-use mathlib.Core.List.{List, [], _∷_, _++_}
+use mathlib.Core.List.{List, [], _∷_, _++_, map}
 use Prim.Native.Nat.{ℕ, _≤_, _<_}
 use lib.ListN.{length}
 use Rattle.laws.specs.Laid.{laidOver}
 use Rattle.refusal.specs.declared.Check.{Check}
 use Rattle.refusal.specs.declared.Check.the-variants.{Passed, Refuse}
 
--- a row: its number, and the places of the input at which it applies
-pub record Row : Type 1 where
-  pub number : ℕ
+-- a row: its number, and the places of the input at which it applies. A call with two lists has the list beside the number, so what a row
+-- is called is K.
+pub record RowOf (K : Type 0) : Type 1 where
+  pub number : K
   pub applies : ℕ → Type 0
 
+-- called by its number alone
+abbrev pub Row : Type 1
+Row = RowOf ℕ
+
+-- the row under another name
+abbrev pub renamed : {K L : Type 0} → (K → L) → RowOf K → RowOf L
+renamed f r = record { number = f (r .number); applies = r .applies }
+
+-- the table of the list i, where a call has several: "A refusal says which list; the first list's comes first."
+abbrev pub ofList : ℕ → List Row → List (RowOf (ℕ × ℕ))
+ofList i rs = map (renamed (λ k. (i, k))) rs
+
 -- one of the rows has the number k and applies at the place p
-abbrev pub Applies : List Row → ℕ → ℕ → Type 0
+abbrev pub Applies : {K : Type 0} → List (RowOf K) → K → ℕ → Type 0
 Applies [] k p = ⊥
 Applies (r ∷ rs) k p = ((k ≡ r .number) × r .applies p) ⊎ Applies rs k p
 
 -- no row applies
-pub record Clear (rs : List Row) : Type 0 where
-  pub nowhere : (k p : ℕ) → Applies rs k p → ⊥
+pub record Clear {K : Type 0} (rs : List (RowOf K)) : Type 0 where
+  pub nowhere : (k : K) (p : ℕ) → Applies rs k p → ⊥
 
--- k is the lowest number that applies, and p its first place
-pub record Lowest (rs : List Row) (k p : ℕ) : Type 0 where
-  pub applies : Applies rs k p
-  pub first : (j q : ℕ) → Applies rs j q → (k < j) ⊎ ((k ≡ j) × (p ≤ q))
+-- the first row that applies has the number k, and p is its first place
+abbrev pub First : {K : Type 0} → List (RowOf K) → K → ℕ → Type 0
+First [] k p = ⊥
+First (r ∷ rs) k p =
+    ((k ≡ r .number) × r .applies p × ((q : ℕ) → q < p → r .applies q → ⊥)) ⊎ (((q : ℕ) → r .applies q → ⊥) × First rs k p)
+
+-- the table refuses with the number k at the place p
+pub record FirstRefusal {K : Type 0} (rs : List (RowOf K)) (k : K) (p : ℕ) : Type 0 where
+  pub is : First rs k p
 
 -- what one check among several may answer
 pub data Answers (rs : List Row) : Check → Type 0 where
   passes : Clear rs → Answers rs Passed
-  fails : {k p : ℕ} → Lowest rs k p → Answers rs (Refuse k p)
+  fails : {k p : ℕ} → FirstRefusal rs k p → Answers rs (Refuse k p)
 
 -- what a call answers: the value that was asked for, or a refusal's number and place
-pub data Outcome (A : Type 0) : Type 0 where
-  gives : A → Outcome A
-  refuses : ℕ → ℕ → Outcome A
+pub data OutcomeOf (K A : Type 0) : Type 0 where
+  gives : A → OutcomeOf K A
+  refuses : K → ℕ → OutcomeOf K A
+
+abbrev pub Outcome : Type 0 → Type 0
+Outcome A = OutcomeOf ℕ A
 
 -- What a table allows. `right a new`: a is the value asked for, and what was lent holds new. A refusal leaves it as it was, old.
-pub data Promise {A S : Type 0} (rs : List Row) (right : A → S → Type 0) (old new : S) : Outcome A → Type 0 where
+pub data Promise {K A S : Type 0} (rs : List (RowOf K)) (right : A → S → Type 0) (old new : S) : OutcomeOf K A → Type 0 where
   kept : {a : A} → Clear rs → right a new → Promise rs right old new (gives a)
-  left : {k p : ℕ} → Lowest rs k p → new ≡ old → Promise rs right old new (refuses k p)
+  left : {k : K} {p : ℕ} → FirstRefusal rs k p → new ≡ old → Promise rs right old new (refuses k p)
 
 -- the same where nothing is lent
-abbrev pub Answered : {A : Type 0} → List Row → (A → Type 0) → Outcome A → Type 0
+abbrev pub Answered : {K A : Type 0} → List (RowOf K) → (A → Type 0) → OutcomeOf K A → Type 0
 Answered rs right o = Promise {S = Unit {0}} rs (λ a s. right a) tt tt o
 
 -- the result c is right, n is its length, and it is written from the start of what was lent

@@ -1,4 +1,4 @@
-// What a call answers. The meaning of each case, and of "the lowest number, then its first place", is in specs/Table.antt.
+// What a call answers. The meaning of each case, and which of several refusals is given, is in specs/Table.antt.
 
 ghost use mathlib.Core.Path.{_≡_};
 ghost use mathlib.Core.List.{[], _∷_};
@@ -21,7 +21,7 @@ pub enum Number {
     Refused(u8, usize),
 }
 
-// Of one check among several: nothing applies, or the lowest number that does, at its first place.
+// Of one check among several: nothing applies, or the first row of its table that does, at its first place.
 pub enum Check {
     Passed,
     Refuse(u8, usize),

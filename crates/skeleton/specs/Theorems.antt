@@ -1,12 +1,13 @@
--- What an accepted edge list is, and that each promise allows one result. Statements alone: the proofs are in
--- `Bridge` and `Tables`. Assumes nothing.
-use mathlib.Core.Path.{_≡_}
+-- What an accepted edge list is, which refusal wins, and that each promise allows one result. Statements alone: the proofs are in
+-- `Bridge` and `Tables`, and in the crate `refusal`. Assumes nothing.
+use mathlib.Core.Path.{_≡_, refl}
 use mathlib.Core.Logic.{_↔_}
 use mathlib.Core.List.{List}
 use Prim.Native.Nat.{ℕ, _≤_}
 use Rattle.refusal.specs.declared.Check.{Check}
 use Rattle.refusal.specs.Table.{Clear, Answers}
 use Rattle.refusal.specs.Laws.{one-answer}
+use Rattle.refusal.specs.Lowest.{LowestWins, lowest-number}
 use Rattle.tree.specs.Skeleton.{IsSkeleton}
 use Rattle.skeleton.specs.Edges.{edgeRows}
 use Rattle.skeleton.specs.Table.{IsTable}
@@ -16,6 +17,10 @@ use Rattle.skeleton.specs.Tables.{one-table}
 -- No row refuses the list E with N and the root r just where E is a skeleton of N vertices and r is one of them.
 pub accepted : (most R N : ℕ) (E : List ℕ) (r : ℕ) → Clear (edgeRows most R N E r) ↔ (IsSkeleton most R N E × ((1 ≤ r) × (r ≤ N)))
 accepted most R N E r = (is-skeleton most R N E r, λ h. is-clear most R N E r (h .0) (h .1))
+
+-- What refuses an edge list is the lowest number that applies, at its first place.
+pub lowest-refused : (most R N : ℕ) (E : List ℕ) (r : ℕ) → LowestWins (edgeRows most R N E r)
+lowest-refused most R N E r = lowest-number refl
 
 -- The promise of `check` allows one answer.
 pub one-check : (most R N : ℕ) (E : List ℕ) (r : ℕ) (a b : Check) → Answers (edgeRows most R N E r) a → Answers (edgeRows most R N E r) b → a ≡ b

@@ -1,38 +1,32 @@
 -- A call that writes, behind checks that passed: what it gives is what the whole table gives. Assumes nothing.
-use mathlib.Core.Logic.{inl, inr}
+use mathlib.Core.Path.{refl}
 use mathlib.Core.List.{List, [], _∷_, _++_}
 use Prim.Native.Nat.{ℕ}
 use lib.ListN.{length}
-use Rattle.refusal.specs.Table.{Row, Applies, Clear, Outcome, Promise, kept, left, Writes, short, Gives}
-use Rattle.refusal.specs.Laws.{clear-both, lowest-back}
+use Rattle.refusal.specs.Table.{Row, Clear, Outcome, Promise, kept, left, Writes, short, Gives}
+use Rattle.refusal.specs.Laws.{clear-both, refusal-back, Alike, alike-clear, alike-refusal}
 
 -- a table of no rows
-pub none : Clear []
+pub none : Clear {K = ℕ} []
 none = record { nowhere = λ k p a. a }
 
-module _ {P Q : List ℕ → Type 0} (to : (c : List ℕ) → P c → Q c) where
-  -- 15 of one right result is 15 of the other
-  short-to : (n k p : ℕ) → Applies (short P n ∷ []) k p → Applies (short Q n ∷ []) k p
-  short-to n k p (inl a) = inl (a .0, (a .1 .0, to (a .1 .0) (a .1 .1), a .1 .2))
-  short-to n k p (inr a) = inr a
+-- P and Q are the same results
+module _ {P Q : List ℕ → Type 0} (to : (c : List ℕ) → P c → Q c) (back : (c : List ℕ) → Q c → P c) where
+  short-alike : (n : ℕ) → Alike (short P n ∷ []) (short Q n ∷ [])
+  short-alike n = record { rows = (refl, (λ p. ((λ a. (a .0, to (a .0) (a .1), a .2)), (λ a. (a .0, back (a .0) (a .1), a .2)))), tt) }
 
   writes-to : {old new : List ℕ} {n : ℕ} → Writes P old n new → Writes Q old n new
   writes-to w = record { result = w .result; right = to (w .result) (w .right); count = w .count; lies = w .lies }
 
--- P and Q are the same results, and none of rs applies
+-- and none of rs applies
 pub behind :
     {rs : List Row} {P Q : List ℕ → Type 0} {old new : List ℕ} {o : Outcome ℕ} → Clear rs
     → ((c : List ℕ) → P c → Q c) → ((c : List ℕ) → Q c → P c) → Gives [] P old new o → Gives rs Q old new o
 behind {rs} {P} {Q} {old} {new} k to back g = record { promise = go (g .promise) }
   where
     go : {o : Outcome ℕ} → Promise (short P (length old) ∷ []) (Writes P old) old new o → Promise (rs ++ (short Q (length old) ∷ [])) (Writes Q old) old new o
-    go (kept c w) =
-        kept (clear-both k (record { nowhere = λ j p a. c .nowhere j p (short-to back (length old) j p a) })) (writes-to to w)
-    go (left {k = j} {p} l e) =
-        left (lowest-back k (record {
-          applies = short-to to (length old) j p (l .applies);
-          first = λ i q a. l .first i q (short-to back (length old) i q a);
-        })) e
+    go (kept c w) = kept (clear-both k (alike-clear (short-alike to back (length old)) .0 c)) (writes-to to back w)
+    go (left l e) = left (refusal-back k (alike-refusal (short-alike to back (length old)) l)) e
 
 -- the same, where P and Q are one
 pub behind-same : {rs : List Row} {P : List ℕ → Type 0} {old new : List ℕ} {o : Outcome ℕ} → Clear rs → Gives [] P old new o → Gives rs P old new o

@@ -1,12 +1,11 @@
 -- The edges of the code that a bit form carries, from what its reader decided. Assumes nothing.
 use mathlib.Core.Path.{_≡_, ap, _∙_}
-use mathlib.Core.Bool.{Bool, true}
-use mathlib.Core.List.{List, [], _∷_}
+use mathlib.Core.Bool.{Bool}
+use mathlib.Core.List.{List}
 use Prim.Native.Nat.{ℕ}
 use native.Mathlib.Omega.{arith}
 use lib.ListN.{length, take}
-use Rattle.refusal.specs.Table.{Row, short, Gives}
-use Rattle.refusal.specs.Laws.{under}
+use Rattle.refusal.specs.Table.{Row, Gives}
 use Rattle.refusal.specs.Giving.{refused-first}
 use Rattle.refusal.specs.Outcome.{told}
 use Rattle.refusal.specs.declared.Answer.{Answer}
@@ -27,12 +26,12 @@ module _ {rs : List Row} {May : List Bool → Type 0} {bs : List Bool} {out : Li
   pub form-readable : {a : Answer} → Decision rs valence May bs out a → Readable out a
   form-readable d = readable (d .answer) (d .long)
 
-  module _ {old new : List ℕ} (u : under rs (short (Decodes May bs) (length old) ∷ []) ≡ true) where
+  module _ {old new : List ℕ} where
     edges : {a : Answer} (r : Answer) → Decided rs valence May bs out a → EdgesOf out old new a r → Gives rs (Decodes May bs) old new (told r)
     edges r (gives {n} c t) g =
         behind c (λ E h. record { code = take n out; reads = t .reads; edges = h })
         (λ E h. h .edges ∙ ap decode (one-reading (h .reads) (t .reads))) g
-    edges r (refuses l) e = rw (e .0) (refused-first u l (e .1))
+    edges r (refuses l) e = rw (e .0) (refused-first l (e .1))
 
     -- the edges of the digits are those of the form
     pub form-edges : {a : Answer} (r : Answer) → Decision rs valence May bs out a → EdgesOf out old new a r → Gives rs (Decodes May bs) old new (told r)

@@ -1,6 +1,6 @@
 -- The promises of the calls on digit codes and edge lists: which rows of document 01's table each judges, what it gives where none
--- applies, and what its lent output then holds. A refusal is the lowest number that applies at its first place, and leaves the output as
--- it was (`Promise`, `Gives`).
+-- applies, and what its lent output then holds. A refusal is the first row that applies, at its first place, which is the lowest
+-- number (`Tables`), and leaves the output as it was (`Promise`, `Gives`).
 --
 -- c, E: what is handed in; old, new: the lent output before and after; o: the answer as number and place (`told`). Assumes nothing.
 use mathlib.Core.Path.{_≡_}

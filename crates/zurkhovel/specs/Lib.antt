@@ -1,6 +1,7 @@
 -- The promises of the public calls. Assumes nothing.
 pub mod Codes
 pub mod Same
+pub mod Tables
 pub mod Accepted
 pub mod Theorems
 pub mod Lines

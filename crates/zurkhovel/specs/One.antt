@@ -1,15 +1,16 @@
 -- Read from its promise alone, every public call has one possible answer and one possible state of its lent output. Each is a case of
--- one law, `one-result`, by way of `one-given` where the call writes. The verdict on two edge lists is a law of its own. Assumes nothing.
-use mathlib.Core.Path.{_≡_, refl, sym, ap₂, _∙_}
+-- one law, `one-result`, by way of `one-given` where the call writes. Assumes nothing.
+use mathlib.Core.Path.{_≡_, refl, sym, _∙_}
+use mathlib.Core.Bool.{Bool, true, false}
 use mathlib.Core.List.{List}
 use Prim.Native.Nat.{ℕ}
-use Rattle.refusal.specs.Table.{Row, Clear, Lowest, Outcome, Answered}
-use Rattle.refusal.specs.Laws.{one-lowest, one-result}
+use Rattle.refusal.specs.Table.{Row, Outcome, Answered}
+use Rattle.refusal.specs.Laws.{one-result}
 use Rattle.refusal.specs.Giving.{one-given, one-clear}
 use Rattle.form.specs.Form.{nTuple, centred}
 use Rattle.form.specs.Forms.{IsForm, n-tuple-form, centred-form}
 use Rattle.zurkhovel.specs.Codes.{CheckCode, DecodeCode, DecodeForm, CheckEdges, RootedCode, FormCode}
-use Rattle.zurkhovel.specs.Same.{Finding, refused, SameSkeleton, first-refused, second-refused, same, different}
+use Rattle.zurkhovel.specs.Same.{Finding, EqualCodes, SameSkeleton}
 use Rattle.zurkhovel.specs.Accepted.{tree-of}
 
 -- two results that are the same thing are one
@@ -56,24 +57,12 @@ one-decode-n-tuple = one-decode-form nTuple
 pub one-decode-centred : (c old s t : List ℕ) (o u : Outcome ℕ) → DecodeForm centred c old s o → DecodeForm centred c old t u → (o ≡ u) × (s ≡ t)
 one-decode-centred = one-decode-form centred
 
--- a table is clear, or has a lowest number
-not-both : {rs : List Row} {k p : ℕ} {A : Type 0} → Clear rs → Lowest rs k p → A
-not-both c l = absurd (c .nowhere _ _ (l .applies))
+-- codes are equal or not
+one-verdict : (N : ℕ) (E : List ℕ) (P : ℕ) (F : List ℕ) (a b : Bool) → EqualCodes N E P F a → EqualCodes N E P F b → a ≡ b
+one-verdict N E P F true true x y = refl
+one-verdict N E P F true false x y = absurd (y (x .0) (x .1) (x .2))
+one-verdict N E P F false true x y = absurd (x (y .0) (y .1) (y .2))
+one-verdict N E P F false false x y = refl
 
 pub one-same-skeleton : (N : ℕ) (E : List ℕ) (P : ℕ) (F : List ℕ) (o u : Finding) → SameSkeleton N E P F o → SameSkeleton N E P F u → o ≡ u
-one-same-skeleton N E P F o u (first-refused l) (first-refused m) = let n = one-lowest l m in ap₂ (refused 1) (n .0) (n .1)
-one-same-skeleton N E P F o u (first-refused l) (second-refused k m) = not-both k l
-one-same-skeleton N E P F o u (first-refused l) (same k d x y) = not-both k l
-one-same-skeleton N E P F o u (first-refused l) (different k d n) = not-both k l
-one-same-skeleton N E P F o u (second-refused k l) (first-refused m) = not-both k m
-one-same-skeleton N E P F o u (second-refused k l) (second-refused g m) = let n = one-lowest l m in ap₂ (refused 2) (n .0) (n .1)
-one-same-skeleton N E P F o u (second-refused k l) (same g d x y) = not-both d l
-one-same-skeleton N E P F o u (second-refused k l) (different g d n) = not-both d l
-one-same-skeleton N E P F o u (same k d x y) (first-refused l) = not-both k l
-one-same-skeleton N E P F o u (same k d x y) (second-refused g l) = not-both d l
-one-same-skeleton N E P F o u (same k d x y) (same g h v w) = refl
-one-same-skeleton N E P F o u (same {c} k d x y) (different g h n) = absurd (n c x y)
-one-same-skeleton N E P F o u (different k d n) (first-refused l) = not-both k l
-one-same-skeleton N E P F o u (different k d n) (second-refused g l) = not-both d l
-one-same-skeleton N E P F o u (different k d n) (same {c} g h x y) = absurd (n c x y)
-one-same-skeleton N E P F o u (different k d n) (different g h m) = refl
+one-same-skeleton N E P F o u x y = one-result (λ a b v w. (one-verdict N E P F a b v w, refl)) x y .0

@@ -4,7 +4,7 @@ use mathlib.Core.Path.{_≡_}
 use mathlib.Core.List.{List, []}
 use Prim.Native.Nat.{ℕ, _-_, _*_, _≤_}
 use lib.ListN.{length, take}
-use Rattle.refusal.specs.Table.{Row, Clear, Lowest, Outcome, Gives}
+use Rattle.refusal.specs.Table.{Row, Clear, FirstRefusal, Outcome, Gives}
 use Rattle.refusal.specs.Outcome.{told}
 use Rattle.refusal.specs.declared.Answer.{Answer}
 use Rattle.refusal.specs.declared.Answer.the-variants.{Done, Refused}
@@ -18,10 +18,10 @@ use Rattle.adjacency.specs.Adjacency.{camEdges}
 use Rattle.zurkhovel.specs.Codes.{LaysEdges}
 use Rattle.zurkhovel.specs.Matrix.{Numbering}
 
--- what is Known where none of rs applies, or the lowest number that does, at its first place
+-- what is Known where none of rs applies, or the refusal of rs
 abbrev pub Judged : List Row → Type 0 → Check → Type 0
 Judged rs Known Passed = Known
-Judged rs Known (Refuse k p) = Lowest rs k p
+Judged rs Known (Refuse k p) = FirstRefusal rs k p
 
 -- no row applies, and the code stands at the start of code
 pub record Rooted (most N : ℕ) (E : List ℕ) (r : ℕ) (code : List ℕ) : Type 0 where

@@ -12,7 +12,7 @@ enum-known-k : tie.Need-enum-known-k
 enum-known-k c = search needs
 
 returns : tie.Need-returns
-returns c = stops _ refl (c .before .before .before .cam-sizes .ensures) (c .before .k .given .1)
+returns c = stops _ (c .before .before .before .cam-sizes .ensures) (c .before .k .given .1)
 
 enum-told : tie.Need-enum-told
 enum-told c = search needs
@@ -27,7 +27,7 @@ returns-2 : tie.Need-returns-2
 returns-2 c =
     let v = c .before .before .before in
     let s = v .before .before .before in
-    goes-on (s .cam-sizes .ensures) (v .before .enum-told .given .1) (stops _ refl (v .cam-entries .ensures) (c .before .k2 .given .1))
+    goes-on (s .cam-sizes .ensures) (v .before .enum-told .given .1) (stops _ (v .cam-entries .ensures) (c .before .k2 .given .1))
 
 enum-told-2 : tie.Need-enum-told-2
 enum-told-2 c = search needs

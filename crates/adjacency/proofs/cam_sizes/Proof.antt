@@ -20,7 +20,7 @@ cam-sizes-spec =
     (tie.spec
     (λ c κs. search needs)
     (λ c. search needs)
-    (λ c. stops _ refl (c .before .before .before .sized .ensures) (c .before .k .given .1))
+    (λ c. stops _ (c .before .before .before .sized .ensures) (c .before .k .given .1))
     (λ c. search needs)
     (λ c. at-least (clear c))
     (λ c. let a = c .before .before .before .before .before .args in then-refused (clear (c .before)) (row5-cam (a .n) (a .cam .now)) (refl, c .if1 .taken))

@@ -43,7 +43,7 @@ enum-known-k : tie.Need-enum-known-k
 enum-known-k c = search needs
 
 returns : tie.Need-returns
-returns c = stops _ refl (c .before .before .before .zero-sizes .ensures) (c .before .k .given .1)
+returns c = stops _ (c .before .before .before .zero-sizes .ensures) (c .before .k .given .1)
 
 enum-told : tie.Need-enum-told
 enum-told c = search needs

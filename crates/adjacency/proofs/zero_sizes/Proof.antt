@@ -20,7 +20,7 @@ zero-sizes-spec =
     (tie.spec
     (λ c κs. search needs)
     (λ c. search needs)
-    (λ c. stops _ refl (c .before .before .before .sized .ensures) (c .before .k .given .1))
+    (λ c. stops _ (c .before .before .before .sized .ensures) (c .before .k .given .1))
     (λ c. search needs)
     (λ c. at-least (clear c))
     (λ c κs. omega (arith, at-least (clear c), at-most (clear c)))

@@ -3,7 +3,7 @@ use mathlib.Core.Path.{refl}
 use mathlib.Core.List.{[], _∷_}
 use lib.ListN.{length}
 use Rattle.refusal.specs.Table.{Clear, row3}
-use Rattle.refusal.specs.Laws.{was-clear, was-lowest, at-most}
+use Rattle.refusal.specs.Laws.{was-clear, was-refused, at-most}
 use Rattle.code.specs.Limits.{valence}
 use Rattle.bits.specs.Limits.{packedBytes}
 use Rattle.bits.specs.Bits.{Fill, bytes, bitRows}
@@ -22,7 +22,7 @@ packed-code-spec =
     (tie.spec
     (λ c κs. search needs)
     (λ c. search needs)
-    (λ c. decide-front (bitRows valence Fill (bytes (c .before .before .before .before .before .before .args .s .now))) refl (was-lowest (c .before .before .before .sized .ensures) (c .before .k .given .1)) (c .before .before .before .before .before .before .pre))
+    (λ c. decide-front (bitRows valence Fill (bytes (c .before .before .before .before .before .before .args .s .now))) (was-refused (c .before .before .before .sized .ensures) (c .before .k .given .1)) (c .before .before .before .before .before .before .pre))
     (λ c. search needs)
     (λ c κs. (at-most (clear (c .before)), c .before .before .before .before .before .before .pre))
     (λ c κs. let s = c .before .before .before .packed .ensures in (reading-ended s, s .long))

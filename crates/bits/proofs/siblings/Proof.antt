@@ -3,7 +3,7 @@ use mathlib.Core.Path.{_≡_, refl, sym}
 use native.Mathlib.Omega.{arith}
 use lib.ListN.{length, take}
 use lib.Seq.{length-take-le}
-use Rattle.refusal.specs.Laws.{was-clear, was-lowest}
+use Rattle.refusal.specs.Laws.{was-clear, was-refused}
 use Rattle.refusal.specs.declared.Answer.the-variants.{Done}
 use Rattle.bits.specs.Decided.{Ended, falling, larger}
 use borrow.Author.Needs.{needs}
@@ -42,7 +42,7 @@ returns-2 : tie.Need-returns-2
 returns-2 c = rw (c .before .before .before .before .before .read2 .given .1) (falling (was-clear (c .before .before .ordered .ensures) (c .enum-told .given .1)))
 
 returns-3 : tie.Need-returns-3
-returns-3 c = rw (c .before .before .before .before .before .before .read2 .given .1) (larger (was-lowest (c .before .before .before .ordered .ensures) (c .before .k .given .1)))
+returns-3 c = rw (c .before .before .before .before .before .before .read2 .given .1) (larger (was-refused (c .before .before .before .ordered .ensures) (c .before .k .given .1)))
 
 pub siblings-spec : {M : Type 1} → statement M
 siblings-spec =

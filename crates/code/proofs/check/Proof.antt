@@ -14,12 +14,12 @@ check-spec =
     (tie.spec
     (λ c κs. search needs)
     (λ c. search needs)
-    (λ c. stops _ refl (c .before .before .before .sized .ensures) (c .before .k .given .1))
+    (λ c. stops _ (c .before .before .before .sized .ensures) (c .before .k .given .1))
     (λ c. search needs)
     (λ c κs. search needs)
     (λ c. search needs)
     (λ c. let s = c .before .before .before .before in
-    goes-on (s .before .before .sized .ensures) (s .enum-told .given .1) (stops _ refl (c .before .before .before .capped .ensures) (c .before .k2 .given .1)))
+    goes-on (s .before .before .sized .ensures) (s .enum-told .given .1) (stops _ (c .before .before .before .capped .ensures) (c .before .k2 .given .1)))
     (λ c. search needs)
     (λ c κs. let s = c .before .before .before in at-most (was-clear (s .before .before .sized .ensures) (s .enum-told .given .1)))
     (λ c. search needs)
@@ -27,7 +27,7 @@ check-spec =
     let s = t .before .before .before in
     goes-on (s .before .before .sized .ensures) (s .enum-told .given .1)
     (goes-on (t .before .before .capped .ensures) (t .enum-told2 .given .1)
-    (stops _ refl (c .before .before .before .ended .ensures) (c .before .k3 .given .1))))
+    (stops _ (c .before .before .before .ended .ensures) (c .before .k3 .given .1))))
     (λ c. search needs)
     (λ c κs. let s = c .before .before .before .before .before .before in (
       ends-iff (now (s .before .before .before .before .args .code)) .1 (clear-ends (was-clear (c .before .before .ended .ensures) (c .enum-told3 .given .1))),

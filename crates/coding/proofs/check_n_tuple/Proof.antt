@@ -11,7 +11,7 @@ check-n-tuple-spec =
     (tie.spec
     (λ c κs. search needs)
     (λ c. search needs)
-    (λ c. stops _ refl (c .before .before .before .check .ensures) (c .before .k .given .1))
+    (λ c. stops _ (c .before .before .before .check .ensures) (c .before .k .given .1))
     (λ c. search needs)
     (λ c κs. was-clear (c .before .before .check .ensures) (c .enum-told .given .1))
     (λ c. goes-on (c .before .before .before .check .ensures) (c .before .enum-told .given .1) (c .judged .ensures)))

@@ -2,7 +2,7 @@
 use mathlib.Core.Path.{refl}
 use mathlib.Core.List.{[], _∷_}
 use Rattle.refusal.specs.Table.{Clear}
-use Rattle.refusal.specs.Laws.{was-clear, was-lowest, never}
+use Rattle.refusal.specs.Laws.{was-clear, was-refused, never}
 use Rattle.code.specs.Limits.{valence}
 use Rattle.bits.specs.Bits.{Zeros, bitRows}
 use Rattle.bits.specs.Decided.{reading-ended, decide-front, decide-ordered}
@@ -21,7 +21,7 @@ fraction-code-spec =
     (tie.spec
     (λ c κs. search needs)
     (λ c. search needs)
-    (λ c. decide-front (bitRows valence Zeros (bitsOf (c .before .before .before .before .before .args .x))) refl (was-lowest (c .before .before .before .ranged .ensures) (c .before .k .given .1)) (c .before .before .before .before .before .pre))
+    (λ c. decide-front (bitRows valence Zeros (bitsOf (c .before .before .before .before .before .args .x))) (was-refused (c .before .before .before .ranged .ensures) (c .before .k .given .1)) (c .before .before .before .before .before .pre))
     (λ c. search needs)
     (λ c κs. ((λ o. never (clear (c .before)) 0 (refl, o)), c .before .before .before .before .before .pre))
     (λ c κs. let s = c .before .before .before .read .ensures in (reading-ended s, s .long))

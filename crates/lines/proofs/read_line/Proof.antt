@@ -1,8 +1,7 @@
 -- `lines::read_line` meets its contract: each return is one law of reading. Assumes nothing.
-use mathlib.Core.Path.{refl}
 use native.Mathlib.Omega.{arith}
 use borrow.Author.Needs.{needs}
-use Rattle.refusal.specs.Laws.{was-clear, was-lowest}
+use Rattle.refusal.specs.Laws.{was-clear, was-refused}
 use Rattle.code.specs.Limits.{size}
 use Rattle.lines.specs.Form.{Stands}
 use Rattle.lines.specs.Judged.{digitTable}
@@ -44,9 +43,9 @@ read-line-spec =
     (λ c. at (c .before .before .before .before .before .before) .ordered)
     (λ c. at (c .before .before .before .before .before .before) .within)
     read-digits-requires
-    (λ c. read-front size digitTable refl (unlocated (c .before .before .before .locate .ensures) (c .before .k .given .1)))
+    (λ c. read-front size digitTable (unlocated (c .before .before .before .locate .ensures) (c .before .k .given .1)))
     (λ c. let j = c .before .before .before in
-    read-digits size digitTable (at (j .before .before .before)) _ refl (was-lowest (j .judge .ensures) (c .before .k2 .given .1)))
+    read-digits size digitTable (at (j .before .before .before)) _ (was-refused (j .judge .ensures) (c .before .k2 .given .1)))
     (λ c. search needs)
     (λ c. let e = c .before .before .before .before .before in
     let j = e .before .before .before in

@@ -13,7 +13,7 @@ enum-known-k : tie.Need-enum-known-k
 enum-known-k c = search needs
 
 returns : tie.Need-returns
-returns c = stops _ refl (c .before .before .before .sizes .ensures) (c .before .k .given .1)
+returns c = stops _ (c .before .before .before .sizes .ensures) (c .before .k .given .1)
 
 enum-told : tie.Need-enum-told
 enum-told c = search needs
@@ -28,7 +28,7 @@ returns-2 : tie.Need-returns-2
 returns-2 c =
     let v = c .before .before .before in
     let s = v .before .before .before in
-    goes-on (s .sizes .ensures) (v .before .enum-told .given .1) (stops _ refl (v .vertices .ensures) (c .before .k2 .given .1))
+    goes-on (s .sizes .ensures) (v .before .enum-told .given .1) (stops _ (v .vertices .ensures) (c .before .k2 .given .1))
 
 enum-told-2 : tie.Need-enum-told-2
 enum-told-2 c = search needs
@@ -45,7 +45,7 @@ returns-3 c =
     let v = l .before .before .before in
     let s = v .before .before .before in
     goes-on (s .sizes .ensures) (v .before .enum-told .given .1)
-    (goes-on (v .vertices .ensures) (l .before .enum-told2 .given .1) (stops _ refl (l .loops .ensures) (c .before .k3 .given .1)))
+    (goes-on (v .vertices .ensures) (l .before .enum-told2 .given .1) (stops _ (l .loops .ensures) (c .before .k3 .given .1)))
 
 enum-told-3 : tie.Need-enum-told-3
 enum-told-3 c = search needs
@@ -64,7 +64,7 @@ returns-4 c =
     let s = v .before .before .before in
     goes-on (s .sizes .ensures) (v .before .enum-told .given .1)
     (goes-on (v .vertices .ensures) (l .before .enum-told2 .given .1)
-    (goes-on (l .loops .ensures) (y .before .enum-told3 .given .1) (stops _ refl (y .cycles .ensures) (c .before .k4 .given .1))))
+    (goes-on (l .loops .ensures) (y .before .enum-told3 .given .1) (stops _ (y .cycles .ensures) (c .before .k4 .given .1))))
 
 enum-told-4 : tie.Need-enum-told-4
 enum-told-4 c = search needs

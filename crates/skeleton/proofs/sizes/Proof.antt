@@ -19,7 +19,7 @@ sizes-spec =
     (tie.spec
     (λ c κs. search needs)
     (λ c. search needs)
-    (λ c. stops _ refl (c .before .before .before .sized .ensures) (c .before .k .given .1))
+    (λ c. stops _ (c .before .before .before .sized .ensures) (c .before .k .given .1))
     (λ c. search needs)
     (λ c. let a = c .before .before .before .before .before .args in
     then-refused (clear (c .before)) (row5 (a .n) (a .edges .now)) (refl, λ e. let z : ⊥ = omega (arith, c .if1 .taken) in z))

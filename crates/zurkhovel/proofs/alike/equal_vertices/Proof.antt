@@ -4,7 +4,7 @@ use native.Mathlib.Omega.{arith}
 use denote.Ref.{now}
 use borrow.Author.Needs.{needs}
 use Rattle.refusal.specs.Table.{Clear}
-use Rattle.refusal.specs.Laws.{was-clear, was-lowest, at-most}
+use Rattle.refusal.specs.Laws.{was-clear, was-refused, at-most}
 use Rattle.refusal.specs.Giving.{refused-first, written-length}
 use Rattle.code.specs.Limits.{size, valence}
 use Rattle.skeleton.specs.Edges.{edgeRows}
@@ -28,7 +28,7 @@ equal-vertices-spec =
     (tie.spec
     (λ c κs. search needs)
     (λ c. search needs)
-    (λ c. refused-first refl (was-lowest (c .before .before .before .check .ensures) (c .before .k .given .1)) refl)
+    (λ c. refused-first (was-refused (c .before .before .before .check .ensures) (c .before .k .given .1)) refl)
     (λ c. search needs)
     (λ c. let d = c .before in derived-short (start d .args .n) (now (start d .args .edges)) (clear d) classes (start d .args .n) (λ x e. classes-numbered x .count ∙ e) (c .if1 .taken) refl)
     (λ c. search needs)

@@ -14,7 +14,7 @@ pack-spec =
     (λ c. search needs)
     (λ c κs. search needs)
     (λ c. search needs)
-    (λ c. refused-first refl (rw (c .before .k .given .1) at (c .before .before .before .before .rooted .ensures)) refl)
+    (λ c. refused-first (rw (c .before .k .given .1) at (c .before .before .before .before .rooted .ensures)) refl)
     (λ c. search needs)
     (λ c. let t = rw (c .enum-told .given .1) at (c .before .before .before .rooted .ensures) in omega (arith, digits-within t (omega arith), t .long))
     (λ c. let e = c .before in sym (digits-length (rw (e .enum-told .given .1) at (e .before .before .before .rooted .ensures))))

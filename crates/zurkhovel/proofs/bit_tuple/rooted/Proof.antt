@@ -2,7 +2,7 @@
 use native.Mathlib.Omega.{arith}
 use denote.Ref.{now}
 use borrow.Author.Needs.{needs}
-use Rattle.refusal.specs.Laws.{was-clear, was-lowest}
+use Rattle.refusal.specs.Laws.{was-clear, was-refused}
 use Rattle.zurkhovel.specs.Accepted.{skeleton-of, root-of, wider}
 use Rattle.zurkhovel.proofs.Rooted.{coded-at}
 use Rattle.zurkhovel.proofs.bit_tuple.rooted.Statement.{statement}
@@ -14,7 +14,7 @@ rooted-spec =
     (tie.spec
     (λ c κs. search needs)
     (λ c. search needs)
-    (λ c. was-lowest (c .before .before .before .check .ensures) (c .before .k .given .1))
+    (λ c. was-refused (c .before .before .before .check .ensures) (c .before .k .given .1))
     (λ c. search needs)
     (λ c κs. let s = c .before .before .before .before .before .before in
     let k = was-clear (c .before .before .before .check .ensures) (c .before .enum-told .given .1) in

@@ -2,7 +2,7 @@
 use mathlib.Core.Path.{refl}
 use denote.Ref.{now}
 use borrow.Author.Needs.{needs}
-use Rattle.refusal.specs.Laws.{was-clear, was-lowest}
+use Rattle.refusal.specs.Laws.{was-clear, was-refused}
 use Rattle.refusal.specs.Giving.{refused-first}
 use Rattle.form.specs.Form.{nTuple}
 use Rattle.zurkhovel.proofs.Behind.{behind-same}
@@ -16,7 +16,7 @@ decode-n-tuple-spec =
     (tie.spec
     (λ c κs. search needs)
     (λ c. search needs)
-    (λ c. refused-first refl (was-lowest (c .before .before .before .check-n-tuple .ensures) (c .before .k .given .1)) refl)
+    (λ c. refused-first (was-refused (c .before .before .before .check-n-tuple .ensures) (c .before .k .given .1)) refl)
     (λ c. search needs)
     (λ c κs. right-of nTuple (now (c .before .before .before .before .before .before .args .code)) (was-clear (c .before .before .before .check-n-tuple .ensures) (c .before .enum-told .given .1)))
     (λ c. search needs)

@@ -3,7 +3,7 @@ use mathlib.Core.Path.{refl}
 use denote.Ref.{now}
 use borrow.Author.Needs.{needs}
 use Rattle.refusal.specs.Table.{Clear}
-use Rattle.refusal.specs.Laws.{was-clear, was-lowest}
+use Rattle.refusal.specs.Laws.{was-clear, was-refused}
 use Rattle.refusal.specs.Giving.{refused-first}
 use Rattle.code.specs.Limits.{size, valence}
 use Rattle.skeleton.specs.Edges.{edgeRows}
@@ -27,7 +27,7 @@ n-tuple-code-spec =
     (tie.spec
     (λ c κs. search needs)
     (λ c. search needs)
-    (λ c. refused-first refl (was-lowest (c .before .before .before .check .ensures) (c .before .k .given .1)) refl)
+    (λ c. refused-first (was-refused (c .before .before .before .check .ensures) (c .before .k .given .1)) refl)
     (λ c. search needs)
     (λ c. let d = c .before in form-short (start d .args .n) (now (start d .args .edges)) 1 (clear d) nTuple n-tuple-form (c .if1 .taken) refl)
     (λ c κs. let d = c .before .before in (skeleton-of (clear d), c .before .if1 .left))

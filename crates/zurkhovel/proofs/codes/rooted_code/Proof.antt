@@ -3,7 +3,7 @@ use mathlib.Core.Path.{refl}
 use denote.Ref.{now}
 use borrow.Author.Needs.{needs}
 use Rattle.refusal.specs.Table.{Clear}
-use Rattle.refusal.specs.Laws.{was-clear, was-lowest}
+use Rattle.refusal.specs.Laws.{was-clear, was-refused}
 use Rattle.refusal.specs.Giving.{refused-first}
 use Rattle.code.specs.Limits.{size, valence}
 use Rattle.skeleton.specs.Edges.{edgeRows}
@@ -25,7 +25,7 @@ rooted-code-spec =
     (tie.spec
     (λ c κs. search needs)
     (λ c. search needs)
-    (λ c. refused-first refl (was-lowest (c .before .before .before .check .ensures) (c .before .k .given .1)) refl)
+    (λ c. refused-first (was-refused (c .before .before .before .check .ensures) (c .before .k .given .1)) refl)
     (λ c. search needs)
     (λ c. let d = c .before in rooted-short (start d .args .n) (now (start d .args .edges)) (start d .args .root) (clear d) (c .if1 .taken) refl)
     (λ c κs. let d = c .before .before in (skeleton-of (clear d), (root-of (now (start d .args .edges)) (clear d) .0, root-of (now (start d .args .edges)) (clear d) .1, c .before .if1 .left)))

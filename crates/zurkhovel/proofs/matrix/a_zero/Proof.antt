@@ -3,7 +3,7 @@ use mathlib.Core.Path.{refl}
 use denote.Ref.{now}
 use borrow.Author.Needs.{needs}
 use Rattle.refusal.specs.Table.{Clear, kept, left}
-use Rattle.refusal.specs.Laws.{was-clear, was-lowest}
+use Rattle.refusal.specs.Laws.{was-clear, was-refused}
 use Rattle.code.specs.Limits.{valence}
 use Rattle.skeleton.specs.Edges.{edgeRows}
 use Rattle.adjacency.specs.Adjacency.{aMost}
@@ -24,7 +24,7 @@ a-zero-spec =
     (tie.spec
     (λ c κs. search needs)
     (λ c. search needs)
-    (λ c. left (was-lowest (c .before .before .before .check .ensures) (c .before .k .given .1)) refl)
+    (λ c. left (was-refused (c .before .before .before .check .ensures) (c .before .k .given .1)) refl)
     (λ c. search needs)
     (λ c κs. skeleton-of (clear c))
     (λ c. kept (clear (c .before)) (c .a-zero .ensures)))

@@ -3,7 +3,7 @@ use native.Mathlib.Omega.{arith}
 use denote.Ref.{now}
 use borrow.Author.Needs.{needs}
 use Rattle.refusal.specs.Table.{Clear}
-use Rattle.refusal.specs.Laws.{was-clear, was-lowest}
+use Rattle.refusal.specs.Laws.{was-clear, was-refused}
 use Rattle.refusal.specs.Giving.{written-room, written-length}
 use Rattle.code.specs.Limits.{size, valence}
 use Rattle.tree.specs.Skeleton.{IsSkeleton}
@@ -30,7 +30,7 @@ by-code-spec =
     (tie.spec
     (λ c κs. search needs)
     (λ c. search needs)
-    (λ c. was-lowest (c .before .before .before .check .ensures) (c .before .k .given .1))
+    (λ c. was-refused (c .before .before .before .check .ensures) (c .before .k .given .1))
     (λ c. search needs)
     (λ c. search needs)
     (λ c κs. let s = found (c .before) in (s, s .few))

@@ -4,7 +4,7 @@ use native.Mathlib.Omega.{arith}
 use denote.Ref.{now}
 use borrow.Author.Needs.{needs}
 use Rattle.refusal.specs.Table.{Clear}
-use Rattle.refusal.specs.Laws.{was-clear, was-lowest, at-least}
+use Rattle.refusal.specs.Laws.{was-clear, was-refused, at-least}
 use Rattle.refusal.specs.Giving.{refused-first}
 use Rattle.code.specs.Limits.{size}
 use Rattle.adjacency.specs.Plain.{numbered}
@@ -28,7 +28,7 @@ cam-spec =
     (tie.spec
     (λ c κs. search needs)
     (λ c. search needs)
-    (λ c. refused-first refl (was-lowest (c .before .before .before .check .ensures) (c .before .k .given .1)) refl)
+    (λ c. refused-first (was-refused (c .before .before .before .check .ensures) (c .before .k .given .1)) refl)
     (λ c. search needs)
     (λ c. at-least (clear c))
     (λ c. let d = c .before in known-short (clear d) (cam-length (start d .args .n) (now (start d .args .edges))) (c .if1 .taken) refl)

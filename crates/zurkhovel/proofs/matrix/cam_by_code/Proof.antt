@@ -22,7 +22,7 @@ cam-by-code-spec =
     (λ c. search needs)
     (λ c κs. search needs)
     (λ c. search needs)
-    (λ c. refused-first refl (rw (c .before .k .given .1) at (c .before .before .before .before .by-code .ensures)) refl)
+    (λ c. refused-first (rw (c .before .k .given .1) at (c .before .before .before .before .by-code .ensures)) refl)
     (λ c. search needs)
     (λ c. at-least (known c .clear))
     (λ c. cam-short (known (c .before)) (c .if1 .taken) refl)

@@ -3,7 +3,7 @@ use mathlib.Core.Path.{refl}
 use native.Mathlib.Omega.{arith}
 use borrow.Author.Needs.{needs}
 use Rattle.refusal.specs.Table.{Clear}
-use Rattle.refusal.specs.Laws.{was-clear, was-lowest, at-least, at-most}
+use Rattle.refusal.specs.Laws.{was-clear, was-refused, at-least, at-most}
 use Rattle.refusal.specs.Giving.{refused-first}
 use Rattle.code.specs.Limits.{valence}
 use Rattle.adjacency.specs.Adjacency.{aRows, aMost}
@@ -24,7 +24,7 @@ decode-a-zero-spec =
     (tie.spec
     (λ c κs. search needs)
     (λ c. search needs)
-    (λ c. refused-first refl (was-lowest (c .before .before .before .a-check .ensures) (c .before .k .given .1)) refl)
+    (λ c. refused-first (was-refused (c .before .before .before .a-check .ensures) (c .before .k .given .1)) refl)
     (λ c. search needs)
     (λ c. at-least (clear c))
     (λ c. omega (arith, at-most (clear c)))

@@ -4,7 +4,7 @@ use native.Mathlib.Omega.{arith}
 use denote.Ref.{now}
 use borrow.Author.Needs.{needs}
 use Rattle.refusal.specs.Table.{Clear}
-use Rattle.refusal.specs.Laws.{was-clear, was-lowest, at-least, at-most}
+use Rattle.refusal.specs.Laws.{was-clear, was-refused, at-least, at-most}
 use Rattle.refusal.specs.Giving.{refused-first}
 use Rattle.code.specs.Limits.{size, valence}
 use Rattle.adjacency.specs.Adjacency.{camRows}
@@ -26,7 +26,7 @@ decode-cam-spec =
     (tie.spec
     (λ c κs. search needs)
     (λ c. search needs)
-    (λ c. refused-first refl (was-lowest (c .before .before .before .cam-check .ensures) (c .before .k .given .1)) refl)
+    (λ c. refused-first (was-refused (c .before .before .before .cam-check .ensures) (c .before .k .given .1)) refl)
     (λ c. search needs)
     (λ c κs. let d = c .before in omega (arith, at-most (clear d), at-least (clear d), long (start d .args .n) (now (start d .args .cam)) (clear d)))
     (λ c. search needs)

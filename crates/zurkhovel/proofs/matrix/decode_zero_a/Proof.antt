@@ -7,7 +7,7 @@ use borrow.Author.Needs.{needs}
 use Rattle.laws.specs.Laid.{laid-length}
 use Rattle.laws.specs.Laying.{laid-front}
 use Rattle.refusal.specs.Table.{Clear}
-use Rattle.refusal.specs.Laws.{was-clear, was-lowest, at-least, at-most}
+use Rattle.refusal.specs.Laws.{was-clear, was-refused, at-least, at-most}
 use Rattle.refusal.specs.Giving.{refused-first}
 use Rattle.code.specs.Limits.{valence}
 use Rattle.adjacency.specs.Adjacency.{zeroCam, zeroRows, zeroMost}
@@ -44,7 +44,7 @@ decode-zero-a-spec =
     (tie.spec
     (λ c κs. search needs)
     (λ c. search needs)
-    (λ c. refused-first refl (was-lowest (c .before .before .before .zero-check .ensures) (c .before .k .given .1)) refl)
+    (λ c. refused-first (was-refused (c .before .before .before .zero-check .ensures) (c .before .k .given .1)) refl)
     (λ c. search needs)
     (λ c. search needs)
     (λ c κs. let k = clear (c .before) in (at-least k, at-most k, at-most k))
