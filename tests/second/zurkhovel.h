@@ -3,7 +3,12 @@
  * Every function returns the refusal number, 0 for success. `*place` gets the place of a refusal; on
  * success it gets the number of bytes written at the front of `out`, or 0 where nothing is written,
  * unless said otherwise. `out, out_len` is a lent output: a refusal leaves it untouched, a success
- * touches nothing behind the result. On a refusal `*value` is left as it was. Lengths may be 0.
+ * touches nothing behind the result. On a refusal `*value` is left as it was. Lengths may be 0, and a
+ * pointer of length 0 may be null.
+ *
+ * A lent output must not overlap an input or another output: a call reads while it writes, and in place
+ * it can give a wrong result with 0. No call keeps any state, so threads may call at the same time.
+ * docs/CALLS.md says how much stack a call takes.
  */
 #ifndef ZURKHOVEL_H
 #define ZURKHOVEL_H

@@ -1,5 +1,6 @@
 // The public calls as C functions, for the second program and the benchmark: tests/second/zurkhovel.h declares them. Each hands the call's
 // answer on and does nothing else. It returns the refusal number, 0 where the call is done, and sets the place, or the bytes written.
+// Nothing here keeps a C caller from lending an output that overlaps an input, and the answer can then be wrong with 0: zurkhovel.h forbids it.
 use code::Order;
 use fraction::Fraction;
 use refusal::Answer;

@@ -1,13 +1,13 @@
 // One worked example for each public call, as docs/CALLS.md shows it.
-use super::shown::answer;
-use super::shown::given;
-use super::shown::number;
-use super::shown::numbered;
-use super::shown::refused;
-use super::shown::sized;
-use super::shown::text;
-use super::shown::value;
 use fraction::Fraction;
+use shown::answer;
+use shown::given;
+use shown::number;
+use shown::numbered;
+use shown::refused;
+use shown::sized;
+use shown::text;
+use shown::value;
 use zurkhovel::codes::Verdict;
 
 // A call with N, an edge list and a root.

@@ -2,7 +2,6 @@
 // what it was handed, and then what it answered and the bytes that it wrote.
 mod calls;
 mod page;
-mod shown;
 
 fn main() {
     page::figures();

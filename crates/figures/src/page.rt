@@ -1,13 +1,13 @@
 // The figures of document 01.
-use super::shown::answer;
-use super::shown::given;
-use super::shown::number;
-use super::shown::numbered;
-use super::shown::refused;
-use super::shown::text;
-use super::shown::value;
 use fraction::Fraction;
 use refusal::Answer;
+use shown::answer;
+use shown::given;
+use shown::number;
+use shown::numbered;
+use shown::refused;
+use shown::text;
+use shown::value;
 
 // The edges of a digit code.
 fn decode(code: &[u8]) {

@@ -3,11 +3,11 @@ use libc::STDOUT_FILENO;
 use refusal::Answer;
 use refusal::Number;
 
-pub(crate) fn text(s: &[u8]) {
+pub fn text(s: &[u8]) {
     io::write_all(STDOUT_FILENO, s);
 }
 
-pub(crate) fn number(n: u64) {
+pub fn number(n: u64) {
     io::print_decimal(STDOUT_FILENO, n);
 }
 
@@ -17,7 +17,7 @@ fn byte(b: u8) {
 }
 
 // Bytes by their values.
-pub(crate) fn list(s: &[u8]) {
+pub fn list(s: &[u8]) {
     let mut i = 0;
     while i < s.len() {
         byte(s[i]);
@@ -34,13 +34,13 @@ fn front(out: &[u8], n: usize) {
 }
 
 // A call by its name, with a list that it is handed.
-pub(crate) fn given(name: &[u8], s: &[u8]) {
+pub fn given(name: &[u8], s: &[u8]) {
     text(name);
     list(s);
 }
 
 // With N and a list.
-pub(crate) fn sized(name: &[u8], n: usize, s: &[u8]) {
+pub fn sized(name: &[u8], n: usize, s: &[u8]) {
     text(name);
     text(b" ");
     number(n as u64);
@@ -49,7 +49,7 @@ pub(crate) fn sized(name: &[u8], n: usize, s: &[u8]) {
 }
 
 // With N and a number.
-pub(crate) fn numbered(name: &[u8], n: usize, value: u64) {
+pub fn numbered(name: &[u8], n: usize, value: u64) {
     text(name);
     text(b" ");
     number(n as u64);
@@ -58,7 +58,7 @@ pub(crate) fn numbered(name: &[u8], n: usize, value: u64) {
 }
 
 // A refusal: its number, and its place.
-pub(crate) fn refused(k: u8, p: usize) {
+pub fn refused(k: u8, p: usize) {
     text(b" = Refused(");
     number(k as u64);
     text(b", ");
@@ -67,7 +67,7 @@ pub(crate) fn refused(k: u8, p: usize) {
 }
 
 // An answer, and what was written.
-pub(crate) fn answer(a: Answer, out: &[u8]) {
+pub fn answer(a: Answer, out: &[u8]) {
     match a {
         Answer::Done(n) => {
             text(b" = Done(");
@@ -80,7 +80,7 @@ pub(crate) fn answer(a: Answer, out: &[u8]) {
     }
 }
 
-pub(crate) fn value(a: Number) {
+pub fn value(a: Number) {
     match a {
         Number::Value(v) => {
             text(b" = Value(");

@@ -1,11 +1,11 @@
--- `figures::shown::front` is safe and ends. Assumes nothing.
+-- `shown::front` is safe and ends. Assumes nothing.
 use mathlib.Core.Path.{sym}
 use native.Mathlib.Omega.{arith}
 use denote.Ref.{now}
 use borrow.Author.Needs.{needs}
 use lib.Seq.{length-take-le}
-use Rattle.figures.proofs.shown.front.Statement.{statement}
-use Rattle.figures.proofs.shown.front.Tie as tie
+use Rattle.shown.proofs.front.Statement.{statement}
+use Rattle.shown.proofs.front.Tie as tie
 
 pub front-spec : {M : Type 1} → statement M
 front-spec =

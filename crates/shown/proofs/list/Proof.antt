@@ -1,10 +1,10 @@
--- `figures::shown::list` is safe and ends. Assumes nothing.
+-- `shown::list` is safe and ends. Assumes nothing.
 use Prim.Native.Nat.{_-_, _≤_}
 use native.Mathlib.Omega.{arith}
 use borrow.Author.Needs.{needs}
 use lib.ListN.{length}
-use Rattle.figures.proofs.shown.list.Statement.{statement}
-use Rattle.figures.proofs.shown.list.Tie as tie
+use Rattle.shown.proofs.list.Statement.{statement}
+use Rattle.shown.proofs.list.Tie as tie
 
 abbrev Inv-loop : tie.InvT-loop
 Inv-loop s i₀ i = i ≤ length s

@@ -1,0 +1,18 @@
+-- `codes_page::written::each` is safe and ends. Assumes nothing.
+use Prim.Native.Nat.{_-_, _≤_}
+use native.Mathlib.Omega.{arith}
+use borrow.Author.Needs.{needs}
+use lib.ListN.{length}
+use Rattle.codes_page.proofs.written.each.Statement.{statement}
+use Rattle.codes_page.proofs.written.each.Tie as tie
+
+abbrev Inv-loop : tie.InvT-loop
+Inv-loop s n form i₀ i = i ≤ length s
+
+abbrev μ-loop : tie.MeasureT-loop
+μ-loop s n form i₀ i = length s - i
+
+pub each-spec : {M : Type 1} → statement M
+each-spec =
+    tie.close
+    (tie.spec Inv-loop μ-loop (λ c. omega arith) (λ c. search needs) (λ c. omega arith) (λ c κs. search needs) (λ c. omega arith) (λ c. omega arith) (λ c. omega arith) (λ c. search needs))

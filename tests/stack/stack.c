@@ -1,0 +1,222 @@
+/* How many bytes of its thread's stack each exported call touches.
+ *
+ *   stack LIMIT    prints a table, a row for each call and a column for each shape of skeleton; exits with 1 where a call touches more than LIMIT bytes
+ *
+ * A call runs on a thread whose stack was filled with a pattern. What an empty function touches there, which is what starting a thread takes, is
+ * subtracted. Each run is made with two patterns, so a byte that is written with one of them is seen by the other. Calls that take a root are run
+ * at every vertex; calls whose form ends below 64 vertices are run at the form's own limit. */
+#define _DEFAULT_SOURCE
+#include "../second/zurkhovel.h"
+#include <pthread.h>
+#include <stdio.h>
+#include <stdlib.h>
+#include <string.h>
+#include <sys/mman.h>
+
+enum { SIZE = 64, STACK = 1 << 18, LINE = 68, LINES = 4 };
+
+/* What a call is handed. `lines` is LINES times the line of the skeleton. */
+static uint64_t n, root, whole, zero_a, a_zero;
+static uint8_t edges[2 * SIZE], other[2 * SIZE], code[SIZE], n_tuple[SIZE], centred[SIZE], packed[16], cam[SIZE], lines[LINES * LINE];
+static size_t len, packed_len, lines_len;
+static double fraction;
+
+/* What it answers with. */
+static uint32_t number;
+static uint64_t place, list, value, places[LINES];
+static uint8_t out[2 * SIZE], records[LINES * SIZE], numbers[LINES];
+static double exact;
+
+/* ---- The calls ---- */
+
+static void none(void) { number = 0; }
+
+#define CALL(NAME, ...) \
+    static void do_##NAME(void) { number = zk_##NAME(__VA_ARGS__); }
+
+CALL(check_code, code, n, &place)
+CALL(decode_code, code, n, out, sizeof out, &place)
+CALL(decode_n_tuple, n_tuple, n, out, sizeof out, &place)
+CALL(decode_centred, centred, n, out, sizeof out, &place)
+CALL(check_edges, n, edges, len, root, &place)
+CALL(rooted_code, n, edges, len, root, out, sizeof out, &place)
+CALL(n_tuple_code, n, edges, len, out, sizeof out, &place)
+CALL(centred_code, n, edges, len, out, sizeof out, &place)
+CALL(same, n, edges, len, n, other, len, &list, &place)
+CALL(pack, n, edges, len, root, out, sizeof out, &place)
+CALL(unpack, packed, packed_len, out, sizeof out, &place)
+CALL(whole, n, edges, len, root, &value, &place)
+CALL(unwhole, n, whole, out, sizeof out, &place)
+CALL(fraction, n, edges, len, root, &exact, &place)
+CALL(unfraction, fraction, out, sizeof out, &place)
+CALL(cam, n, edges, len, out, sizeof out, &place)
+CALL(cam_by_code, n, edges, len, out, sizeof out, &place)
+CALL(uncam, n, cam, n - 1, out, sizeof out, &place)
+CALL(0a, n, edges, len, &value, &place)
+CALL(0a_by_code, n, edges, len, &value, &place)
+CALL(un0a, n, zero_a, out, sizeof out, &place)
+CALL(a0, n, edges, len, &value, &place)
+CALL(a0_by_code, n, edges, len, &value, &place)
+CALL(una0, n, a_zero, out, sizeof out, &place)
+CALL(read_line, lines, lines_len, out, sizeof out, &place)
+CALL(write_line, n, edges, len, out, sizeof out, &place)
+CALL(classes, n, edges, len, out, sizeof out, &place)
+
+static void do_read_text(void) {
+    number = 0;
+    zk_read_text(lines, lines_len, records, sizeof records, numbers, sizeof numbers, places, LINES, &list, &place);
+}
+
+static void do_count(void) {
+    number = 0;
+    zk_count(numbers, sizeof numbers, &list, &place);
+}
+
+/* A call, the largest size of its form, and whether it takes a root. */
+#define ROW(NAME, MOST, ROOTED) {"zk_" #NAME, do_##NAME, MOST, ROOTED}
+static const struct call {
+    const char *name;
+    void (*run)(void);
+    unsigned most, rooted;
+} calls[] = {
+    ROW(check_code, 64, 1),  ROW(decode_code, 64, 1), ROW(decode_n_tuple, 64, 0), ROW(decode_centred, 64, 0), ROW(check_edges, 64, 1),
+    ROW(rooted_code, 64, 1), ROW(n_tuple_code, 64, 0), ROW(centred_code, 64, 0),  ROW(same, 64, 0),           ROW(pack, 64, 1),
+    ROW(unpack, 64, 1),      ROW(whole, 32, 1),        ROW(unwhole, 32, 1),       ROW(fraction, 27, 1),       ROW(unfraction, 27, 1),
+    ROW(cam, 64, 0),         ROW(cam_by_code, 64, 0),  ROW(uncam, 64, 0),         ROW(0a, 21, 0),             ROW(0a_by_code, 21, 0),
+    ROW(un0a, 21, 0),        ROW(a0, 11, 0),           ROW(a0_by_code, 11, 0),    ROW(una0, 11, 0),           ROW(read_line, 64, 0),
+    ROW(write_line, 64, 0),  ROW(read_text, 64, 0),    ROW(count, 64, 0),         ROW(classes, 64, 0),
+};
+
+/* ---- The skeletons ---- */
+
+/* Each in a physical numbering: vertex i + 1 hangs on one of the vertices before it. */
+static unsigned path(unsigned i) { return i; }
+static unsigned caterpillar(unsigned i) { return i % 2 ? i : i - 1; } /* a spine with a leaf at each of its vertices */
+static unsigned balanced(unsigned i) { return i <= 4 ? 1 : (i - 5) / 3 + 2; } /* four branches, then three, level by level */
+
+static const struct shape {
+    const char *name;
+    unsigned (*below)(unsigned);
+} shapes[] = {{"path", path}, {"caterpillar", caterpillar}, {"balanced", balanced}};
+
+enum { SHAPES = sizeof shapes / sizeof shapes[0], CALLS = sizeof calls / sizeof calls[0] };
+
+static void must(uint32_t refusal, const char *what) {
+    if (refusal) {
+        printf("stack: %s is refused: %u at %llu\n", what, refusal, (unsigned long long)place);
+        exit(2);
+    }
+}
+
+/* A skeleton of m vertices, and all that a call may be handed of it but what depends on the root. */
+static void make(const struct shape *shape, unsigned m) {
+    n = m;
+    len = 2 * (n - 1);
+    for (unsigned i = 1; i < n; i++) {
+        edges[2 * i - 2] = other[len - 2 * i + 1] = cam[i - 1] = (uint8_t)shape->below(i);
+        edges[2 * i - 1] = other[len - 2 * i] = (uint8_t)(i + 1);
+    }
+    must(zk_n_tuple_code(n, edges, len, n_tuple, sizeof n_tuple, &place), "n_tuple_code");
+    must(zk_centred_code(n, edges, len, centred, sizeof centred, &place), "centred_code");
+    must(zk_cam(n, edges, len, out, sizeof out, &place), "cam");
+    if (memcmp(out, cam, n - 1)) {
+        printf("stack: the numbering of a %s of %u is not physical\n", shape->name, m);
+        exit(2);
+    }
+    if (n <= 21)
+        must(zk_0a(n, edges, len, &zero_a, &place), "0a");
+    if (n <= 11)
+        must(zk_a0(n, edges, len, &a_zero, &place), "a0");
+    must(zk_write_line(n, edges, len, lines, sizeof lines, &place), "write_line");
+    size_t one = place;
+    for (unsigned i = 1; i < LINES; i++)
+        memcpy(lines + i * one, lines, one);
+    lines_len = LINES * one;
+}
+
+/* The same of the code at a vertex. */
+static void turn(unsigned v) {
+    root = v;
+    must(zk_rooted_code(n, edges, len, root, code, sizeof code, &place), "rooted_code");
+    must(zk_pack(n, edges, len, root, packed, sizeof packed, &place), "pack");
+    packed_len = place;
+    if (n <= 32)
+        must(zk_whole(n, edges, len, root, &whole, &place), "whole");
+    if (n <= 27)
+        must(zk_fraction(n, edges, len, root, &fraction, &place), "fraction");
+}
+
+/* ---- The measurement ---- */
+
+static uint8_t *stack;
+
+static void *started(void *call) {
+    (*(void (**)(void))call)();
+    return NULL;
+}
+
+/* The bytes from the top of the thread's stack down to the lowest one that was touched. */
+static size_t touched_with(void (*call)(void), uint8_t pattern) {
+    pthread_attr_t attributes;
+    pthread_t thread;
+    memset(stack, pattern, STACK);
+    if (pthread_attr_init(&attributes) || pthread_attr_setstack(&attributes, stack, STACK) || pthread_create(&thread, &attributes, started, &call) ||
+        pthread_join(thread, NULL)) {
+        puts("stack: no thread could be started");
+        exit(2);
+    }
+    pthread_attr_destroy(&attributes);
+    size_t low = 0;
+    while (low < STACK && stack[low] == pattern)
+        low++;
+    return STACK - low;
+}
+
+static size_t touched(void (*call)(void)) {
+    size_t a = touched_with(call, 0xa5), b = touched_with(call, 0x5a);
+    return a > b ? a : b;
+}
+
+static size_t bare;
+
+/* The most that a call touches on a skeleton, over its roots. */
+static size_t most(const struct call *call, const struct shape *shape) {
+    size_t worst = 0;
+    make(shape, call->most);
+    for (unsigned v = 1; v <= (call->rooted ? n : 1); v++) {
+        turn(v);
+        size_t all = touched(call->run), bytes = all > bare ? all - bare : 0;
+        must(number, call->name);
+        if (bytes > worst)
+            worst = bytes;
+    }
+    return worst;
+}
+
+int main(int argc, char **argv) {
+    size_t limit = argc > 1 ? strtoul(argv[1], NULL, 10) : 0, highest = 0;
+    int failed = 0;
+    stack = mmap(NULL, STACK, PROT_READ | PROT_WRITE, MAP_PRIVATE | MAP_ANONYMOUS | MAP_STACK, -1, 0);
+    if (!limit || stack == MAP_FAILED) {
+        puts("usage: stack LIMIT");
+        return 2;
+    }
+    touched(none);
+    bare = touched(none);
+    printf("bytes of stack touched, at most %zu; starting a thread: %zu\n%-20s %4s", limit, bare, "call", "N");
+    for (unsigned s = 0; s < SHAPES; s++)
+        printf(" %12s", shapes[s].name);
+    puts("");
+    for (unsigned c = 0; c < CALLS; c++) {
+        printf("%-20s %4u", calls[c].name, calls[c].most);
+        for (unsigned s = 0; s < SHAPES; s++) {
+            size_t bytes = most(&calls[c], &shapes[s]);
+            printf(" %12zu", bytes);
+            failed |= bytes > limit;
+            highest = bytes > highest ? bytes : highest;
+        }
+        puts("");
+    }
+    printf("stack: at most %zu bytes of %zu\n", highest, limit);
+    return failed;
+}
