@@ -36,7 +36,7 @@ while (1) {
         print $log "$line\n";
         next unless $line =~ /^rt: (\w+) proved \((.*)\)$/ && delete $left{$1};
         next if $2 =~ /^unchanged/;
-        $news = " ($1)";
+        $news = " (last: $1)";
         progress();
     }
 }
