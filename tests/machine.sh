@@ -11,12 +11,15 @@ native() {
     [ "$(uname -m)" = x86_64 ]
 }
 
-# sets emulator: what goes before a program for x86-64
+# sets emulator: what goes before a program for x86-64. Rattle's programs load the C library for x86-64, which the emulator looks for below QEMU_LD_PREFIX
 need_emulator() {
     emulator=
     native && return
     emulator=qemu-x86_64
-    command -v $emulator > /dev/null || install_missing qemu-user
+    export QEMU_LD_PREFIX="${QEMU_LD_PREFIX:-/usr/x86_64-linux-gnu}"
+    if ! command -v $emulator > /dev/null || [ ! -e "$QEMU_LD_PREFIX/lib64/ld-linux-x86-64.so.2" ]; then
+        install_missing qemu-user libc6-amd64-cross
+    fi
 }
 
 # sets cc, the C compiler for x86-64, and static, its flag for programs that are emulated
