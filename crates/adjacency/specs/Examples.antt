@@ -1,5 +1,5 @@
--- The definitions, run on document 01's own figures: CAM (1,2,2,3,1,6) with N = 7, its edges in another order, and 0A and A0 decoded. 001's line
--- itself is in the P table, `Figures` of the crate `zurkhovel`. Assumes nothing.
+-- The definitions, run on document 01's own figures: CAM (1,2,2,3,1,6) with N = 7, its edges in another order, and 0A and A0 decoded; and
+-- the range of 0A. 001's line itself is in the P table, `Figures` of the crate `zurkhovel`. Assumes nothing.
 use mathlib.Core.Path.{_≡_, refl}
 use mathlib.Core.List.{List, [], _∷_}
 use Prim.Native.Nat.{ℕ}
@@ -7,7 +7,7 @@ use native.Mathlib.Decide.{ℕ-discrete, decLt}
 use Rattle.code.specs.Code.{sum}
 use Rattle.tree.specs.Skeleton.{arcs, neighbours}
 use Rattle.adjacency.specs.Mixed.{mixed, digits, left}
-use Rattle.adjacency.specs.Adjacency.{from, lower, entry, cam, entryEdges, camEdges, zeroCam, bits, powers, aZero, rows, tied, columns, aEdges}
+use Rattle.adjacency.specs.Adjacency.{from, lower, entry, cam, entryEdges, camEdges, zeroA, zeroCam, bits, powers, aZero, rows, tied, columns, aEdges}
 
 abbrev given : List ℕ
 given = 1 ∷ 2 ∷ 2 ∷ 3 ∷ 1 ∷ 6 ∷ []
@@ -23,6 +23,11 @@ its-cam = refl
 its-aZero : aZero 7 edges ≡ 1646688
 unfolding from lower arcs neighbours mixed bits powers aZero sum ℕ-discrete decLt
 its-aZero = refl
+
+-- "the values are 0 to (N-1)!-1": a chain of four, numbered along, has the last
+of-chain : zeroA (1 ∷ 2 ∷ 3 ∷ []) ≡ 5
+unfolding from zeroA mixed
+of-chain = refl
 
 -- decoded
 from-zeroA : zeroCam 7 545 ≡ given

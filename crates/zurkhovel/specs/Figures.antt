@@ -6,7 +6,7 @@
 use mathlib.Core.Path.{_≡_, refl}
 use mathlib.Core.Logic.{Dec·and, Dec·not}
 use mathlib.Core.List.{List, [], _∷_, _++_, flatten}
-use Prim.Native.Nat.{ℕ, _+_, _-_, _*_, _^_, _≤_, _<_}
+use Prim.Native.Nat.{ℕ, _-_, _*_, _^_, _<_}
 use native.Mathlib.Decide.{ℕ-discrete, decLt}
 use native.Mathlib.Omega.{arith}
 use lib.ListN.{length}
@@ -41,7 +41,8 @@ row :
 row (s, c, d) e l =
     record { skeleton = s; centre = c; n-tuple = d; whole = record { carries = record { fill = []; same = e; may = refl }; below = l } }
 
--- 001's line: the CAM f "with N is" the skeleton of a row, with the 0A z and the A0 a; "its numbering by code has" the CAM g and the 0A y
+-- 001's line: the CAM f "with N is" the skeleton of a row, with the edges that f decodes to, the 0A z and the A0 a; "its numbering by code has"
+-- the CAM g and the 0A y
 pub record Numbered (N : ℕ) (E c d : List ℕ) (x : ℕ) (f : List ℕ) (z a : ℕ) (g : List ℕ) (y : ℕ) : Type 0 where
   pub figure : Figure N E c d x
   pub edges : E ≡ A.camEdges f
