@@ -2,7 +2,7 @@
 -- before it ended, are the whole of it. `most` is the largest N, `rows` judge the digits. Assumes nothing.
 use mathlib.Core.Path.{_≡_, sym, ap, _∙_}
 use mathlib.Core.List.{List, _++_}
-use Prim.Native.Nat.{ℕ, _+_, _<_, min}
+use Prim.Native.Nat.{ℕ, _+_, _≤_, _<_, min}
 use native.Mathlib.Omega.{arith}
 use lib.ListN.{length, take, drop, length-take, take-append-drop}
 use lib.Seq.{take-all, drop-drop}
@@ -29,6 +29,10 @@ module _ (most : ℕ) (rows : List DigitRow) where
   one-piece t old new new′ from n m p q =
       let r = piece-of (p .right) q in
       (p .piece .count ∙ sym (r .count), p .piece .lies ∙ sym (r .lies))
+
+  -- a piece is no longer than what is lent
+  pub piece-within : {t old new : List ℕ} {from n : ℕ} → Lists most rows t old new from n → n ≤ length old
+  piece-within p = rw (p .piece .count, length-take) (omega arith)
 
   -- pieces of the listing of t, from byte `from` on, each from where the one before it ended; the last does not fill what is lent
   pub data Pieces (t : List ℕ) : ℕ → List ℕ → Type 0 where

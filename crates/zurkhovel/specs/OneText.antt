@@ -12,7 +12,8 @@ use Rattle.form.specs.Form.{ofCentred}
 use Rattle.form.specs.Forms.{centred-form}
 use Rattle.lines.specs.Judged.{digitTable}
 use Rattle.lines.specs.Theorems as Lines
-use Rattle.zurkhovel.specs.Lines.{ReadLine, WriteLine, ReadText, Counted}
+use Rattle.answers.specs.Theorems as Answers
+use Rattle.zurkhovel.specs.Lines.{ReadLine, WriteLine, ReadText, Counted, ListText}
 use Rattle.zurkhovel.specs.Alike.{EqualVertices}
 use Rattle.zurkhovel.specs.Accepted.{tree-of}
 
@@ -29,6 +30,9 @@ one-read-text t rec num pla rec₁ num₁ pla₁ rec₂ num₂ pla₂ k at j to 
 pub one-count : (numbers : List ℕ) (r f s g : ℕ) → Counted numbers r f → Counted numbers s g → (r ≡ s) × (f ≡ g)
 one-count numbers r f s g a b =
     let e : r ≡ s = a .records ∙ sym (b .records) in (e, omega (arith, a .others, b .others))
+
+pub one-list : (t old new new′ : List ℕ) (from n m : ℕ) → ListText t old new from n → ListText t old new′ from m → (n ≡ m) × (new ≡ new′)
+one-list t old new new′ from n m a b = Answers.one-piece size digitTable t old new new′ from n m a b
 
 -- what is made of the centred code is one, where the list is accepted
 one-derived :
