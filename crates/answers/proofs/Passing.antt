@@ -2,7 +2,6 @@
 use mathlib.Core.Path.{_≡_, refl, sym, ap, _∙_}
 use mathlib.Core.List.{List, [], _∷_, _++_, append-assoc, append-nil}
 use Prim.Native.Nat.{ℕ, suc, _+_, _-_, _≤_, _<_}
-use native.Mathlib.Nat.{add-suc}
 use native.Mathlib.Omega.{arith}
 use lib.ListN.{length, take, drop, length-append, length-drop, drop-of-length-le}
 use lib.Seq.{take-all}
@@ -14,9 +13,9 @@ use Rattle.lines.specs.Judged.{digitTable}
 use Rattle.lines.specs.Reading.{counted, Behind, Taken, none}
 use Rattle.lines.specs.FirstLines.{taken-all, taken-join}
 use Rattle.lines.specs.Turns.{line-taken}
-use Rattle.answers.specs.Listing.{longest, answerLine, answerLines, totals, listed, short, Lists}
+use Rattle.answers.specs.Listing.{longest, answerLine, answerLines, totals, listed, lines, Lists}
 use Rattle.answers.specs.Window.{Shown, Puts, shown-none}
-use Rattle.answers.specs.Going.{Replied, isRecord}
+use Rattle.answers.specs.Steps.{Replied, isRecord}
 
 -- before line `line` + 1, which begins at `at`: the lines before it are answered and the answers put, and `read` of them are records
 pub record Going (text : List ℕ) (from : ℕ) (old out : List ℕ) (skip done at line read : ℕ) : Type 0 where
@@ -108,6 +107,6 @@ module _ {text : List ℕ} {from : ℕ} {old out : List ℕ} {skip done at line 
       let s = p _ old from (g .shown) in
       record {
         listing = listed (g .answers);
-        right = short (g .answers) h (taken-all size digitTable (g .taken) d) refl;
+        right = lines (g .answers) h (taken-all size digitTable (g .taken) d) refl;
         piece = rw (n, g .read-of) at (s .laid);
       }

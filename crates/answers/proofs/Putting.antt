@@ -1,20 +1,17 @@
 -- Bytes that are put behind others, and the window onto them. Assumes nothing.
 use mathlib.Core.Path.{_≡_, refl, sym, ap, ap₂, _∙_}
-use mathlib.Core.List.{List, [], _∷_, _++_, append-nil}
+use mathlib.Core.List.{List, [], _++_, append-nil}
 use Prim.Native.Nat.{ℕ, _+_, _-_, _≤_, _<_, min}
 use native.Mathlib.Omega.{arith}
 use lib.ListN.{length, take, drop, length-take, length-drop, length-append, drop-of-length-le}
 use lib.Seq.{take-nil, take-length}
 use borrow.Rule.Slice.PartMut.{midOf, putMid}
-use Rattle.laws.specs.Laid.{laidOver, Laid, laid-length}
+use Rattle.laws.specs.Laid.{laidOver, laid-length}
 use Rattle.laws.specs.Laying.{laid-part}
 use Rattle.laws.specs.Part.{part, part-length}
 use Rattle.answers.specs.Window.{Shown, Puts, take-least, window-append}
 
 module _ {l old out : List ℕ} {from skip done : ℕ} (s : Shown l from old out skip done) where
-  within : done ≤ length old
-  within = rw (s .laid .count, length-take) (omega arith)
-
   pub long : length out ≡ length old
   long = ap length (s .laid .lies) ∙ laid-length _ old (rw length-take (omega arith))
 

@@ -1,13 +1,13 @@
 -- A number that is spelt from its last digit on. Assumes nothing.
 use mathlib.Core.Path.{_≡_, sym, ap, _∙_}
 use mathlib.Core.List.{List, [], _∷_, _++_}
-use Prim.Native.Nat.{ℕ, suc, _+_, _-_, _*_, _/_, _%_, _^_, _≤_, _<_}
+use Prim.Native.Nat.{ℕ, suc, _+_, _-_, _/_, _%_, _^_, _≤_, _<_}
 use native.Mathlib.Omega.{arith}
 use lib.ListN.{length, drop, set, length-set, length-append, length-drop, drop-of-length-le}
 use lib.Seq.{append-snoc, drop-cons, getD-set-same, drop-set-lt}
 use Rattle.answers.specs.Listing.{numeral}
 use Rattle.answers.specs.Numerals.{numeral-short, numeral-longer, numeral-some, numeral-length}
-use Rattle.answers.specs.Going.{Spelt}
+use Rattle.answers.specs.Steps.{Spelt}
 
 -- what stands from `at` on is n's last digits and `last`; the digits before them are those of `rest`
 pub record Spelling (n last : ℕ) (out : List ℕ) (at rest : ℕ) : Type 0 where

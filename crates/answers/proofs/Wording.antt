@@ -1,14 +1,14 @@
 -- What is put, number by number, is the line for an answer, and the totals. Assumes nothing.
-use mathlib.Core.Path.{_≡_, sym, ap, _∙_}
+use mathlib.Core.Path.{_≡_, _∙_}
 use mathlib.Core.List.{List, [], _∷_, _++_, append-assoc}
 use Prim.Native.Nat.{ℕ, _-_}
 use native.Mathlib.Omega.{arith}
-use lib.ListN.{length, take, drop, length-drop}
+use lib.ListN.{take, drop, length-drop}
 use lib.Seq.{take-all}
 use Rattle.refusal.specs.Table.{gives, refuses}
 use Rattle.answers.specs.Listing.{numeral, space, feed, readWord, refusedWord, answerLine, totals}
 use Rattle.answers.specs.Numerals.{numeral-short}
-use Rattle.answers.specs.Going.{Spelt}
+use Rattle.answers.specs.Steps.{Spelt}
 
 -- what was spelt, as the code hands it on
 pub spelt-part : {c new : List ℕ} {at : ℕ} → Spelt c new at → take (32 - at) (drop at new) ≡ c

@@ -25,7 +25,7 @@ unfoldable pub numeralIn : ℕ → ℕ → List ℕ
 numeralIn zero n = []
 numeralIn (suc k) n = ite (decLt n 10) ((48 + n) ∷ []) (numeralIn k (n / 10) ++ ((48 + n % 10) ∷ []))
 
--- n in decimal, without leading zeros: n has no more than n + 1 digits
+-- n in decimal, without leading zeros; n + 1 digits are always enough
 unfoldable pub numeral : ℕ → List ℕ
 numeral n = numeralIn (suc n) n
 
@@ -78,8 +78,8 @@ tooLong = 105 ∷ 110 ∷ 112 ∷ 117 ∷ 116 ∷ 32 ∷ 116 ∷ 111 ∷ 111 ∷
 module _ (most : ℕ) (rows : List DigitRow) where
   -- l is the listing of the text t
   pub data Listing (t l : List ℕ) : Type 0 where
-    long : longest < length t → l ≡ tooLong → Listing t l
-    short : (os : List Reply) → length t ≤ longest → TextAnswers most rows t os → l ≡ listed os → Listing t l
+    longer : longest < length t → l ≡ tooLong → Listing t l
+    lines : (os : List Reply) → length t ≤ longest → TextAnswers most rows t os → l ≡ listed os → Listing t l
 
   -- what is lent holds the listing of t from byte `from` on, as much as it has room for, which is n bytes; bytes count from 0
   pub record Lists (t old new : List ℕ) (from n : ℕ) : Type 0 where

@@ -10,15 +10,15 @@ use Rattle.laws.specs.Laid.{Laid}
 use Rattle.laws.specs.Laying.{laid-front}
 use Rattle.lines.specs.Line.{DigitRow}
 use Rattle.lines.specs.Theorems.{one-reading}
-use Rattle.answers.specs.Listing.{listed, Listing, long, short, Lists}
+use Rattle.answers.specs.Listing.{listed, Listing, longer, lines, Lists}
 use Rattle.answers.specs.Window.{take-least}
 
 module _ (most : ℕ) (rows : List DigitRow) where
   pub one-listing : (t l m : List ℕ) → Listing most rows t l → Listing most rows t m → l ≡ m
-  one-listing t l m (long h e) (long k f) = e ∙ sym f
-  one-listing t l m (long h e) (short ps k b f) = absurd (omega arith)
-  one-listing t l m (short os h a e) (long k f) = absurd (omega arith)
-  one-listing t l m (short os h a e) (short ps k b f) = e ∙ ap listed (one-reading most rows t os ps a b) ∙ sym f
+  one-listing t l m (longer h e) (longer k f) = e ∙ sym f
+  one-listing t l m (longer h e) (lines ps k b f) = absurd (omega arith)
+  one-listing t l m (lines os h a e) (longer k f) = absurd (omega arith)
+  one-listing t l m (lines os h a e) (lines ps k b f) = e ∙ ap listed (one-reading most rows t os ps a b) ∙ sym f
 
   -- a piece, of the one listing that there is
   piece-of : {t l old new : List ℕ} {from n : ℕ} → Listing most rows t l → Lists most rows t old new from n → Laid (take (length old) (drop from l)) old new n

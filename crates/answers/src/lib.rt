@@ -11,7 +11,7 @@ ghost use Rattle.refusal.specs.Outcome.{told};
 ghost use Rattle.lines.specs.Judged.{digitTable};
 ghost use Rattle.answers.specs.Listing.{longest, numeral, answerLine, totals as Listing·totals, Lists};
 ghost use Rattle.answers.specs.Window.{Puts};
-ghost use Rattle.answers.specs.Going.{Replied, isRecord, Spelt};
+ghost use Rattle.answers.specs.Steps.{Replied, isRecord, Spelt};
 
 // How far the window is: so many bytes are still to be passed over, and so many lie in what is lent.
 struct Window {

@@ -1,8 +1,9 @@
 -- `answers::list` meets its contract. Assumes nothing.
 use mathlib.Core.Path.{refl}
 use mathlib.Core.List.{[]}
+use native.Mathlib.Omega.{arith}
 use borrow.Author.Needs.{needs}
-use Rattle.answers.specs.Listing.{tooLong, long}
+use Rattle.answers.specs.Listing.{tooLong, longer}
 use Rattle.answers.specs.Window.{shown-none}
 use Rattle.answers.proofs.list.Statement.{statement}
 use Rattle.answers.proofs.list.Tie as tie
@@ -12,7 +13,7 @@ returns c =
     let p = c .before .before in
     record {
       listing = tooLong;
-      right = long (p .before .before .before .if1 .taken) refl;
+      right = longer (omega arith) refl;
       piece = p .put .ensures [] _ _ (shown-none _ _) .laid;
     }
 

@@ -1,4 +1,4 @@
--- Going through a text, answer by answer: what the functions promise on the way, and the laws of their loops. Assumes nothing.
+-- What the functions promise that read one line, count it and spell a number. Assumes nothing.
 use mathlib.Core.Path.{_≡_}
 use mathlib.Core.List.{List}
 use Prim.Native.Nat.{ℕ, _≤_}
