@@ -49,6 +49,9 @@ enum wrong {
     first_line_only, /* the reader refuses all but line one */
     feed_and_return, /* a carriage return before the line feed is taken */
     unfinished_not_counted, /* an unfinished line is no refused one */
+    unfinished_not_listed,  /* nor has it a line of the listing */
+    longest_is_long,        /* 65,536 bytes are too many */
+    piece_skips,            /* a piece behind the first begins one byte late */
     /* piece vertices */
     depth_ignored, /* equal subtree codes at different depths are one class */
     classes_from_0
@@ -347,6 +350,18 @@ void zk_count(const uint8_t *numbers, size_t len, uint64_t *read, uint64_t *refu
     oracle_count(numbers, len, read, refused);
     if (WRONG == unfinished_not_counted && len > 0 && numbers[len - 1] == 1)
         *refused -= 1;
+}
+
+size_t zk_list(const uint8_t *text, size_t len, size_t from, uint8_t *out, size_t out_len)
+{
+    if (WRONG == longest_is_long && len == 65536)
+        len++;
+    if (WRONG == piece_skips && from > 0)
+        from++;
+    if (WRONG == unfinished_not_listed)
+        while (len > 0 && text[len - 1] != '\n')
+            len--;
+    return oracle_list(text, len, from, out, out_len);
 }
 
 uint32_t zk_classes(uint64_t n, const uint8_t *edges, size_t len,

@@ -58,6 +58,8 @@ void oracle_read_text(const uint8_t *text, size_t len, uint8_t *records, size_t 
 
 void oracle_count(const uint8_t *numbers, size_t len, uint64_t *read, uint64_t *refused);
 
+size_t oracle_list(const uint8_t *text, size_t len, size_t from, uint8_t *out, size_t room);
+
 struct answer oracle_classes(uint64_t n, const uint8_t *edges, size_t len, uint8_t *out, size_t room);
 
 #endif

@@ -1,10 +1,11 @@
 /* Lines: one line both ways, and the reader over a text. */
+#include <stdarg.h>
 #include <stdio.h>
 #include <string.h>
 
 #include "oracle_parts.h"
 
-enum { line_feed = 10, record_bytes = 64 };
+enum { line_feed = 10, record_bytes = 64, most_input = 65536 };
 
 /* A text up to its first line feed, taken apart. */
 struct line {
@@ -120,4 +121,43 @@ void oracle_count(const uint8_t *numbers, size_t len, uint64_t *read, uint64_t *
     *read = *refused = 0;
     for (size_t i = 0; i < len; i++)
         *(numbers[i] == 0 ? read : refused) += 1;
+}
+
+/* What is printed, byte by byte: those from number `from` on go to the output while it has room. */
+struct print {
+    size_t from, at, room, written;
+    uint8_t *out;
+};
+
+static void print(struct print *print, const char *form, ...)
+{
+    char bytes[80];
+    va_list arguments;
+    va_start(arguments, form);
+    int count = vsnprintf(bytes, sizeof bytes, form, arguments);
+    va_end(arguments);
+    for (int i = 0; i < count; i++, print->at++)
+        if (print->at >= print->from && print->written < print->room)
+            print->out[print->written++] = (uint8_t)bytes[i];
+}
+
+size_t oracle_list(const uint8_t *text, size_t len, size_t from, uint8_t *out, size_t room)
+{
+    struct print to = {.from = from, .room = room, .out = out};
+    unsigned line_number = 0, read = 0;
+    if (len > most_input) {
+        print(&to, "input too long\n");
+        return to.written;
+    }
+    for (size_t at = 0; at < len;) {
+        uint8_t digits[record_bytes];
+        struct line line = take_line(text + at, len - at);
+        struct answer answer = oracle_read_line(text + at, len - at, digits, sizeof digits);
+        line_number++;
+        read += answer.number == 0;
+        print(&to, "%u %u %u\n", line_number, answer.number, answer.number == 0 ? 0 : (unsigned)answer.place);
+        at += line.bytes + (line.finished ? 1 : 0);
+    }
+    print(&to, "read %u refused %u\n", read, line_number - read);
+    return to.written;
 }

@@ -216,26 +216,24 @@ static void lines(void)
     REFUSED(line("\n"), 2, 0);
 }
 
-/* The sample of "The listing", by the reader over a text. */
+/* The sample of "The listing", the empty input and one that is too long; and the reader over the sample. */
 static void listing(void)
 {
     const char *text = "8 32100100\n6 220010\n6 311000\n6 2200,10\n3 20\n1 0";
     const char *wanted = "1 0 0\n2 0 0\n3 14 0\n4 2 0\n5 5 0\n6 1 0\nread 2 refused 4\n";
-    uint8_t records[64 * 8], numbers[8];
+    const char *none = "read 0 refused 0\n", *too_long = "input too long\n";
+    static uint8_t longer[65537];
+    uint8_t records[64 * 8], numbers[8], listed[200];
     uint64_t places[8], answered, at;
+    IS(oracle_list((const uint8_t *)text, strlen(text), 0, listed, sizeof listed), strlen(wanted));
+    IS(memcmp(listed, wanted, strlen(wanted)), 0);
+    IS(oracle_list((const uint8_t *)text, 0, 0, listed, sizeof listed), strlen(none));
+    IS(memcmp(listed, none, strlen(none)), 0);
+    IS(oracle_list(longer, sizeof longer, 0, listed, sizeof listed), strlen(too_long));
+    IS(memcmp(listed, too_long, strlen(too_long)), 0);
     oracle_read_text((const uint8_t *)text, strlen(text), records, sizeof records, numbers, 8, places, 8,
                      &answered, &at);
-    char listed[200];
-    size_t used = 0;
-    uint64_t read, refused;
-    for (uint64_t i = 0; i < answered; i++) {
-        uint64_t place = numbers[i] == 0 ? 0 : places[i];
-        used += (size_t)snprintf(listed + used, sizeof listed - used, "%" PRIu64 " %u %" PRIu64 "\n", i + 1,
-                                 numbers[i], place);
-    }
-    oracle_count(numbers, answered, &read, &refused);
-    snprintf(listed + used, sizeof listed - used, "read %" PRIu64 " refused %" PRIu64 "\n", read, refused);
-    IS(strcmp(listed, wanted), 0);
+    IS(answered, 6);
     IS(at, strlen(text));
     IS(places[0], 8);
     IS(is_printed(records, 8, "32100100"), true);

@@ -52,6 +52,9 @@ static void examples(void)
         check_line(&text);
         check_text(&text, &theirs);
         check_short_room(&text);
+        check_listing(text.byte, text.len);
+        for (size_t room = 1; room < 40; room++)
+            check_pieces(text.byte, text.len, room);
     }
 }
 
@@ -69,6 +72,8 @@ static void short_texts(void)
                 text.byte[i] = (uint8_t)alphabet[left % 7];
             check_line(&text);
             check_text(&text, &theirs);
+            if (one_in(10))
+                check_listing(text.byte, text.len);
         }
 }
 
@@ -229,10 +234,37 @@ static void long_texts(void)
         struct text text = random_text(60, 50);
         check_text(&text, &theirs);
         check_short_room(&text);
+        check_listing(text.byte, text.len);
         for (unsigned i = 0; i < 5; i++)
             text.byte[below(text.len)] = (uint8_t)below(256);
         check_text(&text, &theirs);
         check_short_room(&text);
+        check_listing(text.byte, text.len);
+        check_pieces(text.byte, text.len, 1 + below(300));
+    }
+}
+
+/* Around the longest input: lines, damaged in places, or line feeds alone. */
+static void listings(void)
+{
+    static uint8_t text[65536 + 3];
+    for (unsigned round = 0; round < 3; round++) {
+        size_t len = 0;
+        while (len < sizeof text) {
+            struct text some = random_text(60, round == 0 ? 1 : 50);
+            if (one_in(2))
+                some.byte[below(some.len)] = (uint8_t)below(256);
+            size_t count = some.len < sizeof text - len ? some.len : sizeof text - len;
+            memcpy(text + len, some.byte, count);
+            len += count;
+        }
+        if (round == 2)
+            memset(text, '\n', sizeof text);
+        for (len = sizeof text - 5; len <= sizeof text; len++)
+            check_listing(text, len);
+        check_pieces(text, 65536, 65536);
+        check_pieces(text, 65536, 10007);
+        check_pieces(text, 65537, 7);
     }
 }
 
@@ -256,6 +288,7 @@ void piece_lines(void)
     single_changes();
     larger_damage();
     long_texts();
+    listings();
     counts();
     CLAIM_MET(read_line, 0, 1, 2, 3, 5, 10, 11, 12, 13, 14, 15);
     CLAIM_MET(write_line, 0, 3, 5, 6, 7, 8, 9, 15);

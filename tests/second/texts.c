@@ -3,6 +3,8 @@
 #include <stdio.h>
 #include <string.h>
 
+enum { most_listing = 1 << 20 };
+
 static const uint64_t unset = 0xdeadbeefdeadbeefu;
 
 struct room {
@@ -91,6 +93,49 @@ void check_short_room(const struct text *text)
     if (one_in(2))
         room.places = below(lines);
     check_room(text, room, &theirs);
+}
+
+/* Both write one piece; returns how many bytes. */
+static size_t check_piece(const uint8_t *text, size_t len, size_t from, size_t room, uint8_t *theirs)
+{
+    static uint8_t ours[most_listing + record];
+    static uint64_t salt;
+    struct input in = {.bytes = text, .len = len};
+    begin_case("list", &in);
+    fill_pattern(ours, room + record, ++salt);
+    fill_pattern(theirs, room + record, salt);
+    size_t count = oracle_list(text, len, from, ours, room);
+    size_t their_count = zk_list(text, len, from, theirs, room);
+    if (count != their_count || memcmp(ours, theirs, room + record) != 0) {
+        char more[120];
+        snprintf(more, sizeof more, "%zu bytes in all; from byte %zu on, lent %zu; below are the bytes written", len, from, room);
+        mismatch("list", &in, more, (struct answer){0, count}, (struct answer){0, their_count});
+    }
+    return count;
+}
+
+void check_listing(const uint8_t *text, size_t len)
+{
+    static uint8_t theirs[most_listing + record];
+    size_t room = 16 * len + record < most_listing ? 16 * len + record : most_listing;
+    size_t whole = check_piece(text, len, 0, room, theirs);
+    claim(whole < room, "a listing has an end");
+    check_piece(text, len, 0, whole, theirs);
+    check_piece(text, len, 0, whole - 1, theirs);
+    check_piece(text, len, whole - below(3), 1, theirs);
+    check_piece(text, len, below(whole + 2), below(whole + 2), theirs);
+}
+
+void check_pieces(const uint8_t *text, size_t len, size_t room)
+{
+    static uint8_t whole[most_listing + record], theirs[most_listing + record];
+    size_t bytes = oracle_list(text, len, 0, whole, most_listing), from = 0, count;
+    do {
+        count = check_piece(text, len, from, room, theirs);
+        claim(from + count <= bytes && memcmp(whole + from, theirs, count) == 0, "pieces are the listing");
+        from += count;
+    } while (count == room);
+    claim(from == bytes, "the last piece ends the listing");
 }
 
 int same_line(const struct reading *a, size_t i, const struct reading *b, size_t j)

@@ -28,6 +28,12 @@ void check_text(const struct text *text, struct reading *theirs);
 /* The same with room for some lines only, in any of the three outputs. */
 void check_short_room(const struct text *text);
 
+/* Both list the text: from its start with all the room that is needed, less and more, and any one piece of it. */
+void check_listing(const uint8_t *text, size_t len);
+
+/* The same in pieces of so many bytes, each from where the one before it ended. */
+void check_pieces(const uint8_t *text, size_t len, size_t room);
+
 /* Whether line i of one reading and line j of another are answered alike, digits included. */
 int same_line(const struct reading *a, size_t i, const struct reading *b, size_t j);
 

@@ -77,6 +77,10 @@ void zk_read_text(const uint8_t *text, size_t len, uint8_t *records, size_t reco
 /* How many of the numbers are 0, and how many are not. */
 void zk_count(const uint8_t *numbers, size_t len, uint64_t *read, uint64_t *refused);
 
+/* The listing of a text: its bytes from number `from` on, counted from 0, as many as there is room for.
+ * Returns how many that is; behind them nothing is touched. Fewer than there is room for: the end. */
+size_t zk_list(const uint8_t *text, size_t len, size_t from, uint8_t *out, size_t out_len);
+
 /* Equal vertices: the class of each vertex in the centred code's numbering. */
 uint32_t zk_classes(uint64_t n, const uint8_t *edges, size_t len,
                     uint8_t *out, size_t out_len, uint64_t *place);

@@ -224,6 +224,12 @@ pub extern "C" fn zk_count(numbers: &[u8], read: &mut u64, refused: &mut u64) {
     *refused = t.refused as u64;
 }
 
+// How many bytes of the listing are written.
+#[no_mangle]
+pub extern "C" fn zk_list(text: &[u8], from: usize, out: &mut [u8]) -> usize {
+    zurkhovel::text::list(text, from, out)
+}
+
 #[no_mangle]
 pub extern "C" fn zk_cam_by_code(n: u64, edges: &[u8], out: &mut [u8], place: &mut u64) -> u32 {
     handed(

@@ -1,6 +1,7 @@
 // One worked example for each public call, as docs/CALLS.md shows it.
 use fraction::Fraction;
 use shown::answer;
+use shown::front;
 use shown::given;
 use shown::number;
 use shown::numbered;
@@ -179,6 +180,27 @@ fn lines() {
     text(b"\n");
 }
 
+// The listing of the same three lines, from a byte on.
+fn listing(from: usize, out: &mut [u8]) {
+    let n = zurkhovel::text::list(b"6 220010\n6 311000\n1 0\n", from, out);
+    text(b"list of the lines '6 220010', '6 311000' and '1 0' from ");
+    number(from as u64);
+    text(b", lent ");
+    number(out.len() as u64);
+    text(b" = ");
+    number(n as u64);
+    text(b";");
+    front(out, n);
+    text(b"\n");
+}
+
+fn listings() {
+    let mut whole = [0u8; 64];
+    let mut piece = [0u8; 8];
+    listing(0, &mut whole);
+    listing(19, &mut piece);
+}
+
 pub(crate) fn examples() {
     digit_codes();
     edge_codes(&[1, 2, 2, 3, 3, 4, 4, 5, 2, 6]);
@@ -190,4 +212,5 @@ pub(crate) fn examples() {
     matrices_read();
     line(&[1, 2, 2, 3, 3, 4, 4, 5, 2, 6]);
     lines();
+    listings();
 }

@@ -72,7 +72,7 @@ read-none most rows {num = num} {pla} =
 
 module _ (most : ℕ) (rows : List DigitRow) where
   -- the first line of r, and what is behind it
-  line-taken :
+  pub line-taken :
       {r : List ℕ} {e : ℕ} {o : Reply} → 1 ≤ length r → UpTo r e → LineAnswers most rows r o → Taken most rows r (o ∷ []) (drop (suc e) r)
   line-taken {r} {e} {o} l u a = go (ℕ-discrete e (length r))
     where

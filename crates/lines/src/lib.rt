@@ -271,7 +271,7 @@ fn room(records: usize, numbers: usize, places: usize) -> usize
 }
 
 // The place behind the line that begins at `at`.
-fn behind(text: &[u8], at: usize) -> usize
+pub fn behind(text: &[u8], at: usize) -> usize
     requires { ⌜ at < length (now text) ⌝ }
     ensures { λ r. ⌜ Behind (now (text .entry)) at r ⌝ }
 {

@@ -26,7 +26,7 @@ pub fn list(s: &[u8]) {
 }
 
 // The first n bytes of an output.
-fn front(out: &[u8], n: usize) {
+pub fn front(out: &[u8], n: usize) {
     if out.len() < n {
         return;
     }

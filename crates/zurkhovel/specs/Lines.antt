@@ -10,6 +10,7 @@ use Rattle.form.specs.Form.{ofCentred}
 use Rattle.lines.specs.Line.{line}
 use Rattle.lines.specs.Judged.{digitTable}
 use Rattle.lines.specs.Reading as Reading
+use Rattle.answers.specs.Listing as Listing
 
 -- the first line of the text t into a lent output
 abbrev pub ReadLine : List ℕ → List ℕ → List ℕ → Outcome ℕ → Type 0
@@ -32,3 +33,7 @@ zeros (suc n ∷ ns) = zeros ns
 pub record Counted (numbers : List ℕ) (read refused : ℕ) : Type 0 where
   pub records : read ≡ zeros numbers
   pub others : read + refused ≡ length numbers
+
+-- the listing of the text t, from byte `from` on, as far as there is room: n bytes
+abbrev pub ListText : List ℕ → List ℕ → List ℕ → ℕ → ℕ → Type 0
+ListText t old new from n = Listing.Lists size digitTable t old new from n

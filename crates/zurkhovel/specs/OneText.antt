@@ -16,10 +16,11 @@ use Rattle.form.specs.Forms.{centred-form}
 use Rattle.lines.specs.Judged.{digitTable}
 use Rattle.lines.specs.declared.Progress.{Progress}
 use Rattle.lines.specs.Theorems as Lines
+use Rattle.answers.specs.Theorems as Answers
 use Rattle.vertices.specs.Vertices.{ClassesOf}
 use Rattle.vertices.specs.Theorems.{one-classes}
 use Rattle.zurkhovel.specs.declared.text.Counts.{Counts}
-use Rattle.zurkhovel.specs.Lines.{ReadLine, WriteLine, ReadText, Counted}
+use Rattle.zurkhovel.specs.Lines.{ReadLine, WriteLine, ReadText, Counted, ListText}
 use Rattle.zurkhovel.specs.Alike.{EqualVertices}
 use Rattle.zurkhovel.specs.Accepted.{tree-of}
 
@@ -38,6 +39,9 @@ pub one-count : (numbers : List ℕ) (r s : Counts) → Counted numbers (r .read
 one-count numbers r s a b =
     let e : r .read ≡ s .read = a .records ∙ sym (b .records) in
     ap₂ (λ (i j : ℕ). record { read = i; refused = j }) e (omega (arith, a .others, b .others))
+
+pub one-list : (t old new new′ : List ℕ) (from n m : ℕ) → ListText t old new from n → ListText t old new′ from m → (n ≡ m) × (new ≡ new′)
+one-list t old new new′ from n m a b = Answers.one-piece size digitTable t old new new′ from n m a b
 
 -- what Of has it to be of the centred code is one, where it is of any code and the list is accepted
 one-derived :

@@ -3,7 +3,7 @@ use lines::Progress;
 use refusal::Answer;
 use refusal::Check;
 ghost use Rattle.refusal.specs.Outcome.{told};
-ghost use Rattle.zurkhovel.specs.Lines.{ReadLine, WriteLine, ReadText, Counted};
+ghost use Rattle.zurkhovel.specs.Lines.{ReadLine, WriteLine, ReadText, Counted, ListText};
 
 // The digits of a text's first line, as values.
 pub fn read_line(text: &[u8], out: &mut [u8]) -> Answer
@@ -67,4 +67,12 @@ pub fn count(numbers: &[u8]) -> Counts
         }
     }
     t
+}
+
+// The listing of a text: the bytes from number `from` on, counted from 0, as many as there is room for; how many that is. Where they are fewer
+// than there is room for, the listing ends with them; else a caller goes on from `from` and as many more.
+pub fn list(text: &[u8], from: usize, out: &mut [u8]) -> usize
+    ensures { λ r. ⌜ ListText (now (text .entry)) (now (out .entry)) (now (out .exit)) from r ⌝ }
+{
+    answers::list(text, from, out)
 }
