@@ -14,6 +14,9 @@ pub mod Bits
 pub mod OneBits
 pub mod Figures
 pub mod Demand
+pub mod Seen
+pub mod Demanded
+pub mod DigitsOnly
 pub mod Round
 pub mod RoundBits
 pub mod RoundMatrix
