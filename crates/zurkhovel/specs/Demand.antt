@@ -18,25 +18,39 @@ use Rattle.refusal.specs.Giving.{Given}
 use Rattle.code.specs.Limits.{size, valence}
 use Rattle.skeleton.specs.Edges.{edgeRows}
 use Rattle.form.specs.Form.{centred}
-use Rattle.lines.specs.Line.{line}
+use Rattle.lines.specs.Line.{line, written}
 use Rattle.lines.specs.Damage.{Change, Among}
 use Rattle.zurkhovel.specs.Lines.{WriteLine, ReadText, Counted}
 
 -- ---- the clean text
 
 -- The clean text of skeletons: the n bytes that `write_line` gives for each, one behind the other. The records written are their centred
--- codes. It gives a line for accepted edge lists alone.
+-- codes.
 pub data Clean : List ℕ → List (List ℕ) → Type 0 where
   none : Clean [] []
   one-more :
       {N n : ℕ} {E old new c t : List ℕ} {cs : List (List ℕ)} → WriteLine N E old new (gives n) → centred N E c → Clean t cs
       → Clean (take n new ++ t) (c ∷ cs)
 
--- for every accepted edge list, where 68 bytes are lent, `write_line` gives the line of its centred code, and nothing else
-abbrev pub WritesItsLine : Type 0
-WritesItsLine =
-    (N : ℕ) (E old new : List ℕ) (o : Outcome ℕ) → Clear (edgeRows size valence N E 1) → 68 ≤ length old → WriteLine N E old new o
+-- the edge list E of N vertices is accepted
+abbrev pub AcceptedList : ℕ → List ℕ → Type 0
+AcceptedList N E = Clear (edgeRows size valence N E 1)
+
+-- what `write_line` gives is the line of the centred code of an accepted edge list
+abbrev pub GivesALine : Type 0
+GivesALine =
+    (N : ℕ) (E old new : List ℕ) (n : ℕ) → WriteLine N E old new (gives n)
+    → AcceptedList N E × ((c : List ℕ) × centred N E c × (take n new ≡ line c))
+
+-- and for every accepted edge list it gives that line, where 68 bytes are lent
+abbrev pub GivesEachLine : Type 0
+GivesEachLine =
+    (N : ℕ) (E old new : List ℕ) (o : Outcome ℕ) → AcceptedList N E → 68 ≤ length old → WriteLine N E old new o
     → (c : List ℕ) × centred N E c × Given (line c) old new o
+
+-- so the clean text is a line for each record written
+abbrev pub CleanLines : Type 0
+CleanLines = (t : List ℕ) (cs : List (List ℕ)) → Clean t cs → t ≡ written cs
 
 -- ---- what a caller sees
 
@@ -88,7 +102,7 @@ CleanText = (t ns ps bs : List ℕ) (cs : List (List ℕ)) → Clean t cs → In
 -- Some number is not 0; the records handed out are among the records cs, in their order; at most two are missing; as many are counted as
 -- read, and at least one line as refused.
 pub record Survives (cs : List (List ℕ)) (ns ps bs : List ℕ) : Type 0 where
-  pub refused : (i : ℕ) × (i < length ns) × (getD ns i 0 ≡ 0 → ⊥)
+  pub some-refused : (i : ℕ) × (i < length ns) × (getD ns i 0 ≡ 0 → ⊥)
   pub ordered : Among (handedOut ns ps bs) cs
   pub loses : length cs ≤ length (handedOut ns ps bs) + 2
   pub counts : (read refused : ℕ) → Counted ns read refused → (read ≡ length (handedOut ns ps bs)) × (1 ≤ refused)

@@ -18,10 +18,9 @@ use Rattle.lines.specs.Reading.{counted}
 use Rattle.lines.specs.Judged.{digitTable, lawful-table}
 use Rattle.lines.specs.Theorems as Lines
 use Rattle.zurkhovel.specs.Lines.{ReadText, zeros, Counted}
-use Rattle.zurkhovel.specs.Accepted.{skeleton-of}
-use Rattle.zurkhovel.specs.Accepted.{centred-accepted}
-use Rattle.zurkhovel.specs.Demand.{Clean, none, one-more, WritesItsLine, InTurns, ended, turn, handedOut, OneCall, TurnsAgree, CountsAdd, CleanText, OneByteChanged, AnyDamage, linesIn, AnswersEachLine, ReachesTheEnd, GetsOn, TurnsEnd}
-use Rattle.zurkhovel.specs.Seen.{numbersOf, placesOf, Shows, Seen, seen, answered, counts-records, refusal-shows, taken-numbered, lines-taken, lines-answered, lines-some}
+use Rattle.zurkhovel.specs.Accepted.{skeleton-of, centred-accepted}
+use Rattle.zurkhovel.specs.Demand.{Clean, none, one-more, GivesALine, GivesEachLine, CleanLines, InTurns, ended, turn, handedOut, OneCall, TurnsAgree, CountsAdd, CleanText, OneByteChanged, AnyDamage, linesIn, AnswersEachLine, ReachesTheEnd, GetsOn, TurnsEnd}
+use Rattle.zurkhovel.specs.Seen.{numbersOf, placesOf, Shows, Seen, seen, answered, counts-records, refusal-shows, taken-none-zero, lines-taken, lines-answered, lines-some}
 
 -- ---- the clean text
 
@@ -40,13 +39,19 @@ clean-behind : (earlier behind : List (List ℕ)) {t : List ℕ} → Clean t (ea
 clean-behind [] behind h = subst (λ t. Clean t behind) (clean-written h .1) h
 clean-behind (c ∷ earlier) behind (one-more w x h) = clean-behind earlier behind h
 
-pub writes-its-line : WritesItsLine
-writes-its-line N E old new o k h g =
+pub clean-lines : CleanLines
+clean-lines t cs h = clean-written h .1
+
+pub gives-a-line : GivesALine
+gives-a-line N E old new n w = let (k, x, _) = gave w in (k, x)
+
+pub gives-each-line : GivesEachLine
+gives-each-line N E old new o k h g =
     let s = skeleton-of k in
     let (c, x) = centred-form .some N E (s .tree) in
-    let l = line-short c (omega (arith, form-size centred centred-form N E c (s .tree) x, s .few)) in
     let m = form-size centred centred-form N E c (s .tree) x in
-    (c, x, must-give k (line c) (c, x, refl) (λ l (d, y, e). e ∙ ap line (centred-form .one (s .tree) y x)) (omega (arith, s .few)) g)
+    let l = line-short c (omega (arith, s .few)) in
+    (c, x, must-give k (line c) (c, x, refl) (λ t (d, y, e). e ∙ ap line (centred-form .one (s .tree) y x)) (omega (arith, s .few)) g)
 
 -- ---- what a caller sees
 
@@ -87,7 +92,7 @@ seen-counts :
     → (read ≡ length (handedOut ns ps bs)) × (refused ≡ refusals (s .answers))
 seen-counts {ns = ns} s read refused c =
     let os = s .answers in
-    let e = counts-records os (taken-numbered (s .taken)) in
+    let e = counts-records os (taken-none-zero (s .taken)) in
     let z = ap zeros (s .shows .numbers) in
     let l = ap length (s .shows .numbers) ∙ length-map os _ in
     let h = ap length (s .shows .handed) in
@@ -129,7 +134,7 @@ one-byte-changed t u ns ps bs cs h c r =
     let (a, f) = clean-written h in
     let w = Lines.one-byte size digitTable (omega arith) lawful-table cs u (s .answers) a (rw f at c) (answered s) in
     record {
-      refused = subst (λ (ms : List ℕ). (i : ℕ) × (i < length ms) × (getD ms i 0 ≡ 0 → ⊥)) (sym (s .shows .numbers)) (refusal-shows (s .answers) (taken-numbered (s .taken)) (w .refuses));
+      some-refused = subst (λ (ms : List ℕ). (i : ℕ) × (i < length ms) × (getD ms i 0 ≡ 0 → ⊥)) (sym (s .shows .numbers)) (refusal-shows (s .answers) (taken-none-zero (s .taken)) (w .refuses));
       ordered = rw (s .shows .handed) (w .ordered);
       loses = omega (arith, w .loses, ap length (s .shows .handed));
       counts = λ read refused c. let (p, q) = seen-counts s read refused c in (p, omega (arith, w .refuses));

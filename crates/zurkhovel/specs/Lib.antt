@@ -17,6 +17,7 @@ pub mod Demand
 pub mod Seen
 pub mod Demanded
 pub mod DigitsOnly
+pub mod Examples
 pub mod Round
 pub mod RoundBits
 pub mod RoundMatrix

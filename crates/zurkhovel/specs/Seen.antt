@@ -1,5 +1,5 @@
 -- What a caller sees of a text that is read in turns, as the answers to its lines. In order: records handed out of several turns, and of one;
--- the counts; a reading in turns; how many lines a text has. Assumes nothing.
+-- the counts; that no refusal has the number 0; a reading in turns; how many lines a text has. Assumes nothing.
 use mathlib.Core.Path.{_≡_, refl, sym, ap, ap₂, _∙_}
 use mathlib.Core.Logic.{inl, inr, if-pos, if-neg}
 use mathlib.Core.List.{List, [], _∷_, _++_, map, map-append}
@@ -49,10 +49,10 @@ handed-join (suc n ∷ ns) (p ∷ ps) bs ms qs ds e l =
     rw d (handed-join ns ps (drop 64 bs) ms qs ds (omega arith) (simp length-drop (omega arith)))
 
 -- no refusal has the number 0
-abbrev pub Numbered : List Reply → Type 0
-Numbered [] = Unit {0}
-Numbered (gives c ∷ os) = Numbered os
-Numbered (refuses k p ∷ os) = (1 ≤ k) × Numbered os
+abbrev pub NoneZero : List Reply → Type 0
+NoneZero [] = Unit {0}
+NoneZero (gives c ∷ os) = NoneZero os
+NoneZero (refuses k p ∷ os) = (1 ≤ k) × NoneZero os
 
 -- the bytes of a first line x, and of n more
 first-bytes : (x more : List ℕ) (n : ℕ) → length x ≡ 64 → take (64 * suc n) (x ++ more) ≡ x ++ take (64 * n) more
@@ -60,7 +60,7 @@ first-bytes x more n e = let q : 64 * suc n ≡ length x + 64 * n = omega arith 
 
 -- of one turn
 handed-blocks :
-    (os : List Reply) (old : List ℕ) → AllFit 64 os → Numbered os → 64 * length os ≤ length old
+    (os : List Reply) (old : List ℕ) → AllFit 64 os → NoneZero os → 64 * length os ≤ length old
     → handedOut (numbersOf os) (placesOf os) (take (64 * length os) (blocks 64 os old)) ≡ records os
 unfolding handedOut counted block blocks records
 handed-blocks [] old f n l = refl
@@ -82,7 +82,7 @@ handed-blocks (refuses (suc k) p ∷ os) old f n l =
 -- ---- the counts
 
 -- as many numbers are 0 as records are given
-pub counts-records : (os : List Reply) → Numbered os → zeros (numbersOf os) ≡ length (records os)
+pub counts-records : (os : List Reply) → NoneZero os → zeros (numbersOf os) ≡ length (records os)
 unfolding zeros counted records
 counts-records [] n = refl
 counts-records (gives c ∷ os) n = ap suc (counts-records os n)
@@ -90,14 +90,15 @@ counts-records (refuses zero p ∷ os) n = absurd (omega arith)
 counts-records (refuses (suc k) p ∷ os) n = counts-records os (n .1)
 
 -- a refusal shows as a number that is not 0
-pub refusal-shows : (os : List Reply) → Numbered os → 1 ≤ refusals os → (i : ℕ) × (i < length (numbersOf os)) × (getD (numbersOf os) i 0 ≡ 0 → ⊥)
+pub refusal-shows : (os : List Reply) → NoneZero os → 1 ≤ refusals os → (i : ℕ) × (i < length (numbersOf os)) × (getD (numbersOf os) i 0 ≡ 0 → ⊥)
 unfolding counted refusals
 refusal-shows [] n l = absurd (omega arith)
 refusal-shows (gives c ∷ os) n l = let (i, h, e) = refusal-shows os n l in (suc i, omega arith, e)
 refusal-shows (refuses k p ∷ os) n l = (0, omega arith, λ e. omega arith)
 
--- ---- the rows of a line have numbers above 0
+-- ---- no refusal has the number 0
 
+-- nor has a row
 abbrev AboveZero : List Row → Type 0
 AboveZero [] = Unit {0}
 AboveZero (r ∷ rs) = (1 ≤ r .number) × AboveZero rs
@@ -106,14 +107,14 @@ above-zero : (rs : List Row) (k p : ℕ) → AboveZero rs → Applies rs k p →
 above-zero (r ∷ rs) k p h (inl a) = omega (arith, a .0, h .0)
 above-zero (r ∷ rs) k p h (inr a) = above-zero rs k p (h .1) a
 
-line-numbered : (os : List Reply) {t : List ℕ} {o : Reply} → LineAnswers size digitTable t o → Numbered os → Numbered (o ∷ os)
-line-numbered os (kept c r) n = n
-line-numbered os {t} (left {k} {p} l e) n = (above-zero (lineRows size digitTable t) k p (search needs) (l .applies), n)
+line-none-zero : (os : List Reply) {t : List ℕ} {o : Reply} → LineAnswers size digitTable t o → NoneZero os → NoneZero (o ∷ os)
+line-none-zero os (kept c r) n = n
+line-none-zero os {t} (left {k} {p} l e) n = (above-zero (lineRows size digitTable t) k p (search needs) (l .applies), n)
 
-pub taken-numbered : {t rest : List ℕ} {os : List Reply} → Taken size digitTable t os rest → Numbered os
-taken-numbered none = tt
-taken-numbered (unfinished l f a) = line-numbered [] a tt
-taken-numbered (next {os = os} c a h) = line-numbered os a (taken-numbered h)
+pub taken-none-zero : {t rest : List ℕ} {os : List Reply} → Taken size digitTable t os rest → NoneZero os
+taken-none-zero none = tt
+taken-none-zero (unfinished l f a) = line-none-zero [] a tt
+taken-none-zero (next {os = os} c a h) = line-none-zero os a (taken-none-zero h)
 
 -- ---- a reading in turns
 
@@ -161,7 +162,7 @@ turn-shows {rec = rec} {num} {pla} {rec′} {num′} {pla′} {k} g =
       numbers = e;
       places = f;
       bytes = length-take-le (64 * k) rec′ (omega (arith, x .0, read-lengths {rec = rec} (omega arith) (g .read) .0)) ∙ ap (λ (i : ℕ). 64 * i) n;
-      handed = rw (e, f, g .read .records, n) (handed-blocks os rec fit (taken-numbered t) (omega (arith, x .0)));
+      handed = rw (e, f, g .read .records, n) (handed-blocks os rec fit (taken-none-zero t) (omega (arith, x .0)));
     }
 
 pub seen : {u ns ps bs : List ℕ} → InTurns u ns ps bs → Seen u ns ps bs
