@@ -15,9 +15,9 @@ use Rattle.lines.specs.declared.Span.{Span}
 use Rattle.lines.specs.declared.Span.the-variants.{Digits, Refused}
 use Rattle.lines.specs.Line.{Free, Cut, Formed, Shaped, row1, row2, row3, row5, frontRows}
 use Rattle.lines.specs.Form.{UpTo, Figures, values, Forms, formed, unformed, Stands, Located, stands, refused}
-use Rattle.lines.specs.Cuts.{not-free, cut-once}
 use Rattle.lines.specs.Answered.{where-is, shaped-fed}
 use Rattle.lines.specs.Taking.{length-values, unfed, fed-cut}
+use Rattle.lines.specs.Marks.{unformed-2}
 
 -- the first row applies at 0
 here : {r : Row} (rs : List Row) → r .applies 0 → FirstRefusal (r ∷ rs) (r .number) 0
@@ -32,10 +32,7 @@ module _ (most : ℕ) {t : List ℕ} where
   refused-1 f = here {r = row1 t} (row2 t ∷ row3 most t ∷ row5 t ∷ []) (refl, f)
 
   refused-2 : {b rest : List ℕ} → Cut 10 t b rest → ((n : ℕ) (ds : List ℕ) → Formed b n ds → ⊥) → FirstRefusal (frontRows most t) 2 0
-  refused-2 {b} {rest} c h =
-      after {r = row1 t} (λ q f. not-free 10 b rest (rw (c .parts) at (f .1)))
-      (here {r = row2 t} (row3 most t ∷ row5 t ∷ [])
-      (refl, λ n ds s. h n ds (rw (cut-once 10 t (s .text) (s .rest) b rest (s .feed) c .0) at (s .formed))))
+  refused-2 c h = unformed-2 c h (row3 most t ∷ row5 t ∷ [])
 
   module _ {n : ℕ} {ds : List ℕ} (s : Shaped t n ds) where
     formed-on : {k p : ℕ} → FirstRefusal (row3 most t ∷ row5 t ∷ []) k p → FirstRefusal (frontRows most t) k p

@@ -11,7 +11,7 @@ use borrow.Rule.Slice.PartMut.{midOf, putMid}
 use Rattle.laws.specs.Laid.{laidOver, Laid, laid-length}
 use Rattle.laws.specs.Laying.{laid-none, laid-more, laid-part}
 use Rattle.lines.specs.Line.{figures, decimal, body, line}
-use Rattle.lines.specs.Bodies.{length-figures}
+use Rattle.lines.specs.Bodies.{length-figures, length-line}
 
 decimal-short : (n : ℕ) → n < 10 → decimal n ≡ (48 + n) ∷ []
 unfolding decimal figures
@@ -26,10 +26,6 @@ length-short n h = ap length (decimal-short n h)
 
 pub length-long : (n : ℕ) → 10 ≤ n → length (decimal n) ≡ 2
 length-long n h = ap length (decimal-long n h)
-
-pub length-line : (c : List ℕ) → length (line c) ≡ length (decimal (length c)) + length c + 2
-unfolding line body
-length-line c = simp (length-append, length-figures) (omega arith)
 
 -- ---- the count
 

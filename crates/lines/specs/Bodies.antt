@@ -8,7 +8,7 @@ use native.Mathlib.Decide.{decLt}
 use native.Mathlib.Omega.{arith}
 use lib.ListN.{length, length-append}
 use Rattle.code.specs.Code.{sum}
-use Rattle.lines.specs.Line.{figures, decimal, body, Other, Free, Digits, IsCount, one, two, Formed}
+use Rattle.lines.specs.Line.{figures, decimal, body, line, Other, Free, Digits, IsCount, one, two, Formed}
 use Rattle.lines.specs.Damage.{Code}
 use Rattle.lines.specs.Cuts.{not-free, cut-only}
 use Rattle.lines.specs.Each.{each-join, each-right}
@@ -60,6 +60,19 @@ count-decimal {n} (two d f p q r e s) =
     let u : d ≡ n / 10 = omega arith in
     let v : f ≡ n % 10 = omega arith in
     (rw (← u, ← v) (e ∙ sym (if-neg (decLt n 10) (λ l. omega arith) _ _)), omega arith)
+
+pub length-line : (c : List ℕ) → length (line c) ≡ length (decimal (length c)) + length c + 2
+unfolding line body
+length-line c = simp (length-append, length-figures) (omega arith)
+
+count-short : {b : List ℕ} {n : ℕ} → IsCount b n → length b ≤ 2
+unfolding figures
+count-short (one l e) = omega (arith, ap length e)
+count-short (two d f p q r e s) = omega (arith, ap length e)
+
+-- a line is no longer than its digits and four bytes more
+pub line-short : (c : List ℕ) → length c ≤ 99 → length (line c) ≤ length c + 4
+line-short c h = omega (arith, length-line c, count-short (decimal-counts (length c) h))
 
 pub count-free : (k : ℕ) {b : List ℕ} {n : ℕ} → k < 48 → IsCount b n → Free k b
 count-free k {n} l (one h e) = rw e (free-figures k (n ∷ []) (inl l) (h, tt))

@@ -25,6 +25,11 @@ module _ (P : ℕ → Type 0) where
   each-of [] h = tt
   each-of (a ∷ t) h = (h 0 (omega arith), each-of t (λ i l. h (suc i) (omega arith)))
 
+-- what follows of each
+pub each-follows : {P Q : ℕ → Type 0} → ((a : ℕ) → P a → Q a) → (t : List ℕ) → Each P t → Each Q t
+each-follows h [] f = tt
+each-follows h (a ∷ t) f = (h a (f .0), each-follows h t (f .1))
+
 -- what a loop that counts i up has found of the numbers passed
 pub record Passed (P : ℕ → Type 0) (t : List ℕ) (i : ℕ) : Type 0 where
   pub within : i ≤ length t

@@ -1,4 +1,4 @@
--- The first lines of a text, as a reader takes them one by one. In order: all of them are `TextAnswers`; they are one for each number of
+-- The first lines of a text, as a reader takes them one by one. In order: all of them are `TextAnswers`, both ways; they are one for each number of
 -- lines; one more; what they leave in what is lent, w bytes for each. Assumes nothing.
 use mathlib.Core.Path.{_≡_, refl, ap, ap₂, _∙_}
 use mathlib.Core.List.{List, [], _∷_, _++_, append-assoc}
@@ -20,6 +20,11 @@ module _ (most : ℕ) (rows : List DigitRow) where
   taken-all none e = rw e TextAnswers.none
   taken-all (unfinished l f a) e = TextAnswers.unfinished l f a
   taken-all (next c a h) e = TextAnswers.next c a (taken-all h e)
+
+  pub all-taken : {t : List ℕ} {os : List Reply} → TextAnswers most rows t os → Taken most rows t os []
+  all-taken TextAnswers.none = none
+  all-taken (TextAnswers.unfinished l f a) = unfinished l f a
+  all-taken (TextAnswers.next c a h) = next c a (all-taken h)
 
   -- nothing can be taken of nothing
   none-taken : {t more : List ℕ} {os : List Reply} → Taken most rows t os more → t ≡ [] → (os ≡ []) × (more ≡ [])

@@ -13,8 +13,10 @@ pub mod Edits
 pub mod Bodies
 pub mod Answered
 pub mod Texts
+pub mod Records
 pub mod Robustness
 pub mod Lawful
 pub mod Taking
 pub mod FirstLines
 pub mod Turns
+pub mod Marks

@@ -8,6 +8,7 @@ use lib.ListN.{length, length-append}
 use Rattle.refusal.specs.Table.{Clear, gives, refuses}
 use Rattle.lines.specs.Line.{body, written, Other, Free, Cut, DigitRow, judged, TextAnswers, Reply}
 use Rattle.lines.specs.Damage.{Code, Among, end, keep, skip, records, refusals, Robust, Accept, Accepted}
+use Rattle.lines.specs.Records.{records-before, refusals-before}
 use Rattle.lines.specs.Cuts.{not-free, Seek, nowhere, found, seek}
 use Rattle.lines.specs.Each.{each-join, each-right}
 use Rattle.lines.specs.Edits.{Edit, more, edit-back, Around, before, on, behind, around}
@@ -22,19 +23,6 @@ among-before [] end = end
 among-before (c ∷ cs) end = keep (among-before cs end)
 among-before cs (keep a) = keep (among-before cs a)
 among-before cs (skip a) = skip (among-before cs a)
-
-records-before : (os : List Reply) (cs : List (List ℕ)) → records (os ++ map gives cs) ≡ records os ++ cs
-unfolding records
-records-before [] [] = refl
-records-before [] (c ∷ cs) = ap (λ ds. c ∷ ds) (records-before [] cs)
-records-before (gives c ∷ os) cs = ap (λ ds. c ∷ ds) (records-before os cs)
-records-before (refuses k p ∷ os) cs = records-before os cs
-
-refusals-before : (os ps : List Reply) → refusals os ≤ refusals (os ++ ps)
-unfolding refusals
-refusals-before [] ps = omega arith
-refusals-before (gives c ∷ os) ps = refusals-before os ps
-refusals-before (refuses k p ∷ os) ps = omega (arith, refusals-before os ps)
 
 -- what is robust stays so before a clean rest
 robust-before : (cs : List (List ℕ)) {ds : List (List ℕ)} {os : List Reply} → Robust ds os → Robust (ds ++ cs) (os ++ map gives cs)

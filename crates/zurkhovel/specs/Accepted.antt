@@ -5,11 +5,17 @@ use Prim.Native.Nat.{ℕ, _≤_}
 use native.Mathlib.Omega.{arith}
 use lib.ListN.{length}
 use Rattle.refusal.specs.Table.{Clear}
+use Rattle.refusal.specs.Laws.{others}
 use Rattle.code.specs.Limits.{size, valence}
 use Rattle.tree.specs.Skeleton.{IsTree, IsSkeleton, rooted}
 use Rattle.tree.specs.Theorems as Theorems
 use Rattle.skeleton.specs.Edges.{edgeRows}
 use Rattle.skeleton.specs.Theorems.{accepted}
+use Rattle.form.specs.Form.{centred}
+use Rattle.form.specs.Forms.{centred-form, form-size}
+use Rattle.form.specs.Accepted.{form-accepted}
+use Rattle.lines.specs.Damage.{Accept}
+use Rattle.lines.specs.Judged.{digitTable}
 
 pub skeleton-of : {most N r : ℕ} {E : List ℕ} → Clear (edgeRows most valence N E r) → IsSkeleton most valence N E
 skeleton-of {most} {N} {r} {E} k = accepted most valence N E r .0 k .0
@@ -32,3 +38,8 @@ wider h s = record { tree = s .tree; few = omega (arith, s .few); degrees = s .d
 -- and a skeleton is accepted; vertex 1 stands for a root that is not named
 pub plain-rows : {most N : ℕ} {E : List ℕ} → IsSkeleton most valence N E → Clear (edgeRows most valence N E 1)
 plain-rows {most} {N} {E} s = accepted most valence N E 1 .1 (s, (omega arith, omega (arith, s .tree .edges)))
+
+-- a skeleton's centred code is one that a line may carry
+pub centred-accepted : {N : ℕ} {E c : List ℕ} → IsSkeleton size valence N E → centred N E c → Accept size digitTable c
+centred-accepted {N} {E} {c} s x =
+    record { few = omega (arith, form-size centred centred-form N E c (s .tree) x, s .few); clear = others (form-accepted centred centred-form size valence c N E s x) }

@@ -15,6 +15,10 @@ pub mod Bits
 pub mod OneBits
 pub mod Figures
 pub mod Demand
+pub mod Seen
+pub mod Demanded
+pub mod DigitsOnly
+pub mod Examples
 pub mod Round
 pub mod RoundBits
 pub mod RoundMatrix

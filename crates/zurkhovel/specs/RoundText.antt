@@ -6,13 +6,12 @@ use Prim.Native.Nat.{ℕ, _≤_}
 use native.Mathlib.Omega.{arith}
 use lib.ListN.{length, take}
 use Rattle.refusal.specs.Table.{Outcome, gives, kept}
-use Rattle.refusal.specs.Laws.{clear-left, others}
+use Rattle.refusal.specs.Laws.{clear-left}
 use Rattle.refusal.specs.Giving.{Given, gave, must-give, written}
 use Rattle.code.specs.Limits.{size, valence}
-use Rattle.tree.specs.Skeleton.{IsSkeleton}
 use Rattle.form.specs.Form.{centred}
-use Rattle.form.specs.Forms.{centred-form, form-size}
-use Rattle.form.specs.Accepted.{right-decoded, form-accepted, form-passes}
+use Rattle.form.specs.Forms.{centred-form}
+use Rattle.form.specs.Accepted.{right-decoded, form-passes}
 use Rattle.lines.specs.Line.{body, line, Cut, lineRows, LineAnswers}
 use Rattle.lines.specs.Damage.{Accept}
 use Rattle.lines.specs.Judged.{digitTable, lawful-table}
@@ -22,7 +21,7 @@ use Rattle.lines.specs.Reading.{block, counted}
 use Rattle.lines.specs.Taking.{line-read}
 use Rattle.zurkhovel.specs.Codes.{DecodeForm}
 use Rattle.zurkhovel.specs.Lines.{ReadLine, WriteLine}
-use Rattle.zurkhovel.specs.Accepted.{skeleton-of, plain-rows}
+use Rattle.zurkhovel.specs.Accepted.{skeleton-of, plain-rows, centred-accepted}
 
 -- ---- written and read
 
@@ -42,9 +41,7 @@ pub line-back :
     → ReadLine (take n new) old′ new′ o → (c : List ℕ) × centred N E c × Given c old′ new′ o
 line-back N E old new n old′ new′ o w h g =
     let (k, (c, x, e), _) = gave w in
-    let s : IsSkeleton size valence N E = skeleton-of k in
-    let a : Accept size digitTable c =
-    record { few = omega (arith, form-size centred centred-form N E c (s .tree) x, s .few); clear = others (form-accepted centred centred-form size valence c N E s x) } in
+    let a : Accept size digitTable c = centred-accepted (skeleton-of k) x in
     (c, x, line-given c old′ new′ o a h (subst (λ t. ReadLine t old′ new′ o) e g))
 
 -- ---- read and written

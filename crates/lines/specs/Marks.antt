@@ -1,0 +1,103 @@
+-- "No line may ever hold a decimal mark: the text carries digits only."
+--
+-- In order: the bytes that a line may hold; they are those of every line that is written; a line that holds another is refused 2.
+-- Assumes nothing.
+use mathlib.Core.Path.{_≡_, refl}
+use mathlib.Core.Logic.{_⊎_, inl, inr}
+use mathlib.Core.List.{List, [], _∷_, _++_, append-assoc}
+use Prim.Native.Nat.{ℕ}
+use native.Mathlib.Omega.{arith}
+use lib.ListN.{length}
+use Rattle.refusal.specs.Table.{Row, FirstRefusal, Outcome, refuses, left}
+use Rattle.refusal.specs.Laws.{clear-one, first-place, refusal-front, refusal-back}
+use Rattle.code.specs.Limits.{size}
+use Rattle.lines.specs.Line.{figures, decimal, body, line, Each, Other, Cut, Digits, IsCount, one, two, Formed, row1, row2, LineAnswers, Reply}
+use Rattle.lines.specs.Form.{Figure, Figures}
+use Rattle.lines.specs.Judged.{digitTable}
+use Rattle.lines.specs.Reading.{ReadLine}
+use Rattle.lines.specs.Cuts.{not-free, cut-once}
+use Rattle.lines.specs.Each.{each-join, each-right, each-follows}
+use Rattle.lines.specs.Bodies.{Fits, decimal-counts}
+use Rattle.lines.specs.Answered.{answered-once}
+use Rattle.lines.specs.Taking.{read-once}
+
+-- a digit, the space or the line feed
+abbrev pub Allowed : ℕ → Type 0
+Allowed b = Figure b ⊎ ((b ≡ 32) ⊎ (b ≡ 10))
+
+-- digits, one space, digits, and one line feed, the last byte
+pub record DigitsOnly (t : List ℕ) : Type 0 where
+  pub count : List ℕ
+  pub digits : List ℕ
+  pub parts : t ≡ count ++ (32 ∷ (digits ++ (10 ∷ [])))
+  pub count-figures : Figures count
+  pub digit-figures : Figures digits
+
+-- a byte that is neither a digit nor the space, as a comma or a point
+abbrev pub Mark : ℕ → Type 0
+Mark m = (Figure m → ⊥) × Other 32 m
+
+pub comma : Mark 44
+comma = ((λ f. omega (arith, f .0)), λ e. omega arith)
+
+pub point : Mark 46
+point = ((λ f. omega (arith, f .0)), λ e. omega arith)
+
+-- ---- what is written
+
+figured : (ds : List ℕ) → Digits ds → Figures (figures ds)
+unfolding figures
+figured [] h = tt
+figured (d ∷ ds) h = ((omega arith, omega (arith, h .0)), figured ds (h .1))
+
+count-figured : {b : List ℕ} {n : ℕ} → IsCount b n → Figures b
+count-figured {n = n} (one h e) = rw e (figured (n ∷ []) (h, tt))
+count-figured (two d f p q r e s) = rw e (figured (d ∷ f ∷ []) (q, (r, tt)))
+
+pub line-digits : (c : List ℕ) → Fits c → DigitsOnly (line c)
+unfolding line body
+line-digits c f =
+    record {
+      count = decimal (length c);
+      digits = figures c;
+      parts = append-assoc (decimal (length c)) (32 ∷ figures c) (10 ∷ []);
+      count-figures = count-figured (decimal-counts (length c) (f .few));
+      digit-figures = figured c (f .code .digits);
+    }
+
+pub each-allowed : {t : List ℕ} → DigitsOnly t → Each Allowed t
+each-allowed d =
+    rw (d .parts)
+    (each-join Allowed (d .count) (32 ∷ (d .digits ++ (10 ∷ []))) (each-follows (λ a f. inl f) (d .count) (d .count-figures))
+    (inr (inl refl), each-join Allowed (d .digits) (10 ∷ []) (each-follows (λ a f. inl f) (d .digits) (d .digit-figures)) (inr (inr refl), tt)))
+
+-- ---- what is refused
+
+-- what has a line's form holds no mark
+formed-unmarked : {b : List ℕ} {n : ℕ} {ds : List ℕ} → Formed b n ds → Each (λ m. Mark m → ⊥) b
+formed-unmarked {ds = ds} f =
+    rw (f .parts)
+    (each-join (λ m. Mark m → ⊥) (f .count) (32 ∷ figures ds) (each-follows (λ a g k. k .0 g) (f .count) (count-figured (f .counts)))
+    ((λ k. k .1 refl), each-follows (λ a g k. k .0 g) (figures ds) (figured ds (f .digits))))
+
+-- a line that has not the form is refused 2, whatever rows stand behind row 2
+pub unformed-2 :
+    {t b rest : List ℕ} → Cut 10 t b rest → ((n : ℕ) (ds : List ℕ) → Formed b n ds → ⊥) → (rows : List Row)
+    → FirstRefusal (row1 t ∷ row2 t ∷ rows) 2 0
+unformed-2 {t} {b} {rest} c h rows =
+    refusal-back {xs = row1 t ∷ []} (clear-one {r = row1 t} (λ p f. not-free 10 b rest (rw (c .parts) at (f .1))))
+    (refusal-front {xs = row2 t ∷ []} rows
+    (first-place {r = row2 t} (refl, λ n ds s. h n ds (rw (cut-once 10 t (s .text) (s .rest) b rest (s .feed) c .0) at (s .formed))) (λ q l a. absurd (omega arith))))
+
+-- the first line of t holds the mark m
+module _ {t b rest : List ℕ} (c : Cut 10 t b rest) (x y : List ℕ) (m : ℕ) (p : b ≡ x ++ (m ∷ y)) (k : Mark m) where
+  unformed : (n : ℕ) (ds : List ℕ) → Formed b n ds → ⊥
+  unformed n ds f = each-right (λ a. Mark a → ⊥) x (m ∷ y) (rw p at (formed-unmarked f)) .0 k
+
+  -- it is refused 2 in a text
+  pub marked-answer : {o : Reply} → LineAnswers size digitTable t o → o ≡ refuses 2 0
+  marked-answer h = answered-once size digitTable h (left (unformed-2 c unformed _) refl)
+
+  -- and by itself
+  pub marked-line : {old new : List ℕ} {o : Outcome ℕ} → ReadLine size digitTable t old new o → (o ≡ refuses 2 0) × (new ≡ old)
+  marked-line h = read-once size digitTable h (left (unformed-2 c unformed _) refl)
