@@ -12,6 +12,7 @@ use lib.Seq.{take-append-le, drop-append-le, take-append-add, take-at, drop-at, 
 use Rattle.laws.specs.Laid.{laidOver, laid-length}
 use Rattle.laws.specs.Laying.{laid-front}
 use Rattle.refusal.specs.Table.{Row, Applies, gives, refuses, kept, left}
+use Rattle.refusal.specs.Laws.{applied}
 use Rattle.code.specs.Limits.{size}
 use Rattle.lines.specs.Line.{Free, lineRows, LineAnswers, TextAnswers, Reply}
 use Rattle.lines.specs.Judged.{digitTable}
@@ -109,7 +110,7 @@ above-zero (r ∷ rs) k p h (inr a) = above-zero rs k p (h .1) a
 
 line-none-zero : (os : List Reply) {t : List ℕ} {o : Reply} → LineAnswers size digitTable t o → NoneZero os → NoneZero (o ∷ os)
 line-none-zero os (kept c r) n = n
-line-none-zero os {t} (left {k} {p} l e) n = (above-zero (lineRows size digitTable t) k p (search needs) (l .applies), n)
+line-none-zero os {t} (left {k} {p} l e) n = (above-zero (lineRows size digitTable t) k p (search needs) (applied l), n)
 
 pub taken-none-zero : {t rest : List ℕ} {os : List Reply} → Taken size digitTable t os rest → NoneZero os
 taken-none-zero none = tt
