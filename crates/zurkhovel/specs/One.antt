@@ -1,7 +1,7 @@
 -- Read from its promise alone, every public call has one possible result and one possible state of its lent output. r, s: the call's own
 -- results; new, new′: the output after it. Each is a case of one law, `one-result`, by way of `one-given` where the call writes; the law is
 -- about what is told of a result, which tells two different ones apart (`Apart` of the crate `refusal`, `said-apart` here). Assumes nothing.
-use mathlib.Core.Path.{_≡_, refl, sym, _∙_}
+use mathlib.Core.Path.{_≡_, refl, sym, ap, _∙_}
 use mathlib.Core.Bool.{Bool, true, false}
 use mathlib.Core.List.{List}
 use Prim.Native.Nat.{ℕ}
@@ -90,7 +90,12 @@ said-apart Different Different e = cc
 said-apart Different (Refused i k p) e = cc
 said-apart (Refused i k p) Same e = cc
 said-apart (Refused i k p) Different e = cc
-said-apart (Refused i k p) (Refused j l q) e = cc
+said-apart (Refused i k p) (Refused j l q) e =
+    let named : _≡_ {A = ℕ × ℕ} (i, k) (j, l) = cc in
+    let list : i ≡ j = ap (λ (x : ℕ × ℕ). x .0) named in
+    let number : k ≡ l = ap (λ (x : ℕ × ℕ). x .1) named in
+    let place : p ≡ q = cc in
+    cc
 
 pub one-same-skeleton :
     (N : ℕ) (E : List ℕ) (P : ℕ) (F : List ℕ) (r s : Verdict) → SameSkeleton N E P F (said r) → SameSkeleton N E P F (said s) → r ≡ s
