@@ -8,7 +8,7 @@ use native.Mathlib.Omega.{arith}
 use lib.ListN.{length, getD}
 use lib.Seq.{ext-getD, length-take-le, getD-take}
 use Rattle.laws.specs.Once.{Once, once-perm}
-use Rattle.code.specs.Limits.{size, valence}
+use Rattle.limits.specs.Limits.{size, valence}
 use Rattle.tree.specs.Skeleton.{arcs, neighbours, degree, IsTree, Degrees}
 use Rattle.tree.specs.Walks.{turn, arc-end}
 use Rattle.tree.specs.Forest.{Forest, none, tree, Distinct, Rooted}

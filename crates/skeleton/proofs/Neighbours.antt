@@ -6,7 +6,7 @@ use native.Mathlib.Decide.{ℕ-discrete, decLt}
 use native.Mathlib.Omega.{arith}
 use lib.ListN.{length, getD, set, replicate, length-set, length-replicate, getD-replicate, length-append, List·getD-append}
 use lib.Seq.{getD-set-same, getD-set-other, getD-append-seam}
-use Rattle.code.specs.Limits.{size, valence}
+use Rattle.limits.specs.Limits.{size, valence}
 use Rattle.tree.specs.Skeleton.{Arc, arcs, neighbours, degree, Degrees, IsSkeleton}
 use Rattle.skeleton.specs.Edges.{Edge, one, other, before}
 use Rattle.skeleton.specs.Prefix.{arcs-more, arcs-all, neighbours-nil, neighbours-append, neighbours-hit, neighbours-miss, neighbours-count, hit, hit-same, degree-within, one-in, other-in}

@@ -7,7 +7,7 @@ use mathlib.Core.Bool.{Bool, true, false}
 use mathlib.Core.List.{List, []}
 use Prim.Native.Nat.{ℕ, zero, suc, _+_, _-_, _≤_, _<_}
 use lib.ListN.{length, getD, set}
-use Rattle.code.specs.Limits.{size, valence}
+use Rattle.limits.specs.Limits.{size, valence}
 
 -- r says whether P holds
 pub record Tells (P : Type 0) (r : Bool) : Type 0 where

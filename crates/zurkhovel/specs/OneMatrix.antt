@@ -8,7 +8,7 @@ use Prim.Native.Nat.{ℕ}
 use Rattle.refusal.specs.Table.{Outcome, Answered}
 use Rattle.refusal.specs.Laws.{one-accepted, one-result}
 use Rattle.refusal.specs.Giving.{one-given, one-clear}
-use Rattle.code.specs.Limits.{valence}
+use Rattle.limits.specs.Limits.{valence}
 use Rattle.code.specs.Code.{decode}
 use Rattle.tree.specs.Skeleton.{IsTree}
 use Rattle.skeleton.specs.Edges.{edgeRows}

@@ -3,7 +3,7 @@ use mathlib.Core.Path.{refl}
 use native.Mathlib.Omega.{arith}
 use borrow.Author.Needs.{needs}
 use Rattle.refusal.specs.Laws.{was-clear, was-lowest}
-use Rattle.code.specs.Limits.{size}
+use Rattle.limits.specs.Limits.{size}
 use Rattle.lines.specs.Form.{Stands}
 use Rattle.lines.specs.Judged.{digitTable}
 use Rattle.lines.specs.Taking.{stands-length, read-front, read-digits, read-short, read-line}

@@ -8,7 +8,7 @@ use borrow.Author.Count.{below-more}
 use lib.ListN.{length, getD}
 use Rattle.refusal.specs.Laws.{clear-one, first-place}
 use Rattle.refusal.specs.Table.{passes, fails}
-use Rattle.code.specs.Limits.{valence}
+use Rattle.limits.specs.Limits.{valence}
 use Rattle.skeleton.specs.Edges.{row9}
 use Rattle.skeleton.proofs.Tally.{Tally, tally-none, tally-more, tally-at, bump-small}
 use Rattle.skeleton.proofs.degrees.Statement.{statement}
