@@ -16,10 +16,10 @@ ghost use Prim.Native.Nat.{_+_, _-_, _*_, _/_, _^_, _≤_, _<_};
 ghost use lib.ListN.{length};
 ghost use Rattle.laws.specs.Laid.{laidOver};
 ghost use Rattle.refusal.specs.Table.{Answers, Clear, row3};
-ghost use Rattle.code.specs.Limits.{size, valence};
+ghost use Rattle.limits.specs.Limits.{size, valence, zeroSize, aSize};
 ghost use Rattle.tree.specs.Skeleton.{IsSkeleton};
 ghost use Rattle.skeleton.specs.Edges.{Edge, one, other};
-ghost use Rattle.adjacency.specs.Adjacency.{lower, Physical, row14, cam, camEdges, zeroA, factorial, zeroCam, zeroMost, row4, row5-cam, row6-cam, madeRows, camRows, zeroRows, bits, aZero, rows, aEdges, aMost, row5-ones, aRows};
+ghost use Rattle.adjacency.specs.Adjacency.{lower, Physical, row14, cam, camEdges, zeroA, factorial, zeroCam, row4, row5-cam, row6-cam, madeRows, camRows, zeroRows, bits, aZero, rows, aEdges, row5-ones, aRows};
 ghost use Rattle.adjacency.specs.Entries.{Entries};
 ghost use Rattle.adjacency.specs.Made.{camFront};
 ghost use Rattle.adjacency.specs.Parts.{Numbered, Gives, Only, Column};
@@ -170,7 +170,7 @@ pub fn cam_check(n: usize, cam: &[u8]) -> Check
 
 // The 0A of a CAM.
 pub fn zero_a(cam: &[u8]) -> u64
-    requires { ⌜ Entries 1 (now cam) × (length (now cam) < zeroMost) ⌝ }
+    requires { ⌜ Entries 1 (now cam) × (length (now cam) < zeroSize) ⌝ }
     ensures { λ r. ⌜ r ≡ zeroA (now (cam .entry)) ⌝ }
 {
     let m = cam.len();
@@ -184,7 +184,7 @@ pub fn zero_a(cam: &[u8]) -> u64
 }
 
 fn factorial(k: usize) -> u64
-    requires { ⌜ k < zeroMost ⌝ }
+    requires { ⌜ k < zeroSize ⌝ }
     ensures { λ r. ⌜ r ≡ factorial k ⌝ }
 {
     let mut f: u64 = 1;
@@ -198,7 +198,7 @@ fn factorial(k: usize) -> u64
 
 // The CAM of a 0A. What is left of x holds the entries before i; entry i is a digit in the base i.
 pub fn zero_cam(n: usize, x: u64, out: &mut [u8])
-    requires { ⌜ (1 ≤ n) × (n ≤ zeroMost) × (n ≤ length (now out) + 1) ⌝ }
+    requires { ⌜ (1 ≤ n) × (n ≤ zeroSize) × (n ≤ length (now out) + 1) ⌝ }
     ensures { λ _. ⌜ now (out .exit) ≡ laidOver (zeroCam n x) (now (out .entry)) ⌝ }
 {
     let mut v = x;
@@ -213,7 +213,7 @@ pub fn zero_cam(n: usize, x: u64, out: &mut [u8])
 
 // 3 and 4 of a 0A.
 fn zero_sizes(n: usize, x: u64) -> Check
-    ensures { λ r. ⌜ Answers (row3 zeroMost n ∷ row4 (factorial (n - 1)) x ∷ []) r ⌝ }
+    ensures { λ r. ⌜ Answers (row3 zeroSize n ∷ row4 (factorial (n - 1)) x ∷ []) r ⌝ }
 {
     if let Check::Refuse(k, p) = refusal::sized(n, ZERO_SIZE) {
         return Check::Refuse(k, p);
@@ -226,7 +226,7 @@ fn zero_sizes(n: usize, x: u64) -> Check
 
 // Every refusal of a 0A.
 pub fn zero_check(n: usize, x: u64) -> Check
-    ensures { λ r. ⌜ Answers (zeroRows zeroMost valence n x) r ⌝ }
+    ensures { λ r. ⌜ Answers (zeroRows zeroSize valence n x) r ⌝ }
 {
     if let Check::Refuse(k, p) = zero_sizes(n, x) {
         return Check::Refuse(k, p);
@@ -238,7 +238,7 @@ pub fn zero_check(n: usize, x: u64) -> Check
 
 // BIN of vertex v: bit r - 1 for each lower neighbour r.
 fn bin(edges: &[u8], v: usize) -> u64
-    requires { ⌜ Numbered (now edges) × (v ≤ aMost) × (length (now edges) < 2 * aMost) ⌝ }
+    requires { ⌜ Numbered (now edges) × (v ≤ aSize) × (length (now edges) < 2 * aSize) ⌝ }
     ensures { λ r. ⌜ r ≡ bits (lower (now (edges .entry)) v) ⌝ }
 {
     let m = edges.len() / 2;
@@ -256,7 +256,7 @@ fn bin(edges: &[u8], v: usize) -> u64
 
 // The A0 of a skeleton.
 pub fn a_zero(n: usize, edges: &[u8]) -> u64
-    requires { ⌜ IsSkeleton aMost valence n (now edges) ⌝ }
+    requires { ⌜ IsSkeleton aSize valence n (now edges) ⌝ }
     ensures { λ r. ⌜ r ≡ aZero n (now (edges .entry)) ⌝ }
 {
     let mut x: u64 = 0;
@@ -270,7 +270,7 @@ pub fn a_zero(n: usize, edges: &[u8]) -> u64
 
 // The edges of column i, rows ascending, and how many bytes they are.
 fn column(i: usize, b: u64, out: &mut [u8]) -> usize
-    requires { ⌜ (i < aMost) × (2 * length (rows 1 i b) ≤ length (now out)) ⌝ }
+    requires { ⌜ (i < aSize) × (2 * length (rows 1 i b) ≤ length (now out)) ⌝ }
     ensures { λ r. ⌜ Column i b (now (out .entry)) r (now (out .exit)) ⌝ }
 {
     let mut k: usize = 0;
@@ -290,7 +290,7 @@ fn column(i: usize, b: u64, out: &mut [u8]) -> usize
 
 // The edges that an A0 makes, by column.
 pub fn a_edges(n: usize, x: u64, out: &mut [u8])
-    requires { ⌜ (1 ≤ n) × (n ≤ aMost) × (length (aEdges n x) ≤ length (now out)) ⌝ }
+    requires { ⌜ (1 ≤ n) × (n ≤ aSize) × (length (aEdges n x) ≤ length (now out)) ⌝ }
     ensures { λ _. ⌜ now (out .exit) ≡ laidOver (aEdges n x) (now (out .entry)) ⌝ }
 {
     let mut s = n * (n - 1) / 2;
@@ -306,7 +306,7 @@ pub fn a_edges(n: usize, x: u64, out: &mut [u8])
 
 // 3, 4 and 5 of an A0.
 fn a_sizes(n: usize, x: u64) -> Check
-    ensures { λ r. ⌜ Answers (row3 aMost n ∷ row4 (2 ^ (n * (n - 1) / 2)) x ∷ row5-ones n x ∷ []) r ⌝ }
+    ensures { λ r. ⌜ Answers (row3 aSize n ∷ row4 (2 ^ (n * (n - 1) / 2)) x ∷ row5-ones n x ∷ []) r ⌝ }
 {
     if let Check::Refuse(k, p) = refusal::sized(n, A_SIZE) {
         return Check::Refuse(k, p);
@@ -322,7 +322,7 @@ fn a_sizes(n: usize, x: u64) -> Check
 
 // Every refusal of an A0.
 pub fn a_check(n: usize, x: u64) -> Check
-    ensures { λ r. ⌜ Answers (aRows aMost valence n x) r ⌝ }
+    ensures { λ r. ⌜ Answers (aRows aSize valence n x) r ⌝ }
 {
     if let Check::Refuse(k, p) = a_sizes(n, x) {
         return Check::Refuse(k, p);

@@ -11,7 +11,7 @@ use native.Mathlib.Omega.{arith}
 use lib.ListN.{length, take, drop, set, length-append, length-set, drop-of-length-le}
 use lib.Seq.{take-suc-set, take-take}
 use Rattle.refusal.specs.Table.{Clear, FirstRefusal}
-use Rattle.code.specs.Limits.{size}
+use Rattle.limits.specs.Limits.{size}
 use Rattle.code.specs.Code.{sum, EndsAt, cap, row12}
 use Rattle.bits.specs.declared.Found.{Found}
 use Rattle.bits.specs.declared.Found.the-variants.{Over, Short, Ended}

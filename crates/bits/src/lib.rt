@@ -3,7 +3,7 @@ ghost use mathlib.Core.Path.{_≡_};
 ghost use mathlib.Core.List.{[], _∷_};
 ghost use Prim.Native.Nat.{_+_, _-_, _*_, _/_, _^_, _<_, _≤_};
 ghost use lib.ListN.{length, getD, drop};
-ghost use Rattle.code.specs.Limits.{size, valence};
+ghost use Rattle.limits.specs.Limits.{size, valence, packedBytes, wholeSize};
 ghost use Rattle.bits.specs.Bits.{bytes, word, fractionBits, Fill, Nothing, Zeros, row4, packedRows, wholeRows};
 ghost use Rattle.bits.specs.Words.{lead};
 ghost use Rattle.bits.specs.Digit.{Near};
@@ -13,7 +13,6 @@ ghost use Rattle.bits.specs.Written.{Coded, Packs, Numbers};
 ghost use Rattle.bits.specs.Writing.{Room};
 ghost use Rattle.refusal.specs.Table.{Answers, Writes};
 ghost use Rattle.bits.specs.Decided.{Ended, Ordered, Decision};
-ghost use Rattle.bits.specs.Limits.{packedBytes, wholeSize};
 use refusal::Answer;
 use refusal::Check;
 

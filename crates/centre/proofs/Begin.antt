@@ -7,7 +7,7 @@ use Prim.Native.Nat.{ℕ, _-_, _≤_}
 use native.Mathlib.Omega.{arith}
 use lib.ListN.{length, getD}
 use lib.Seq.{ext-getD, length-take-le, getD-take}
-use Rattle.code.specs.Limits.{size, valence}
+use Rattle.limits.specs.Limits.{size, valence}
 use Rattle.tree.specs.Skeleton.{arcs, neighbours, degree, Degrees}
 use Rattle.tree.specs.Walks.{turn, arc-end}
 use Rattle.tree.specs.Arcs.{near-arc, arc-near, neighbours-once}

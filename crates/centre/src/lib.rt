@@ -6,7 +6,7 @@ ghost use mathlib.Core.Path.{_≡_};
 ghost use mathlib.Core.List.{List, List·Memᴰ};
 ghost use Prim.Native.Nat.{ℕ, _≤_, _<_};
 ghost use lib.ListN.{length, take};
-ghost use Rattle.code.specs.Limits.{size, valence};
+ghost use Rattle.limits.specs.Limits.{size, valence};
 ghost use Rattle.tree.specs.Skeleton.{IsTree};
 ghost use Rattle.path.specs.Path.{IsCentre};
 ghost use Rattle.skeleton.specs.Table.{Shaped, IsTable, Held};

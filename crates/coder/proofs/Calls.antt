@@ -6,7 +6,7 @@ use Prim.Native.Nat.{ℕ, suc, _+_, _-_, _≤_, _<_}
 use native.Mathlib.Decide.{ℕ-discrete}
 use native.Mathlib.Omega.{arith}
 use lib.ListN.{length, getD, drop, set, replicate}
-use Rattle.code.specs.Limits.{size, valence}
+use Rattle.limits.specs.Limits.{size, valence}
 use Rattle.tree.specs.Skeleton.{join}
 use Rattle.coder.specs.Coded.{put, cells, but, kids, coded, deg, cell, Rows, Blank}
 use Rattle.coder.proofs.Depth.{join-length, whole, some-digit, no-child}

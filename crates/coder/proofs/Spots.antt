@@ -14,7 +14,7 @@ use Rattle.laws.specs.Order.{_≽_, insert, Falling}
 use Rattle.laws.specs.Sorting.{below≽, refl≽}
 use Rattle.code.specs.Code.{sum}
 use Rattle.code.specs.Counting.{sum-more}
-use Rattle.code.specs.Limits.{valence}
+use Rattle.limits.specs.Limits.{valence}
 use Rattle.code.specs.Parts.{flatten-append}
 use Rattle.code.specs.Compare.{lex, lex-says, Compares, less, equal, greater}
 use Rattle.code.specs.declared.Order.{Order}

@@ -10,7 +10,7 @@ use lib.ListN.{length, getD, take, drop}
 use lib.Seq.{take-suc, take-length}
 use Rattle.laws.specs.Places.{at-in}
 use Rattle.laws.specs.Laid.{laidOver}
-use Rattle.code.specs.Limits.{size, valence}
+use Rattle.limits.specs.Limits.{size, valence}
 use Rattle.tree.specs.Skeleton.{arcs, neighbours, degree, Degrees, IsTree, children, join, codeAt, rooted}
 use Rattle.tree.specs.Label.{rootedₗ}
 use Rattle.tree.specs.Base.{base, rooted-base}

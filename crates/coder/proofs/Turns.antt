@@ -13,7 +13,7 @@ use Rattle.laws.specs.Order.{sort, insert}
 use Rattle.laws.specs.Sorting.{sort-perm}
 use Rattle.laws.specs.Perms.{perm-in, perm-length}
 use Rattle.code.specs.Code.{sum}
-use Rattle.code.specs.Limits.{valence}
+use Rattle.limits.specs.Limits.{valence}
 use Rattle.code.specs.Parts.{flatten-append}
 use Rattle.tree.specs.Skeleton.{join}
 use Rattle.coder.specs.Coded.{put, cells, Stand}

@@ -8,7 +8,7 @@ use Prim.Native.Nat.{ℕ, zero, suc, _+_, _-_, _≤_, _<_}
 use native.Mathlib.Decide.{ℕ-discrete}
 use lib.ListN.{length, getD, take, drop, replicate}
 use Rattle.laws.specs.Order.{insert}
-use Rattle.code.specs.Limits.{size, valence}
+use Rattle.limits.specs.Limits.{size, valence}
 use Rattle.code.specs.declared.Order.{Order}
 use Rattle.code.specs.declared.Order.the-variants.{Less, Equal, Greater}
 use Rattle.tree.specs.Skeleton.{join}

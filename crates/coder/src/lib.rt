@@ -8,7 +8,7 @@ ghost use Rattle.laws.specs.Part.{part};
 ghost use Rattle.laws.specs.Order.{Falling, insert};
 ghost use Rattle.code.specs.Compare.{lex};
 ghost use Rattle.code.specs.Code.{sum};
-ghost use Rattle.code.specs.Limits.{size, valence};
+ghost use Rattle.limits.specs.Limits.{size, valence};
 ghost use Rattle.laws.specs.Laid.{laidOver};
 ghost use Rattle.tree.specs.Skeleton as tree;
 ghost use Rattle.skeleton.specs.Table.{IsTable, Held};

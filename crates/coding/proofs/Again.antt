@@ -10,7 +10,7 @@ use Rattle.refusal.specs.Table.{Clear, Answers, passes, fails, Writes}
 use Rattle.refusal.specs.Laws.{clear-one, first-place}
 use Rattle.refusal.specs.Giving.{laid-writes, written, written-room, written-length}
 use Rattle.refusal.specs.declared.Check.the-variants.{Passed, Refuse}
-use Rattle.code.specs.Limits.{size, valence}
+use Rattle.limits.specs.Limits.{size, valence}
 use Rattle.code.specs.Code.{codeRows, decode}
 use Rattle.code.specs.Right.{Right, clear-right}
 use Rattle.tree.specs.Skeleton.{IsSkeleton}

@@ -6,7 +6,7 @@ ghost use mathlib.Core.List.{[], _∷_};
 ghost use Prim.Native.Nat.{_≤_};
 ghost use lib.ListN.{length};
 ghost use Rattle.refusal.specs.Table.{Writes, Clear, Answers};
-ghost use Rattle.code.specs.Limits.{size, valence};
+ghost use Rattle.limits.specs.Limits.{size, valence};
 ghost use Rattle.code.specs.Code.{codeRows};
 ghost use Rattle.tree.specs.Skeleton as tree;
 ghost use Rattle.form.specs.Form.{nTuple, centred, row14, formRows};

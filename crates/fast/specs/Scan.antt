@@ -9,7 +9,7 @@ use native.Mathlib.Omega.{arith}
 use lib.ListN.{length, getD, set, take, drop}
 use lib.Seq.{drop-cons, drop-length}
 use Rattle.laws.specs.Order.{Falling}
-use Rattle.code.specs.Limits.{size, valence}
+use Rattle.limits.specs.Limits.{size, valence}
 use Rattle.code.specs.Code.{codes, digit, cap}
 use Rattle.code.specs.Ends.{Ends}
 use Rattle.code.specs.Ordered.{Ordered, by-places}

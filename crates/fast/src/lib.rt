@@ -9,7 +9,7 @@ ghost use Prim.Native.Nat.{suc, _-_, _≤_, _<_};
 ghost use lib.ListN.{length, getD, drop};
 ghost use Rattle.laws.specs.Part.{part};
 ghost use Rattle.refusal.specs.Table.{Clear, Answers};
-ghost use Rattle.code.specs.Limits.{size, valence};
+ghost use Rattle.limits.specs.Limits.{size, valence};
 ghost use Rattle.code.specs.Code.{codes, codeRows};
 ghost use Rattle.code.specs.Ends.{Ends};
 ghost use Rattle.code.specs.Right.{Right};

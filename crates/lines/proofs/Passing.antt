@@ -10,7 +10,7 @@ use mir.Val.{Fits}
 use borrow.Rule.Slice.PartMut.{midOf, putMid}
 use Rattle.refusal.specs.Table.{Outcome}
 use Rattle.lines.specs.Form.{UpTo}
-use Rattle.code.specs.Limits.{size}
+use Rattle.limits.specs.Limits.{size}
 use Rattle.lines.specs.Reading.{numberOf, placeOf, Behind, Room, ReadLine, ReadSoFar, ReadText}
 use Rattle.lines.specs.Taking.{line-read}
 use Rattle.lines.specs.Turns.{read-more, read-lengths}

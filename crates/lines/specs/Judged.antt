@@ -5,7 +5,7 @@ use Prim.Native.Nat.{ℕ}
 use native.Mathlib.Omega.{arith}
 use lib.ListN.{length}
 use Rattle.refusal.specs.Table.{Clear, row3}
-use Rattle.code.specs.Limits.{size, valence}
+use Rattle.limits.specs.Limits.{size, valence}
 use Rattle.code.specs.Code.{row10, row11, row12, row13}
 use Rattle.form.specs.Form.{centred, row14, formRows}
 use Rattle.lines.specs.Line.{DigitRow, digitRow, judged}

@@ -7,7 +7,7 @@ ghost use mathlib.Core.List.{List, _∷_};
 ghost use Prim.Native.Nat.{ℕ, _≤_, _<_};
 ghost use lib.ListN.{length, set};
 ghost use Rattle.laws.specs.Laid.{laidOver, Laid};
-ghost use Rattle.code.specs.Limits.{size};
+ghost use Rattle.limits.specs.Limits.{size};
 ghost use Rattle.refusal.specs.Table.{Answers, row3};
 ghost use Rattle.refusal.specs.Outcome.{told};
 ghost use Rattle.lines.specs.Line.{Digits, figures, decimal, line, judged};

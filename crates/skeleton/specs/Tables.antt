@@ -6,11 +6,12 @@ use native.Mathlib.Decide.{decLt}
 use native.Mathlib.Omega.{arith}
 use lib.ListN.{getD}
 use lib.Seq.{ext-getD}
+use Rattle.limits.specs.Limits.{size, width}
 use Rattle.tree.specs.Skeleton.{degree}
 use Rattle.skeleton.specs.Table.{IsTable}
 
 module _ {N : ℕ} {E : List ℕ} {t u : List (List ℕ)} {d e : List ℕ} (h : IsTable N E t d) (k : IsTable N E u e) where
-  one-degree : (i : ℕ) → i < 64 → getD d i 0 ≡ getD e i 0
+  one-degree : (i : ℕ) → i < size → getD d i 0 ≡ getD e i 0
   one-degree i l = step (decLt i N)
     where
       step : Dec (i < N) → getD d i 0 ≡ getD e i 0
@@ -19,7 +20,7 @@ module _ {N : ℕ} {E : List ℕ} {t u : List (List ℕ)} {d e : List ℕ} (h : 
           rw a at (h .degs (i + 1) (omega arith) (omega arith) ∙ sym (k .degs (i + 1) (omega arith) (omega arith)))
       step (no n) = h .none i (omega arith) l ∙ sym (k .none i (omega arith) l)
 
-  one-number : (i j : ℕ) → i < 64 → j < 4 → getD (getD t i []) j 0 ≡ getD (getD u i []) j 0
+  one-number : (i j : ℕ) → i < size → j < width → getD (getD t i []) j 0 ≡ getD (getD u i []) j 0
   one-number i j l m = step (decLt j (getD d i 0)) (decLt i N)
     where
       step : Dec (j < getD d i 0) → Dec (i < N) → getD (getD t i []) j 0 ≡ getD (getD u i []) j 0
@@ -37,6 +38,6 @@ module _ {N : ℕ} {E : List ℕ} {t u : List (List ℕ)} {d e : List ℕ} (h : 
     ext-getD 0 d e (h .shaped .degs ∙ sym (k .shaped .degs)) (λ i l. one-degree i (rw (h .shaped .degs) at l)),
   )
     where
-      one-row : (i : ℕ) → i < 64 → getD t i [] ≡ getD u i []
+      one-row : (i : ℕ) → i < size → getD t i [] ≡ getD u i []
       one-row i m =
           ext-getD 0 _ _ (h .shaped .wide i m ∙ sym (k .shaped .wide i m)) (λ j l. one-number i j m (rw (h .shaped .wide i m) at l))

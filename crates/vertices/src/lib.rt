@@ -8,7 +8,7 @@ ghost use Prim.Native.Nat.{suc, _≤_, _<_};
 ghost use lib.ListN.{length, take};
 ghost use Rattle.laws.specs.Laid.{Laid};
 ghost use Rattle.refusal.specs.Table.{Clear};
-ghost use Rattle.code.specs.Limits.{size, valence};
+ghost use Rattle.limits.specs.Limits.{size, valence};
 ghost use Rattle.code.specs.Code.{codeRows};
 ghost use Rattle.code.specs.Ends.{Ends};
 ghost use Rattle.code.specs.Search.{Known};

@@ -9,7 +9,7 @@ use Rattle.laws.specs.Laid.{Laid}
 use Rattle.refusal.specs.Table.{Clear, gives, refuses, Writes, Gives}
 use Rattle.refusal.specs.Laws.{clear-left, others}
 use Rattle.refusal.specs.Giving.{refused-short, given, written, written-length}
-use Rattle.code.specs.Limits.{size, valence}
+use Rattle.limits.specs.Limits.{size, valence}
 use Rattle.code.specs.Code.{codeRows}
 use Rattle.tree.specs.Skeleton.{IsSkeleton}
 use Rattle.skeleton.specs.Edges.{edgeRows}

@@ -12,7 +12,7 @@ use Rattle.laws.specs.Laid.{laidOver, Laid}
 use Rattle.refusal.specs.Table.{Clear, Outcome, gives, Answered, kept, Writes, Gives}
 use Rattle.refusal.specs.Laws.{at-most}
 use Rattle.refusal.specs.Giving.{written}
-use Rattle.code.specs.Limits.{size, valence}
+use Rattle.limits.specs.Limits.{size, valence}
 use Rattle.code.specs.Code.{digitRows}
 use Rattle.tree.specs.Skeleton.{rooted}
 use Rattle.tree.specs.Theorems.{right, degrees}

@@ -5,7 +5,7 @@ use Prim.Native.Nat.{ℕ, _≤_}
 use native.Mathlib.Omega.{arith}
 use lib.ListN.{length}
 use Rattle.refusal.specs.Table.{Clear}
-use Rattle.code.specs.Limits.{size, valence}
+use Rattle.limits.specs.Limits.{size, valence}
 use Rattle.tree.specs.Skeleton.{IsTree, IsSkeleton, rooted}
 use Rattle.tree.specs.Theorems as Theorems
 use Rattle.skeleton.specs.Edges.{edgeRows}

@@ -10,7 +10,7 @@ use mathlib.Core.List.{List, _∷_, _++_}
 use Prim.Native.Nat.{ℕ}
 use native.Mathlib.Omega.{arith}
 use lib.ListN.{length}
-use Rattle.code.specs.Limits.{size}
+use Rattle.limits.specs.Limits.{size}
 use Rattle.lines.specs.Line.{written}
 use Rattle.lines.specs.Damage.{Change, Robust, Accepted, Recovers}
 use Rattle.lines.specs.Judged.{digitTable, lawful-table}

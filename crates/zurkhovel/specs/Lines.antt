@@ -4,7 +4,7 @@ use mathlib.Core.List.{List, [], _∷_}
 use Prim.Native.Nat.{ℕ, zero, suc, _+_}
 use lib.ListN.{length}
 use Rattle.refusal.specs.Table.{Outcome, Gives}
-use Rattle.code.specs.Limits.{size, valence}
+use Rattle.limits.specs.Limits.{size, valence}
 use Rattle.skeleton.specs.Edges.{edgeRows}
 use Rattle.form.specs.Form.{ofCentred}
 use Rattle.lines.specs.Line.{line}

@@ -9,7 +9,7 @@ use Rattle.refusal.specs.Outcome.{told}
 use Rattle.refusal.specs.declared.Answer.{Answer}
 use Rattle.refusal.specs.Apart.{told-both}
 use Rattle.refusal.specs.Giving.{one-clear}
-use Rattle.code.specs.Limits.{size, valence}
+use Rattle.limits.specs.Limits.{size, valence}
 use Rattle.skeleton.specs.Edges.{edgeRows}
 use Rattle.form.specs.Form.{centred}
 use Rattle.form.specs.Forms.{centred-form}

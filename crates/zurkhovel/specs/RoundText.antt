@@ -8,7 +8,7 @@ use lib.ListN.{length, take}
 use Rattle.refusal.specs.Table.{Outcome, gives, kept}
 use Rattle.refusal.specs.Laws.{clear-left, others}
 use Rattle.refusal.specs.Giving.{Given, gave, must-give, written}
-use Rattle.code.specs.Limits.{size, valence}
+use Rattle.limits.specs.Limits.{size, valence}
 use Rattle.tree.specs.Skeleton.{IsSkeleton}
 use Rattle.form.specs.Form.{centred}
 use Rattle.form.specs.Forms.{centred-form, form-size}

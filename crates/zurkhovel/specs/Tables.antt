@@ -10,7 +10,7 @@ use lib.Ieee.{Float}
 use Rattle.refusal.specs.Table.{Row, ofList, Clear, FirstRefusal, short}
 use Rattle.refusal.specs.Laws.{refusal-front, refusal-back, refusal-either, list-clear, list-refused, list-told}
 use Rattle.refusal.specs.Lowest.{Lowest, LowestWins, lowest-number}
-use Rattle.code.specs.Limits.{size, valence}
+use Rattle.limits.specs.Limits.{size, valence}
 use Rattle.code.specs.Code.{codeRows}
 use Rattle.skeleton.specs.Edges.{edgeRows}
 use Rattle.skeleton.specs.Theorems.{lowest-refused}

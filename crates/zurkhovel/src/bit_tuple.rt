@@ -9,7 +9,7 @@ ghost use Prim.Native.Nat.{_≤_};
 ghost use lib.ListN.{length};
 ghost use Rattle.refusal.specs.Table.{Gives};
 ghost use Rattle.refusal.specs.Outcome.{told, numbered};
-ghost use Rattle.code.specs.Limits.{size};
+ghost use Rattle.limits.specs.Limits.{size};
 ghost use Rattle.fraction.specs.Outcome as fraction;
 ghost use Rattle.zurkhovel.specs.Rooting.{Rooting, Readable, EdgesOf};
 ghost use Rattle.zurkhovel.specs.Bits.{Pack, Unpack, Whole, Unwhole, InFraction, Unfraction};

@@ -4,7 +4,7 @@ use refusal::Answer;
 use refusal::Check;
 ghost use Rattle.refusal.specs.Outcome.{told};
 ghost use Rattle.refusal.specs.Table.{Clear};
-ghost use Rattle.code.specs.Limits.{size, valence};
+ghost use Rattle.limits.specs.Limits.{size, valence};
 ghost use Rattle.code.specs.Code.{codeRows};
 ghost use Rattle.skeleton.specs.Edges.{edgeRows};
 ghost use Rattle.zurkhovel.specs.Codes.{CheckCode, LaysEdges, DecodeCode, DecodeForm, CheckEdges, RootedCode, FormCode};

@@ -4,8 +4,8 @@ use Prim.Native.Nat.{_-_, _*_, _≤_}
 use lib.ListN.{length}
 use Rattle.refusal.specs.Table.{Clear}
 use Rattle.refusal.specs.Laws.{stops, goes-on, was-clear, at-least, at-most}
-use Rattle.code.specs.Limits.{valence}
-use Rattle.adjacency.specs.Adjacency.{aMost, aEdges, madeRows}
+use Rattle.limits.specs.Limits.{valence, aSize}
+use Rattle.adjacency.specs.Adjacency.{aEdges, madeRows}
 use Rattle.adjacency.specs.Made.{edgeFront}
 use Rattle.adjacency.specs.Accepted.{aFront, a-long, a-front}
 use Rattle.adjacency.proofs.Behind.{front-length, array-length, front-is, front-laid, behind}
@@ -15,7 +15,7 @@ use Rattle.adjacency.proofs.a_check.Statement.{statement}
 use Rattle.adjacency.proofs.a_check.Tie as tie
 
 -- N is from 1 to 11
-known : (c : tie.After-enum-told) → Clear (aFront aMost (c .before .before .before .args .n) (c .before .before .before .args .x))
+known : (c : tie.After-enum-told) → Clear (aFront aSize (c .before .before .before .args .n) (c .before .before .before .args .x))
 known c = was-clear (c .before .before .a-sizes .ensures) (c .enum-told .given .1)
 
 short : (c : tie.After-enum-told) → 2 * (c .before .before .before .args .n - 1) ≤ 20
@@ -25,10 +25,10 @@ short c = omega (arith, at-most (known c))
 written : (c : tie.After-a-edges) → c .a-edges .last .1 .1 .0 ≡ aEdges (c .before .before .before .before .before .args .n) (c .before .before .before .before .before .args .x)
 written c =
     let a = c .before .before .before .before .before .args in
-    front-laid 20 (2 * (a .n - 1)) _ (aEdges (a .n) (a .x)) (short (c .before .before)) (a-long aMost (a .n) (a .x) (known (c .before .before))) (c .a-edges .ensures)
+    front-laid 20 (2 * (a .n - 1)) _ (aEdges (a .n) (a .x)) (short (c .before .before)) (a-long aSize (a .n) (a .x) (known (c .before .before))) (c .a-edges .ensures)
 
 long : (c : tie.After-a-edges) → length (c .a-edges .last .1 .1 .0) ≡ 2 * (c .before .before .before .before .before .args .n - 1)
-long c = let a = c .before .before .before .before .before .args in ap length (written c) ∙ a-long aMost (a .n) (a .x) (known (c .before .before))
+long c = let a = c .before .before .before .before .before .args in ap length (written c) ∙ a-long aSize (a .n) (a .x) (known (c .before .before))
 
 a-sizes-requires : tie.Need-a-sizes-requires
 a-sizes-requires c κs = search needs
@@ -59,7 +59,7 @@ a-edges-requires c κs =
     let k = known (c .before) in
     let a = c .before .before .before .before .args in
     let e = front-length 20 (2 * (a .n - 1)) (short (c .before)) in
-    let l = a-long aMost (a .n) (a .x) k in
+    let l = a-long aSize (a .n) (a .x) k in
     (at-least k, at-most k, omega arith)
 
 sub-edges-2 : tie.Need-sub-edges-2
@@ -84,7 +84,7 @@ returns-2 c =
     let e = front-is 20 (2 * (a .n - 1)) (w .a-edges .last .1 .1 .0) (long w) ∙ written w in
     let k = known (w .before .before) in
     goes-on (w .before .before .before .before .a-sizes .ensures) (w .before .before .enum-told .given .1)
-    (behind (edgeFront aMost (a .n) (aEdges (a .n) (a .x))) (madeRows valence (aEdges (a .n) (a .x))) (a-front aMost (a .n) (a .x) k) (rw e at (c .check .ensures)))
+    (behind (edgeFront aSize (a .n) (aEdges (a .n) (a .x))) (madeRows valence (aEdges (a .n) (a .x))) (a-front aSize (a .n) (a .x) k) (rw e at (c .check .ensures)))
 
 pub a-check-spec : {M : Type 1} → statement M
 a-check-spec =

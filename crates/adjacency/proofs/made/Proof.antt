@@ -3,7 +3,7 @@ use mathlib.Core.Path.{_≡_, sym, ap, _∙_}
 use Prim.Native.Nat.{_*_, _≤_}
 use lib.ListN.{length}
 use Rattle.adjacency.specs.Made.{few, edgeFront, front-cam, made-length}
-use Rattle.code.specs.Limits.{size, valence}
+use Rattle.limits.specs.Limits.{size, valence}
 use Rattle.adjacency.specs.Adjacency.{camEdges, madeRows}
 use Rattle.adjacency.proofs.Behind.{front-length, array-length, front-is, front-laid, behind}
 use native.Mathlib.Omega.{arith}

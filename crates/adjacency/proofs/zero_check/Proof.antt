@@ -5,7 +5,8 @@ use mathlib.Core.List.{[], _∷_, _++_}
 use Prim.Native.Nat.{ℕ, _-_, _≤_}
 use lib.ListN.{length, take, drop, replicate}
 use Rattle.refusal.specs.Table.{Clear, row3}
-use Rattle.adjacency.specs.Adjacency.{zeroMost, row4, factorial, zeroCam}
+use Rattle.adjacency.specs.Adjacency.{row4, factorial, zeroCam}
+use Rattle.limits.specs.Limits.{zeroSize}
 use Rattle.adjacency.specs.Zero.{zero-length, zero-entries}
 use Rattle.adjacency.specs.Made.{entries-clear}
 use Rattle.adjacency.proofs.Behind.{front-length, array-length, front-is, front-laid}
@@ -17,7 +18,7 @@ use Rattle.adjacency.proofs.zero_check.Tie as tie
 -- N is from 1 to 21
 known :
     (c : tie.After-enum-told)
-    → Clear (row3 zeroMost (c .before .before .before .args .n) ∷ row4 (factorial (c .before .before .before .args .n - 1)) (c .before .before .before .args .x) ∷ [])
+    → Clear (row3 zeroSize (c .before .before .before .args .n) ∷ row4 (factorial (c .before .before .before .args .n - 1)) (c .before .before .before .args .x) ∷ [])
 known c = was-clear (c .before .before .zero-sizes .ensures) (c .enum-told .given .1)
 
 short : (c : tie.After-enum-told) → c .before .before .before .args .n - 1 ≤ 20

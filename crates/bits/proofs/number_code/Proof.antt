@@ -4,8 +4,7 @@ use mathlib.Core.List.{[], _∷_}
 use Prim.Native.Nat.{_-_, _*_}
 use Rattle.refusal.specs.Table.{Clear, row3}
 use Rattle.refusal.specs.Laws.{was-clear, was-refused, clear-both, refusal-back, at-least, at-most}
-use Rattle.code.specs.Limits.{valence}
-use Rattle.bits.specs.Limits.{wholeSize}
+use Rattle.limits.specs.Limits.{valence, wholeSize}
 use Rattle.bits.specs.Bits.{Nothing, word, row4, bitRows}
 use Rattle.bits.specs.Decided.{reading-ended, decide-front, decide-ordered}
 use borrow.Author.Needs.{needs}

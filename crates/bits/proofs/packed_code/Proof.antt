@@ -4,8 +4,7 @@ use mathlib.Core.List.{[], _∷_}
 use lib.ListN.{length}
 use Rattle.refusal.specs.Table.{Clear, row3}
 use Rattle.refusal.specs.Laws.{was-clear, was-refused, at-most}
-use Rattle.code.specs.Limits.{valence}
-use Rattle.bits.specs.Limits.{packedBytes}
+use Rattle.limits.specs.Limits.{valence, packedBytes}
 use Rattle.bits.specs.Bits.{Fill, bytes, bitRows}
 use Rattle.bits.specs.Decided.{reading-ended, decide-front, decide-ordered}
 use borrow.Author.Needs.{needs}

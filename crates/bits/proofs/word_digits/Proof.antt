@@ -2,7 +2,7 @@
 use mathlib.Core.Path.{sym, _∙_}
 use Prim.Native.Nat.{_-_}
 use native.Mathlib.Omega.{arith}
-use Rattle.code.specs.Limits.{valence}
+use Rattle.limits.specs.Limits.{valence}
 use Rattle.bits.specs.Bits.{word}
 use Rattle.bits.specs.Words.{length-word}
 use Rattle.bits.specs.Digit.{near-exact}

@@ -1,7 +1,7 @@
 -- `fast::centred` meets its contract. Assumes nothing.
 use denote.Ref.{now}
 use borrow.Author.Needs.{needs}
-use Rattle.code.specs.Limits.{size, valence}
+use Rattle.limits.specs.Limits.{size, valence}
 use Rattle.code.specs.Right.{clear-right}
 use Rattle.fast.specs.Scan.{right-scanned}
 use Rattle.fast.proofs.centred.Statement.{statement}

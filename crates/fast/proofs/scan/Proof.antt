@@ -5,7 +5,7 @@ use native.Mathlib.Omega.{arith}
 use denote.Ref.{now}
 use lib.ListN.{length, getD}
 use borrow.Author.Tests.{not-true, not-false}
-use Rattle.code.specs.Limits.{size}
+use Rattle.limits.specs.Limits.{size}
 use Rattle.fast.specs.Stack.{stack-low, stack-last}
 use Rattle.fast.specs.Race.{was-held, was-denied}
 use Rattle.fast.specs.Scan.{Scan, scan-start, scan-room, scan-next, from-first, to-first, not-small, not-served, not-falling, no-code, is-code}

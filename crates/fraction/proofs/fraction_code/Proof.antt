@@ -3,7 +3,7 @@ use mathlib.Core.Path.{refl}
 use mathlib.Core.List.{[], _∷_}
 use Rattle.refusal.specs.Table.{Clear}
 use Rattle.refusal.specs.Laws.{was-clear, was-refused, never}
-use Rattle.code.specs.Limits.{valence}
+use Rattle.limits.specs.Limits.{valence}
 use Rattle.bits.specs.Bits.{Zeros, bitRows}
 use Rattle.bits.specs.Decided.{reading-ended, decide-front, decide-ordered}
 use Rattle.fraction.specs.Fraction.{row4, bitsOf}

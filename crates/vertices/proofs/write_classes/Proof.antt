@@ -7,7 +7,7 @@ use native.Mathlib.Omega.{arith}
 use denote.Ref.{now}
 use lib.ListN.{length}
 use Rattle.laws.specs.Laid.{Laid}
-use Rattle.code.specs.Limits.{size, valence}
+use Rattle.limits.specs.Limits.{size, valence}
 use Rattle.code.specs.Search.{Known}
 use Rattle.code.specs.Right.{Right, clear-right}
 use Rattle.vertices.specs.Classes.{alike?, classes}

@@ -5,7 +5,7 @@ use borrow.Author.Needs.{needs}
 use Rattle.refusal.specs.Table.{Clear}
 use Rattle.refusal.specs.Laws.{was-clear, was-refused}
 use Rattle.refusal.specs.Giving.{written-room, written-length}
-use Rattle.code.specs.Limits.{size, valence}
+use Rattle.limits.specs.Limits.{size, valence}
 use Rattle.tree.specs.Skeleton.{IsSkeleton}
 use Rattle.skeleton.specs.Edges.{edgeRows}
 use Rattle.zurkhovel.specs.Accepted.{skeleton-of, wider}

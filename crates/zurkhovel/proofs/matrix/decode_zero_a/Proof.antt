@@ -9,8 +9,8 @@ use Rattle.laws.specs.Laying.{laid-front}
 use Rattle.refusal.specs.Table.{Clear}
 use Rattle.refusal.specs.Laws.{was-clear, was-refused, at-least, at-most}
 use Rattle.refusal.specs.Giving.{refused-first}
-use Rattle.code.specs.Limits.{valence}
-use Rattle.adjacency.specs.Adjacency.{zeroCam, zeroRows, zeroMost}
+use Rattle.limits.specs.Limits.{valence, zeroSize}
+use Rattle.adjacency.specs.Adjacency.{zeroCam, zeroRows}
 use Rattle.adjacency.specs.Zero.{zero-length}
 use Rattle.zurkhovel.proofs.Behind.{behind-same}
 use Rattle.zurkhovel.proofs.matrix.decode_zero_a.Statement.{statement}
@@ -20,7 +20,7 @@ abbrev start : tie.After-enum-told → tie.Start
 start c = c .before .before .before .before
 
 -- what is known behind the check
-clear : (c : tie.After-enum-told) → Clear (zeroRows zeroMost valence (start c .args .n) (start c .args .value))
+clear : (c : tie.After-enum-told) → Clear (zeroRows zeroSize valence (start c .args .n) (start c .args .value))
 clear c = was-clear (c .before .before .zero-check .ensures) (c .enum-told .given .1)
 
 abbrev told : tie.After-zero-cam → tie.After-enum-told

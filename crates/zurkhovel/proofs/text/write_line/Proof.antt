@@ -6,7 +6,7 @@ use borrow.Author.Needs.{needs}
 use Rattle.refusal.specs.Table.{Clear}
 use Rattle.refusal.specs.Laws.{was-clear, was-refused, at-most}
 use Rattle.refusal.specs.Giving.{refused-first, written-length}
-use Rattle.code.specs.Limits.{size, valence}
+use Rattle.limits.specs.Limits.{size, valence}
 use Rattle.skeleton.specs.Edges.{edgeRows}
 use Rattle.lines.specs.Line.{line}
 use Rattle.zurkhovel.specs.Accepted.{skeleton-of}
