@@ -9,6 +9,9 @@ pub const VALENCE: u8 = 4;
 // Places in a row of the table of neighbours: no vertex may have more neighbours.
 pub const WIDTH: usize = 4;
 
+// The values of a byte: an array of so many has a place for each.
+pub const BYTES: usize = 256;
+
 // Bytes of an edge list of SIZE vertices.
 pub const ENDS: usize = 126;
 

@@ -7,7 +7,7 @@ ghost use Prim.Native.Nat.{_-_, _*_, _≤_, _<_};
 ghost use lib.ListN.{length};
 ghost use Rattle.refusal.specs.Table.{Answers};
 ghost use Rattle.refusal.specs.Outcome.{told, numbered};
-ghost use Rattle.limits.specs.Limits.{size, valence};
+ghost use Rattle.limits.specs.Limits.{size, valence, zeroSize};
 ghost use Rattle.tree.specs.Skeleton.{IsSkeleton};
 ghost use Rattle.adjacency.specs.Adjacency as adjacency;
 ghost use Rattle.zurkhovel.specs.Rooting.{LaysCam, ListingByCode};
@@ -91,7 +91,7 @@ pub fn cam(n: usize, edges: &[u8], out: &mut [u8]) -> Answer
 
 // The 0A of a skeleton in a physical numbering.
 fn zero_of(n: usize, edges: &[u8]) -> u64
-    requires { ⌜ IsSkeleton adjacency.zeroSize valence n (now edges) × adjacency.Physical n (now edges) ⌝ }
+    requires { ⌜ IsSkeleton zeroSize valence n (now edges) × adjacency.Physical n (now edges) ⌝ }
     ensures { λ r. ⌜ r ≡ adjacency.zeroA (adjacency.cam n (now (edges .entry))) ⌝ }
 {
     let mut cam = [0u8; 20];
