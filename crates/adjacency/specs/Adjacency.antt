@@ -147,10 +147,3 @@ zeroRows most R N x = row3 most N ∷ row4 (factorial (N - 1)) x ∷ madeRows R 
 -- of an A0: "the values are below 2^(N(N-1)/2)"
 abbrev pub aRows : ℕ → ℕ → ℕ → ℕ → List Row
 aRows most R N x = row3 most N ∷ row4 (2 ^ (N * (N - 1) / 2)) x ∷ row5-ones N x ∷ madeRows R (aEdges N x)
-
--- the limits of N
-abbrev pub zeroMost : ℕ
-zeroMost = 21
-
-abbrev pub aMost : ℕ
-aMost = 11

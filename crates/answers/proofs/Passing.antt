@@ -5,7 +5,7 @@ use Prim.Native.Nat.{ℕ, suc, _+_, _-_, _≤_, _<_}
 use native.Mathlib.Omega.{arith}
 use lib.ListN.{length, take, drop, length-append, length-drop, drop-of-length-le}
 use lib.Seq.{take-all}
-use Rattle.code.specs.Limits.{size}
+use Rattle.limits.specs.Limits.{size}
 use Rattle.refusal.specs.Table.{Outcome, gives, refuses}
 use Rattle.lines.specs.Line.{Reply}
 use Rattle.lines.specs.Damage.{records, refusals}
@@ -18,18 +18,18 @@ use Rattle.answers.specs.Window.{Shown, Puts, shown-none}
 use Rattle.answers.specs.Steps.{Replied, isRecord}
 
 -- before line `line` + 1, which begins at `at`: the lines before it are answered and the answers put, and `read` of them are records
-pub record Going (text : List ℕ) (from : ℕ) (old out : List ℕ) (skip done at line read : ℕ) : Type 0 where
+pub record Going (R : ℕ) (text : List ℕ) (from : ℕ) (old out : List ℕ) (skip done at line read : ℕ) : Type 0 where
   pub answers : List Reply
-  pub taken : Taken size digitTable text answers (drop at text)
+  pub taken : Taken size (digitTable R) text answers (drop at text)
   pub within : at ≤ length text
   pub lines : line ≡ length answers
   pub fewer : line ≤ at
   pub read-of : read ≡ length (records answers)
   pub shown : Shown (answerLines 1 answers) from old out skip done
 
-pub going-none : (text : List ℕ) (from : ℕ) (old : List ℕ) → Going text from old old from 0 0 0 0
+pub going-none : (R : ℕ) (text : List ℕ) (from : ℕ) (old : List ℕ) → Going R text from old old from 0 0 0 0
 unfolding answerLines records
-going-none text from old =
+going-none R text from old =
     record { answers = []; taken = none; within = omega arith; lines = refl; fewer = omega arith; read-of = refl; shown = shown-none from old }
 
 -- ---- one answer more
@@ -64,11 +64,11 @@ all-told (refuses k p ∷ os) = omega (arith, all-told os)
 pub behind-falls : {t : List ℕ} {at to : ℕ} → Behind t at to → at < length t → at < to
 behind-falls {t} {at} {to} b h = let e = simp length-drop at (ap length (b .rest)) in omega (arith, b .within)
 
-module _ {text : List ℕ} {from : ℕ} {old out : List ℕ} {skip done at line read : ℕ} (g : Going text from old out skip done at line read) where
+module _ {R : ℕ} {text : List ℕ} {from : ℕ} {old out : List ℕ} {skip done at line read : ℕ} (g : Going R text from old out skip done at line read) where
   pub going-more :
-      {out′ : List ℕ} {skip′ done′ to : ℕ} {o : Outcome ℕ} → at < length text → Replied (take (length text - at) (drop at text)) o
+      {out′ : List ℕ} {skip′ done′ to : ℕ} {o : Outcome ℕ} → at < length text → Replied R (take (length text - at) (drop at text)) o
       → Puts (answerLine (line + 1) o) out skip done out′ skip′ done′ → Behind text at to
-      → Going text from old out′ skip′ done′ to (line + 1) (read + isRecord o)
+      → Going R text from old out′ skip′ done′ to (line + 1) (read + isRecord o)
   going-more {out′} {skip′} {done′} {to} {o} h r p b =
       let e : take (length text - at) (drop at text) ≡ drop at text = take-all (length text - at) (drop at text) (rw length-drop (omega arith)) in
       let q = r .answer in
@@ -80,7 +80,7 @@ module _ {text : List ℕ} {from : ℕ} {old out : List ℕ} {skip done at line 
       let s : Shown (answerLines 1 (g .answers) ++ answerLine (1 + length (g .answers)) q) from old out′ skip′ done′ = rw l at (p _ old from (g .shown)) in
       record {
         answers = g .answers ++ (q ∷ []);
-        taken = taken-join size digitTable (g .taken) (rw (b .rest) (line-taken size digitTable (rw length-drop (omega arith)) (b .feed) a));
+        taken = taken-join size (digitTable R) (g .taken) (rw (b .rest) (line-taken size (digitTable R) (rw length-drop (omega arith)) (b .feed) a));
         within = b .within;
         lines = simp length-append (omega arith);
         fewer = omega (arith, g .fewer);
@@ -99,7 +99,7 @@ module _ {text : List ℕ} {from : ℕ} {old out : List ℕ} {skip done at line 
   -- behind the last line, the totals
   pub going-all :
       {out′ : List ℕ} {skip′ done′ : ℕ} → length text ≤ longest → length text ≤ at → Puts (totals read (line - read)) out skip done out′ skip′ done′
-      → Lists size digitTable text old out′ from done′
+      → Lists size (digitTable R) text old out′ from done′
   unfolding listed
   going-all h e p =
       let n : line - read ≡ refusals (g .answers) = omega (arith, all-told (g .answers), g .lines, g .read-of) in
@@ -107,6 +107,6 @@ module _ {text : List ℕ} {from : ℕ} {old out : List ℕ} {skip done at line 
       let s = p _ old from (g .shown) in
       record {
         listing = listed (g .answers);
-        right = lines (g .answers) h (taken-all size digitTable (g .taken) d) refl;
+        right = lines (g .answers) h (taken-all size (digitTable R) (g .taken) d) refl;
         piece = rw (n, g .read-of) at (s .laid);
       }

@@ -3,16 +3,16 @@ use mathlib.Core.Path.{_≡_}
 use mathlib.Core.List.{List}
 use Prim.Native.Nat.{ℕ, _≤_}
 use lib.ListN.{length, drop}
-use Rattle.code.specs.Limits.{size}
+use Rattle.limits.specs.Limits.{size}
 use Rattle.refusal.specs.Table.{Outcome, gives, refuses}
 use Rattle.lines.specs.Line.{LineAnswers, Reply}
 use Rattle.lines.specs.Judged.{digitTable}
 use Rattle.lines.specs.Reading.{counted}
 
--- o tells an answer to the first line of t
-pub record Replied (t : List ℕ) (o : Outcome ℕ) : Type 0 where
+-- o tells an answer to the first line of t, where a vertex may have R neighbours
+pub record Replied (R : ℕ) (t : List ℕ) (o : Outcome ℕ) : Type 0 where
   pub answer : Reply
-  pub line : LineAnswers size digitTable t answer
+  pub line : LineAnswers size (digitTable R) t answer
   pub tells : o ≡ counted answer
 
 -- 1 for a record, and 0 for a refusal

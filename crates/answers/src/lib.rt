@@ -1,12 +1,13 @@
 // The listing: an answer to each line of a text and then the totals, as document 01 has them written. What it is stands in
 // specs/Listing.antt. It is handed out in pieces: it is put together from its start, number by number, and a window goes along, into
 // which falls what is asked for.
+use limits::SIZE;
 use refusal::Answer;
 ghost use mathlib.Core.Path.{_≡_};
 ghost use mathlib.Core.List.{[], _∷_, _++_};
 ghost use Prim.Native.Nat.{_≤_, min};
 ghost use lib.ListN.{length, drop};
-ghost use Rattle.code.specs.Limits.{size};
+ghost use Rattle.limits.specs.Limits.{size};
 ghost use Rattle.refusal.specs.Outcome.{told};
 ghost use Rattle.lines.specs.Judged.{digitTable};
 ghost use Rattle.answers.specs.Listing.{longest, numeral, answerLine, totals as Listing·totals, Lists};
@@ -101,11 +102,12 @@ fn totals(read: usize, refused: usize, w: Window, out: &mut [u8]) -> Window
 }
 
 // The answer to a text's first line.
-fn first(text: &[u8]) -> Answer
-    ensures { λ r. ⌜ Replied (now (text .entry)) (told r) ⌝ }
+fn first(limit: u8, text: &[u8]) -> Answer
+    requires { ⌜ 1 ≤ limit ⌝ }
+    ensures { λ r. ⌜ Replied limit (now (text .entry)) (told r) ⌝ }
 {
-    let mut digits = [0u8; 64];
-    lines::read_line(text, &mut digits)
+    let mut digits = [0u8; SIZE];
+    lines::read_line(limit, text, &mut digits)
 }
 
 // 1 for a record, and 0 for a refusal.
@@ -119,9 +121,10 @@ fn is_record(a: Answer) -> usize
 }
 
 // The listing of a text that is not too long.
-fn list_lines(text: &[u8], from: usize, out: &mut [u8]) -> usize
+fn list_lines(limit: u8, text: &[u8], from: usize, out: &mut [u8]) -> usize
     requires { ⌜ length (now text) ≤ longest ⌝ }
-    ensures { λ r. ⌜ Lists size digitTable (now (text .entry)) (now (out .entry)) (now (out .exit)) from r ⌝ }
+    requires { ⌜ 1 ≤ limit ⌝ }
+    ensures { λ r. ⌜ Lists size (digitTable limit) (now (text .entry)) (now (out .entry)) (now (out .exit)) from r ⌝ }
 {
     let mut w = Window {
         skip: from,
@@ -131,7 +134,7 @@ fn list_lines(text: &[u8], from: usize, out: &mut [u8]) -> usize
     let mut line = 0;
     let mut read = 0;
     while at < text.len() {
-        let a = first(&text[at..]);
+        let a = first(limit, &text[at..]);
         line += 1;
         w = answer(a, line, w, out);
         read += is_record(a);
@@ -141,9 +144,10 @@ fn list_lines(text: &[u8], from: usize, out: &mut [u8]) -> usize
     end.done
 }
 
-// The listing of a text from byte `from` on, as much as there is room for; how many bytes that is.
-pub fn list(text: &[u8], from: usize, out: &mut [u8]) -> usize
-    ensures { λ r. ⌜ Lists size digitTable (now (text .entry)) (now (out .entry)) (now (out .exit)) from r ⌝ }
+// The listing of a text from byte `from` on, as much as there is room for; how many bytes that is. A vertex may have `limit` neighbours.
+pub fn list(limit: u8, text: &[u8], from: usize, out: &mut [u8]) -> usize
+    requires { ⌜ 1 ≤ limit ⌝ }
+    ensures { λ r. ⌜ Lists size (digitTable limit) (now (text .entry)) (now (out .entry)) (now (out .exit)) from r ⌝ }
 {
     if 65536 < text.len() {
         let w = Window {
@@ -153,5 +157,5 @@ pub fn list(text: &[u8], from: usize, out: &mut [u8]) -> usize
         let end = put(b"input too long\n", w, out);
         return end.done;
     }
-    list_lines(text, from, out)
+    list_lines(limit, text, from, out)
 }

@@ -14,7 +14,7 @@ use Rattle.refusal.specs.Laws.{clear-one, clear-both, first-place, refusal-fron
 use Rattle.refusal.specs.declared.Answer.{Answer}
 use Rattle.refusal.specs.declared.Answer.the-variants.{Done, Refused}
 use Rattle.refusal.specs.declared.Check.{Check}
-use Rattle.code.specs.Limits.{size}
+use Rattle.limits.specs.Limits.{size}
 use Rattle.code.specs.Code.{EndsAt, row12, digitRows}
 use Rattle.code.specs.Code as code
 use Rattle.code.specs.Counting.{one-end}

@@ -11,7 +11,7 @@ use Rattle.refusal.specs.Table.{Row, Clear, FirstRefusal, passes, fails, row3}
 use Rattle.refusal.specs.Laws.{clear-both, size-clear, refusal-front, refusal-back, was-clear, was-refused, alike-clear}
 use Rattle.refusal.specs.declared.Answer.{Answer}
 use Rattle.refusal.specs.declared.Answer.the-variants.{Done, Refused}
-use Rattle.code.specs.Limits.{size}
+use Rattle.limits.specs.Limits.{size}
 use Rattle.code.specs.Code.{codeRows, row13}
 use Rattle.code.specs.Ends.{Ends, ends-iff}
 use Rattle.bits.specs.Bits.{bitRows, Reads}

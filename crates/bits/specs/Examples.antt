@@ -8,10 +8,9 @@ use native.Mathlib.Omega.{arith}
 use lib.ListN.{length, getD}
 use Rattle.refusal.specs.Table.{FirstRefusal, row3}
 use Rattle.refusal.specs.Laws.{clear-one, clear-both, refusal-back}
-use Rattle.code.specs.Limits.{valence}
+use Rattle.limits.specs.Limits.{valence, wholeSize}
 use Rattle.code.specs.Code as code
 use Rattle.code.specs.Ends.{ends-iff}
-use Rattle.bits.specs.Limits.{wholeSize}
 use Rattle.bits.specs.Bits.{bits, bit, word, bytes, fractionBits, Zeros, Nothing, row4, bitRows, wholeRows}
 use Rattle.bits.specs.Reading.{more-refused}
 use Rattle.bits.specs.Written.{Packs}

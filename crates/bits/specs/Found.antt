@@ -4,14 +4,14 @@
 use mathlib.Core.Path.{_≡_, refl, sym, ap}
 use mathlib.Core.Bool.{Bool}
 use mathlib.Core.List.{List, [], _∷_, _++_}
-use Prim.Native.Nat.{ℕ, _+_, _*_, _≤_, _<_}
+use Prim.Native.Nat.{ℕ, suc, _+_, _*_, _≤_, _<_}
 use native.Mathlib.Numerals.{add-one}
 use native.Mathlib.Nat.{le-refl}
 use native.Mathlib.Omega.{arith}
 use lib.ListN.{length, take, drop, set, length-append, length-set, drop-of-length-le}
 use lib.Seq.{take-suc-set, take-take}
 use Rattle.refusal.specs.Table.{Clear, FirstRefusal}
-use Rattle.code.specs.Limits.{size}
+use Rattle.limits.specs.Limits.{size}
 use Rattle.code.specs.Code.{sum, EndsAt, cap, row12}
 use Rattle.bits.specs.declared.Found.{Found}
 use Rattle.bits.specs.declared.Found.the-variants.{Over, Short, Ended}
@@ -57,7 +57,7 @@ Turns R bs out n b (Stop f) = Scanned R bs out f
 
 -- the same of any m bits in which k ones were seen from the bit b on
 abbrev pub Turned : ℕ → ℕ → ℕ → ℕ → ℕ → List ℕ → List ℕ → Turn → Type 0
-Turned R m k n b old new r = (bs : List Bool) → length bs ≡ m → Sofar R bs old n b → Near 9 k (drop b bs) → Turns R bs new n b r
+Turned R m k n b old new r = (bs : List Bool) → length bs ≡ m → Sofar R bs old n b → Near (suc R) k (drop b bs) → Turns R bs new n b r
 
 -- ---- what each way on tells
 

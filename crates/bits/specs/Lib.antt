@@ -1,5 +1,4 @@
 -- The bit-tuple of a rooted code, and its three carriers. Assumes nothing.
-pub mod Limits
 pub mod Bits
 pub mod Ends
 pub mod Laws

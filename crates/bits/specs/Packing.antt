@@ -14,7 +14,7 @@ use lib.ListN.{length, take, drop, getD, set, replicate, length-append, length-s
 use lib.Seq.{take-suc-set, drop-set-lt, drop-drop, take-all, take-length, length-take-le}
 use Rattle.laws.specs.Laid.{laidOver}
 use Rattle.refusal.specs.Table.{Writes}
-use Rattle.code.specs.Limits.{size}
+use Rattle.limits.specs.Limits.{size}
 use Rattle.code.specs.Code.{sum}
 use Rattle.code.specs.Counting.{sum-more}
 use Rattle.bits.specs.Bits.{bits, word, bytes}

@@ -14,7 +14,7 @@ use lib.ListN.{length, take, drop, getD, take-append-drop}
 use lib.Seq.{take-suc, take-length, take-all}
 use Rattle.code.specs.Code.{sum, EndsAt}
 use Rattle.code.specs.Counting.{sum-append, sum-more}
-use Rattle.bits.specs.Limits.{wholeSize}
+use Rattle.limits.specs.Limits.{wholeSize}
 use Rattle.bits.specs.Bits.{bits, bit, word}
 use Rattle.bits.specs.Ends.{end-sum}
 use Rattle.bits.specs.Laws.{bits-append}

@@ -11,7 +11,7 @@ use lib.ListN.{length, getD, set, length-set}
 use lib.Seq.{getD-set-same, getD-set-other}
 use Rattle.laws.specs.Order.{_≽_}
 use Rattle.laws.specs.Part.{part}
-use Rattle.code.specs.Limits.{size}
+use Rattle.limits.specs.Limits.{size}
 use Rattle.code.specs.Ends.{Ends}
 use Rattle.code.specs.Parts.{Ending, Passing, enough, pass-none, pass-one, more-left, end-here}
 use Rattle.code.specs.Siblings.{Fall, none-larger, falls-on, larger-here, no-earlier}

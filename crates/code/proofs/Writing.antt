@@ -1,18 +1,17 @@
 -- Decoding digit by digit: what is written, what is still to be written, and the open places between them. Assumes nothing.
 use mathlib.Core.Path.{_≡_, refl, sym, ap, _∙_, subst}
 use mathlib.Core.List.{List, [], _∷_, _++_, append-assoc, append-nil}
-use Prim.Native.Nat.{ℕ, zero, suc, _+_, _-_, _*_, _≤_, _<_}
+use Prim.Native.Nat.{ℕ, zero, suc, _+_, _-_, _≤_, _<_}
 use native.Mathlib.Numerals.{add-one}
 use native.Mathlib.Omega.{arith}
-use lib.ListN.{length, getD, set, drop, replicate, length-append, drop-of-length-le}
+use lib.ListN.{length, getD, set, drop, replicate, length-append, length-drop, drop-of-length-le}
 use lib.Seq.{drop-cons}
 use Rattle.laws.specs.Laid.{laidOver, Laid, laid-length}
 use Rattle.laws.specs.Laying.{laid-none, laid-more}
-use Rattle.code.specs.Limits.{size, valence}
-use Rattle.code.specs.Code.{cap, decode, edgesFrom}
-use Rattle.code.specs.Ends.{Ends}
+use Rattle.limits.specs.Limits.{size}
+use Rattle.code.specs.Code.{decode, edgesFrom}
+use Rattle.code.specs.Ends.{Ends, ends-sum}
 use Rattle.code.specs.Stack.{stack, Pushed}
-use Rattle.code.specs.Right.{Right}
 
 -- the first i digits of c are decoded into `out`, of which `at` bytes are written over `old`, and t places are open
 pub record Decoding (c old out places : List ℕ) (t at i : ℕ) : Type 0 where
@@ -22,52 +21,54 @@ pub record Decoding (c old out places : List ℕ) (t at i : ℕ) : Type 0 where
   pub parts : decode c ≡ done ++ edgesFrom (stack places t) (i + 1) (drop i c)
   pub lies : out ≡ laidOver done old
   pub count : at ≡ length done
-  pub few : t ≤ valence * i
-  pub long : length places ≡ 256
+  pub long : length places ≡ size
   pub open-places : Ends t (drop i c)
 
--- no digit is above the valence
-pub digit-most : {c : List ℕ} → Right size valence c → (i : ℕ) → i < length c → getD c i 0 ≤ valence
-digit-most {c} r i h =
-    let n : suc i - 1 ≡ i = omega arith in
-    let s : getD c (suc i - 1) 0 ≤ cap valence (suc i) = r .small (suc i) (omega arith) h in
-    omega (arith, ap (λ (j : ℕ). getD c j 0) n, top i)
-  where
-    top : (j : ℕ) → cap valence (suc j) ≤ valence
-    top zero = omega arith
-    top (suc j) = omega arith
+-- no more places are open than digits are left
+open-few : (c : List ℕ) (t i : ℕ) → Ends t (drop i c) → t ≤ length c - i
+open-few c t i e = omega (arith, ends-sum t (drop i c) e, length-drop i c)
+
+module _ (c : List ℕ) (ends : Ends 1 c) where
+  pub some-digit : 1 ≤ length c
+  some-digit = omega (arith, ends-sum 1 c ends)
+
+  head : c ≡ getD c 0 0 ∷ drop 1 c
+  head = drop-cons c 0 0 some-digit
+
+  -- the root's digit opens that many places
+  behind : Ends (getD c 0 0) (drop 1 c)
+  behind = subst (λ (n : ℕ). Ends n (drop 1 c)) (omega arith) (rw head at ends)
+
+  pub first-few : getD c 0 0 ≤ length c
+  first-few = omega (arith, open-few c (getD c 0 0) 1 behind)
 
 -- the root's digit opens the first places
 pub decoding-first :
-    {c old s places : List ℕ} {t : ℕ} → Right size valence c → length s ≡ 256 → Pushed s places 0 1 (getD c 0 0) t
+    (c : List ℕ) {old s places : List ℕ} {t : ℕ} → Ends 1 c → length s ≡ size → Pushed s places 0 1 (getD c 0 0) t
     → Decoding c old old places t 0 1
 unfolding decode stack
-decoding-first {c} {old} {s} {places} {t} r l p =
+decoding-first c {old} {s} {places} {t} e l p =
     record {
       done = [];
       some = omega arith;
-      within = r .some;
-      parts = ap decode head ∙ ap (λ (w : List ℕ). edgesFrom w 2 (drop 1 c)) (sym (p .places ∙ append-nil _));
+      within = some-digit c e;
+      parts = ap decode (head c e) ∙ ap (λ (w : List ℕ). edgesFrom w 2 (drop 1 c)) (sym (p .places ∙ append-nil _));
       lies = laid-none old;
       count = refl;
-      few = omega (arith, p .count, digit-most r 0 (r .some));
       long = p .long ∙ l;
-      open-places = subst (λ (n : ℕ). Ends n (drop 1 c)) (omega (arith, p .count)) (rw head at (r .ends));
+      open-places = subst (λ (n : ℕ). Ends n (drop 1 c)) (omega (arith, p .count)) (behind c e);
     }
-  where
-    head : c ≡ getD c 0 0 ∷ drop 1 c
-    head = drop-cons c 0 0 (r .some)
 
 -- the numbers that one turn keeps within their bounds
 pub record Turn (c old out places : List ℕ) (t at i : ℕ) : Type 0 where
   pub one-open : 1 ≤ t
-  pub in-places : t - 1 < 256
+  pub in-places : t - 1 < size
   pub pushes : t - 1 + getD c i 0 ≤ length places
   pub fits : at + 2 ≤ length old
   pub out-length : length out ≡ length old
   pub number : i + 1 ≤ size
 
-module _ {c old out places : List ℕ} {t at i : ℕ} (r : Right size valence c) (room : length (decode c) ≤ length old) (d : Decoding c old out places t at i) (h : i < length c) where
+module _ {c old out places : List ℕ} {t at i : ℕ} (short : length c ≤ size) (room : length (decode c) ≤ length old) (d : Decoding c old out places t at i) (h : i < length c) where
   next : drop i c ≡ getD c i 0 ∷ drop (suc i) c
   next = drop-cons c i 0 h
 
@@ -102,15 +103,22 @@ module _ {c old out places : List ℕ} {t at i : ℕ} (r : Right size valence c)
   two-more =
       omega (arith, d .count, room, ap length parts-more ∙ length-append written _, length-append (d .done) (getD places (t - 1) 0 ∷ (i + 1) ∷ []))
 
+  ends-more : {n : ℕ} → n ≡ t - 1 + getD c i 0 → Ends n (drop (i + 1) c)
+  ends-more {n} e = rw add-one (go t (subst (Ends t) next (d .open-places)) e)
+    where
+      go : (m : ℕ) → Ends m (getD c i 0 ∷ drop (suc i) c) → n ≡ m - 1 + getD c i 0 → Ends n (drop (suc i) c)
+      go zero f q = absurd f
+      go (suc m) f q = subst (λ (x : ℕ). Ends x (drop (suc i) c)) (omega arith) f
+
   pub turn : Turn c old out places t at i
   turn =
       record {
         one-open = opens;
-        in-places = omega (arith, d .few, r .few, opens);
-        pushes = omega (arith, d .few, d .long, r .few, opens, digit-most r i h);
+        in-places = omega (arith, open-few c t i (d .open-places), opens);
+        pushes = omega (arith, d .long, open-few c (t - 1 + getD c i 0) (i + 1) (ends-more refl));
         fits = two-more;
         out-length = ap length (d .lies) ∙ laid-length (d .done) old (omega (arith, two-more, d .count));
-        number = omega (arith, r .few);
+        number = omega arith;
       }
 
   laid-two : set (set out at (getD places (t - 1) 0)) (at + 1) (i + 1) ≡ laidOver written old
@@ -121,13 +129,6 @@ module _ {c old out places : List ℕ} {t at i : ℕ} (r : Right size valence c)
       let first = laid-more (d .done) old out at p (d .lies) (sym (d .count)) (omega (arith, two-more)) in
       laid-more (d .done ++ (p ∷ [])) old (set out at p) (at + 1) (i + 1) first e (omega (arith, two-more))
       ∙ ap (λ (w : List ℕ). laidOver w old) (append-assoc (d .done) (p ∷ []) ((i + 1) ∷ []))
-
-  ends-more : {n : ℕ} → n ≡ t - 1 + getD c i 0 → Ends n (drop (i + 1) c)
-  ends-more {n} e = rw add-one (go t (subst (Ends t) next (d .open-places)) e)
-    where
-      go : (m : ℕ) → Ends m (getD c i 0 ∷ drop (suc i) c) → n ≡ m - 1 + getD c i 0 → Ends n (drop (suc i) c)
-      go zero f q = absurd f
-      go (suc m) f q = subst (λ (x : ℕ). Ends x (drop (suc i) c)) (omega arith) f
 
   pub decoding-next :
       {new : List ℕ} {n : ℕ} → Pushed places new (t - 1) (i + 1) (getD c i 0) n
@@ -141,7 +142,6 @@ module _ {c old out places : List ℕ} {t at i : ℕ} (r : Right size valence c)
         parts = parts-more ∙ ap (λ (w : List ℕ). written ++ edgesFrom w (i + 1 + 1) (drop (i + 1) c)) (sym (p .places));
         lies = laid-two;
         count = (let e = length-append (d .done) (getD places (t - 1) 0 ∷ (i + 1) ∷ []) in omega (arith, d .count));
-        few = omega (arith, p .count, d .few, digit-most r i h, opens);
         long = p .long ∙ d .long;
         open-places = ends-more (p .count);
       }

@@ -1,12 +1,13 @@
 // Rooted digit codes: the comparer, the check of a digit code, and decoding.
+use limits::SIZE;
 use refusal::Check;
 ghost use mathlib.Core.Path.{_≡_};
 ghost use mathlib.Core.List.{[], _∷_};
 ghost use Prim.Native.Nat.{suc, _+_, _≤_, _<_};
 ghost use lib.ListN.{length};
-ghost use Rattle.refusal.specs.Table.{Answers, Clear};
+ghost use Rattle.refusal.specs.Table.{Answers};
 ghost use Rattle.laws.specs.Laid.{Laid};
-ghost use Rattle.code.specs.Limits.{size, valence};
+ghost use Rattle.limits.specs.Limits.{size};
 ghost use Rattle.code.specs.Code.{cap, row10, row11, row12, row13, codeRows, decode};
 ghost use Rattle.code.specs.Ends.{Ends};
 ghost use Rattle.code.specs.Parts.{Ending};
@@ -57,20 +58,22 @@ pub fn falls(a: &[u8], b: &[u8]) -> bool
     }
 }
 
-// The most that digit number p may be.
-pub fn top(p: usize) -> u8
-    ensures { λ r. ⌜ r ≡ cap valence p ⌝ }
+// The most that digit number p may be, where a vertex may have `limit` neighbours.
+pub fn top(limit: u8, p: usize) -> u8
+    requires { ⌜ 1 ≤ limit ⌝ }
+    ensures { λ r. ⌜ r ≡ cap limit p ⌝ }
 {
-    if p <= 1 { 4 } else { 3 }
+    if p <= 1 { limit } else { limit - 1 }
 }
 
 // 10: a digit above its cap, those behind the code's end too.
-pub fn capped(code: &[u8]) -> Check
-    ensures { λ r. ⌜ Answers (row10 valence (now (code .entry)) ∷ []) r ⌝ }
+pub fn capped(limit: u8, code: &[u8]) -> Check
+    requires { ⌜ 1 ≤ limit ⌝ }
+    ensures { λ r. ⌜ Answers (row10 limit (now (code .entry)) ∷ []) r ⌝ }
 {
     let mut p = 1;
     while p <= code.len() {
-        if top(p) < code[p - 1] {
+        if top(limit, p) < code[p - 1] {
             return Check::Refuse(10, p);
         }
         p += 1;
@@ -169,7 +172,7 @@ pub fn ordered(code: &[u8]) -> Check
     requires { ⌜ length (now code) ≤ size ⌝ }
     ensures { λ r. ⌜ Answers (row13 (now (code .entry)) ∷ []) r ⌝ }
 {
-    let mut ends = [0u8; 64];
+    let mut ends = [0u8; SIZE];
     ends_of(code, &mut ends);
     let mut best = 0;
     let mut i = 0;
@@ -185,13 +188,14 @@ pub fn ordered(code: &[u8]) -> Check
 }
 
 // A digit code lent by itself: 3, 10, 11, 12 and 13.
-pub fn check(code: &[u8]) -> Check
-    ensures { λ r. ⌜ Answers (codeRows size valence (now (code .entry))) r ⌝ }
+pub fn check(limit: u8, code: &[u8]) -> Check
+    requires { ⌜ 1 ≤ limit ⌝ }
+    ensures { λ r. ⌜ Answers (codeRows size limit (now (code .entry))) r ⌝ }
 {
-    if let Check::Refuse(k, p) = refusal::sized(code.len(), 64) {
+    if let Check::Refuse(k, p) = refusal::sized(code.len(), SIZE) {
         return Check::Refuse(k, p);
     }
-    if let Check::Refuse(k, p) = capped(code) {
+    if let Check::Refuse(k, p) = capped(limit, code) {
         return Check::Refuse(k, p);
     }
     if let Check::Refuse(k, p) = ended(code) {
@@ -215,13 +219,14 @@ pub fn push(places: &mut [u8], t: usize, v: u8, k: u8) -> usize
     r
 }
 
-// The edges (parent, child) of a right code, for child 2 to N, from the start of the output; how many bytes they are.
+// The edges (parent, child) of digits that end, for child 2 to N, from the start of the output; how many bytes they are.
 pub fn write_edges(code: &[u8], out: &mut [u8]) -> usize
-    requires { ⌜ Clear (codeRows size valence (now code)) ⌝ }
+    requires { ⌜ Ends 1 (now code) ⌝ }
+    requires { ⌜ length (now code) ≤ size ⌝ }
     requires { ⌜ length (decode (now code)) ≤ length (now out) ⌝ }
     ensures { λ r. ⌜ Laid (decode (now (code .entry))) (now (out .entry)) (now (out .exit)) r ⌝ }
 {
-    let mut places = [0u8; 256];
+    let mut places = [0u8; SIZE];
     let mut t = push(&mut places, 0, 1, code[0]);
     let mut at = 0;
     let mut i = 1;

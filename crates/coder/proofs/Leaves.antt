@@ -10,7 +10,7 @@ use lib.Seq.{drop-at, drop-drop}
 use Rattle.laws.specs.Order.{sort}
 use Rattle.laws.specs.Sorting.{sort-self, sort-falling}
 use Rattle.laws.specs.Perms.{perm-in}
-use Rattle.code.specs.Limits.{size}
+use Rattle.limits.specs.Limits.{size}
 use Rattle.coder.specs.Coded.{Blank}
 use Rattle.coder.proofs.Inserting.{sort-snoc, insert-leaf}
 

@@ -15,7 +15,7 @@ use Rattle.laws.specs.Sorting.{refl≽, trans≽, antisym≽}
 use Rattle.laws.specs.Laid.{laidOver, laid-length}
 use Rattle.laws.specs.Laying.{laid-front}
 use Rattle.refusal.specs.Table.{Writes}
-use Rattle.code.specs.Limits as limits
+use Rattle.limits.specs.Limits as limits
 use Rattle.tree.specs.Skeleton.{IsTree, degree, rooted}
 use Rattle.tree.specs.Theorems.{size}
 use Rattle.skeleton.specs.Table.{IsTable}

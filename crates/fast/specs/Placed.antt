@@ -11,7 +11,7 @@ use lib.Seq.{drop-cons, drop-drop, drop-length, getD-set-same, getD-set-other, g
 use Rattle.laws.specs.Order.{_≽_, Falling}
 use Rattle.laws.specs.Sorting.{falling-iff}
 use Rattle.laws.specs.Part.{part, part-none, part-cons}
-use Rattle.code.specs.Limits.{size}
+use Rattle.limits.specs.Limits.{size}
 use Rattle.code.specs.Code.{codes}
 use Rattle.fast.specs.Middle.{top}
 use Rattle.fast.specs.Skip.{codes-few, codes-at, Skips, skips-length, skips-left, one-after, one-part}

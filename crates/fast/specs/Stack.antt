@@ -6,7 +6,7 @@ use native.Mathlib.Omega.{arith}
 use lib.ListN.{length, getD, set, take, drop, length-drop, length-set}
 use lib.Seq.{drop-cons, drop-drop, drop-length, drop-set-lt, getD-set-same}
 use Rattle.laws.specs.Part.{part, part-cons}
-use Rattle.code.specs.Limits.{size}
+use Rattle.limits.specs.Limits.{size}
 use Rattle.code.specs.Code.{codes}
 use Rattle.fast.specs.Middle.{top, heights, tops}
 use Rattle.fast.specs.Skip.{codes-few}

@@ -17,7 +17,7 @@ use lib.Ieee.Fits.{down-pos}
 use lib.Ieee.Positive.{num, den, den-pos, value→cross}
 use Rattle.refusal.specs.Table.{Clear}
 use Rattle.code.specs.Code.{digitRows}
-use Rattle.bits.specs.Limits.{fractionSize}
+use Rattle.limits.specs.Limits.{fractionSize}
 use Rattle.bits.specs.Bits.{bits, word, cutFrom, fractionBits, Zeros, Reads}
 use Rattle.bits.specs.Ends.{end-sum, right-ends}
 use Rattle.bits.specs.Laws.{length-bits, cut-bits}

@@ -7,7 +7,7 @@ use lib.Dec.{lit<, lit≤}
 use lib.Ieee.{Float, binary64, ofBits, fits}
 use Rattle.refusal.specs.Table.{FirstRefusal}
 use Rattle.refusal.specs.Laws.{refusal-front, was-refused}
-use Rattle.code.specs.Limits.{valence}
+use Rattle.limits.specs.Limits.{valence}
 use Rattle.bits.specs.Bits.{bit, bits, word, fractionBits, Zeros, bitRows}
 use Rattle.bits.specs.Examples.{refused-quarter, refused-small}
 use Rattle.fraction.specs.Fraction.{IsFraction, Outside, bitsOf, fractionRows}

@@ -12,7 +12,7 @@ use lib.ListN.{length}
 use lib.Ieee.{binary64, round, div, ofInt, inFloat}
 use lib.Ieee.Back.{round-whole}
 use lib.Ieee.Fits.{div-fits}
-use Rattle.bits.specs.Limits.{fractionSize}
+use Rattle.limits.specs.Limits.{fractionSize}
 use Rattle.bits.specs.Written.{Coded, Numbers}
 use Rattle.fraction.specs.Fraction.{IsFraction}
 use Rattle.fraction.specs.Floats.{frac-value, divided}

@@ -10,7 +10,7 @@ use native.Mathlib.Omega.{arith}
 use lib.ListN.{length}
 use Rattle.refusal.specs.Table.{Row, FirstRefusal, Outcome, refuses, left}
 use Rattle.refusal.specs.Laws.{clear-one, first-place, refusal-front, refusal-back}
-use Rattle.code.specs.Limits.{size}
+use Rattle.limits.specs.Limits.{size}
 use Rattle.lines.specs.Line.{figures, decimal, body, line, Each, Other, Cut, Digits, IsCount, one, two, Formed, row1, row2, LineAnswers, Reply}
 use Rattle.lines.specs.Form.{Figure, Figures}
 use Rattle.lines.specs.Judged.{digitTable}
@@ -95,9 +95,9 @@ module _ {t b rest : List ℕ} (c : Cut 10 t b rest) (x y : List ℕ) (m : ℕ) 
   unformed n ds f = each-right (λ a. Mark a → ⊥) x (m ∷ y) (rw p at (formed-unmarked f)) .0 k
 
   -- it is refused 2 in a text
-  pub marked-answer : {o : Reply} → LineAnswers size digitTable t o → o ≡ refuses 2 0
-  marked-answer h = answered-once size digitTable h (left (unformed-2 c unformed _) refl)
+  pub marked-answer : (R : ℕ) {o : Reply} → LineAnswers size (digitTable R) t o → o ≡ refuses 2 0
+  marked-answer R h = answered-once size (digitTable R) h (left (unformed-2 c unformed _) refl)
 
   -- and by itself
-  pub marked-line : {old new : List ℕ} {o : Outcome ℕ} → ReadLine size digitTable t old new o → (o ≡ refuses 2 0) × (new ≡ old)
-  marked-line h = read-once size digitTable h (left (unformed-2 c unformed _) refl)
+  pub marked-line : (R : ℕ) {old new : List ℕ} {o : Outcome ℕ} → ReadLine size (digitTable R) t old new o → (o ≡ refuses 2 0) × (new ≡ old)
+  marked-line R h = read-once size (digitTable R) h (left (unformed-2 c unformed _) refl)

@@ -6,7 +6,7 @@ use native.Mathlib.Decide.{ℕ-discrete, decLt}
 use native.Mathlib.Omega.{arith}
 use lib.ListN.{length, getD, set, replicate, length-set, length-replicate, getD-replicate, length-append, List·getD-append}
 use lib.Seq.{getD-set-same, getD-set-other, getD-append-seam}
-use Rattle.code.specs.Limits.{size, valence}
+use Rattle.limits.specs.Limits.{size, width}
 use Rattle.tree.specs.Skeleton.{Arc, arcs, neighbours, degree, Degrees, IsSkeleton}
 use Rattle.skeleton.specs.Edges.{Edge, one, other, before}
 use Rattle.skeleton.specs.Prefix.{arcs-more, arcs-all, neighbours-nil, neighbours-append, neighbours-hit, neighbours-miss, neighbours-count, hit, hit-same, degree-within, one-in, other-in}
@@ -131,7 +131,7 @@ module _
 -- ---- one edge more, of a skeleton
 
 module _
-    {N : ℕ} {E : List ℕ} {p : ℕ} (a b : ℕ) (s : IsSkeleton size valence N E) (h : Edge E p) (i : (a ≡ one E p) × (a < 256)) (j : (b ≡ other E p) × (b < 256))
+    {N : ℕ} {E : List ℕ} {p : ℕ} (a b : ℕ) (s : IsSkeleton size width N E) (h : Edge E p) (i : (a ≡ one E p) × (a < 256)) (j : (b ≡ other E p) × (b < 256))
   where
     a-in : (1 ≤ a) × (a ≤ N)
     a-in = rw (i .0) (s .tree .inside (one E p) (one-in E p h))

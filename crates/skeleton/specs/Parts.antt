@@ -7,7 +7,7 @@ use mathlib.Core.Bool.{Bool, true, false}
 use mathlib.Core.List.{List, []}
 use Prim.Native.Nat.{ℕ, zero, suc, _+_, _-_, _≤_, _<_}
 use lib.ListN.{length, getD, set}
-use Rattle.code.specs.Limits.{size, valence}
+use Rattle.limits.specs.Limits.{size, width}
 
 -- r says whether P holds
 pub record Tells (P : Type 0) (r : Bool) : Type 0 where
@@ -47,7 +47,7 @@ pub record Parted (n : ℕ) (l : List ℕ) : Type 0 where
 pub record Room (d : List ℕ) (a b : ℕ) : Type 0 where
   pub low : 1 ≤ a
   pub high : a ≤ size
-  pub few : getD d (a - 1) 0 < valence
+  pub few : getD d (a - 1) 0 < width
   pub byte : b < 256
 
 -- b is put behind the numbers of row a - 1

@@ -1,6 +1,8 @@
 // A partner's edge list: its refusals 3 and 5 to 9, and the table of its neighbours.
 //
 // An edge list is flat, one byte for each end. Edges count from 1, as the places of the refusals do.
+use limits::SIZE;
+use limits::WIDTH;
 use refusal::Check;
 ghost use mathlib.Core.Path.{_≡_};
 ghost use mathlib.Core.Logic.{_⊎_};
@@ -8,14 +10,11 @@ ghost use mathlib.Core.List.{[], _∷_};
 ghost use Prim.Native.Nat.{_≤_, _<_};
 ghost use lib.ListN.{length};
 ghost use Rattle.refusal.specs.Table.{Answers, Outside, row3};
-ghost use Rattle.code.specs.Limits.{size, valence};
+ghost use Rattle.limits.specs.Limits.{size, width};
 ghost use Rattle.tree.specs.Skeleton.{IsSkeleton};
 ghost use Rattle.skeleton.specs.Edges.{Edge, one, other, row5, row6, row7, row8, row9, edgeRows};
 ghost use Rattle.skeleton.specs.Table.{Shaped, IsTable};
 ghost use Rattle.skeleton.specs.Parts.{Tells, Parted, Links, Top, Room, Added};
-
-// The edges that a vertex may have.
-const VALENCE: u8 = 4;
 
 fn wide(x: u8) -> usize
     ensures { λ r. ⌜ (r ≡ x) × (r < 256) ⌝ }
@@ -164,15 +163,16 @@ fn cycles(edges: &[u8]) -> Check
 }
 
 // Whether one of two counts is as high as it may be.
-fn full(x: u8, y: u8) -> bool
-    ensures { λ r. ⌜ Tells ((valence ≤ x) ⊎ (valence ≤ y)) r ⌝ }
+fn full(limit: u8, x: u8, y: u8) -> bool
+    ensures { λ r. ⌜ Tells ((limit ≤ x) ⊎ (limit ≤ y)) r ⌝ }
 {
-    VALENCE <= x || VALENCE <= y
+    limit <= x || limit <= y
 }
 
-// 9: an end that has as many edges as a vertex may have.
-fn degrees(edges: &[u8]) -> Check
-    ensures { λ r. ⌜ Answers (row9 valence (now (edges .entry)) ∷ []) r ⌝ }
+// 9: an end that has as many edges as a vertex may have, which is `limit`.
+fn degrees(limit: u8, edges: &[u8]) -> Check
+    requires { ⌜ limit ≤ width ⌝ }
+    ensures { λ r. ⌜ Answers (row9 limit (now (edges .entry)) ∷ []) r ⌝ }
 {
     let mut count = [0u8; 256];
     let m = edges.len() / 2;
@@ -180,7 +180,7 @@ fn degrees(edges: &[u8]) -> Check
     while p <= m {
         let a = one(edges, p);
         let b = other(edges, p);
-        if full(count[a], count[b]) {
+        if full(limit, count[a], count[b]) {
             return Check::Refuse(9, p);
         }
         count[a] += 1;
@@ -190,9 +190,11 @@ fn degrees(edges: &[u8]) -> Check
     Check::Passed
 }
 
-// Every refusal of an edge list. Where the caller names no root, vertex 1 stands for it.
-pub fn check(most: usize, n: usize, edges: &[u8], root: usize) -> Check
-    ensures { λ r. ⌜ Answers (edgeRows most valence n (now (edges .entry)) root) r ⌝ }
+// Every refusal of an edge list of at most `most` vertices, each with at most `limit` neighbours. Where the caller names no root, vertex 1
+// stands for it.
+pub fn check(most: usize, limit: u8, n: usize, edges: &[u8], root: usize) -> Check
+    requires { ⌜ limit ≤ width ⌝ }
+    ensures { λ r. ⌜ Answers (edgeRows most limit n (now (edges .entry)) root) r ⌝ }
 {
     if let Check::Refuse(k, p) = sizes(most, n, edges) {
         return Check::Refuse(k, p);
@@ -206,11 +208,11 @@ pub fn check(most: usize, n: usize, edges: &[u8], root: usize) -> Check
     if let Check::Refuse(k, p) = cycles(edges) {
         return Check::Refuse(k, p);
     }
-    degrees(edges)
+    degrees(limit, edges)
 }
 
 // b goes behind the neighbours that a has.
-fn add(rows: &mut [[u8; 4]; 64], degs: &mut [u8; 64], a: usize, b: usize)
+fn add(rows: &mut [[u8; WIDTH]; SIZE], degs: &mut [u8; SIZE], a: usize, b: usize)
     requires { ⌜ Shaped (now rows) (now degs) ⌝ }
     requires { ⌜ Room (now degs) a b ⌝ }
     ensures { λ _. ⌜ Added a b (now (rows .entry)) (now (degs .entry)) (now (rows .exit)) (now (degs .exit)) ⌝ }
@@ -222,12 +224,12 @@ fn add(rows: &mut [[u8; 4]; 64], degs: &mut [u8; 64], a: usize, b: usize)
 }
 
 // The table of neighbours of an accepted list of n vertices. Whatever the two arrays held is gone.
-pub fn fill(n: usize, edges: &[u8], rows: &mut [[u8; 4]; 64], degs: &mut [u8; 64])
-    requires { ⌜ IsSkeleton size valence n (now edges) ⌝ }
+pub fn fill(n: usize, edges: &[u8], rows: &mut [[u8; WIDTH]; SIZE], degs: &mut [u8; SIZE])
+    requires { ⌜ IsSkeleton size width n (now edges) ⌝ }
     ensures { λ _. ⌜ IsTable n (now (edges .entry)) (now (rows .exit)) (now (degs .exit)) ⌝ }
 {
-    *rows = [[0u8; 4]; 64];
-    *degs = [0u8; 64];
+    *rows = [[0u8; WIDTH]; SIZE];
+    *degs = [0u8; SIZE];
     let m = edges.len() / 2;
     let mut p: usize = 1;
     while p <= m {

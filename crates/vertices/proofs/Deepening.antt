@@ -8,7 +8,7 @@ use native.Mathlib.Decide.{ℕ-discrete}
 use native.Mathlib.Omega.{arith}
 use lib.ListN.{length, getD, set, drop, replicate, length-set, length-drop}
 use lib.Seq.{drop-cons, drop-drop, getD-drop, getD-set-same, getD-set-other}
-use Rattle.code.specs.Limits.{size}
+use Rattle.limits.specs.Limits.{size}
 use Rattle.code.specs.Ends.{Ends, ends-sum}
 use Rattle.code.specs.Stack.{stack, Pushed}
 use Rattle.vertices.specs.Vertices.{depths, depthsFrom}

@@ -9,7 +9,7 @@ use Rattle.refusal.specs.Table.{Row, Gives}
 use Rattle.refusal.specs.Giving.{refused-first}
 use Rattle.refusal.specs.Outcome.{told}
 use Rattle.refusal.specs.declared.Answer.{Answer}
-use Rattle.code.specs.Limits.{size, valence}
+use Rattle.limits.specs.Limits.{size, valence}
 use Rattle.code.specs.Code.{decode}
 use Rattle.bits.specs.Reading.{one-reading}
 use Rattle.bits.specs.Decided.{Decided, gives, refuses, Decision}

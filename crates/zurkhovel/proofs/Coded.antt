@@ -5,7 +5,7 @@ use Prim.Native.Nat.{ℕ, _≤_, _<_}
 use lib.ListN.{length}
 use Rattle.refusal.specs.Table.{Clear, gives, refuses, Writes, Gives}
 use Rattle.refusal.specs.Giving.{refused-short, given}
-use Rattle.code.specs.Limits.{size, valence}
+use Rattle.limits.specs.Limits.{size, valence}
 use Rattle.tree.specs.Skeleton.{rooted}
 use Rattle.skeleton.specs.Edges.{edgeRows}
 use Rattle.form.specs.Forms.{IsForm, form-size}

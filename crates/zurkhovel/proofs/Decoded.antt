@@ -8,7 +8,7 @@ use Rattle.laws.specs.Laid.{Laid}
 use Rattle.refusal.specs.Table.{Clear, gives, refuses}
 use Rattle.refusal.specs.Laws.{clear-left}
 use Rattle.refusal.specs.Giving.{refused-short, given-laid}
-use Rattle.code.specs.Limits.{size, valence}
+use Rattle.limits.specs.Limits.{size, valence}
 use Rattle.code.specs.Code.{codeRows, decode}
 use Rattle.code.specs.Right.{clear-right}
 use Rattle.tree.specs.Theorems.{decoded-tree}

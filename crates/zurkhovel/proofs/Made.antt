@@ -8,12 +8,12 @@ use Rattle.laws.specs.Laid.{laidOver}
 use Rattle.refusal.specs.Table.{Row, Clear, gives, refuses, Gives}
 use Rattle.refusal.specs.Laws.{clear-left}
 use Rattle.refusal.specs.Giving.{refused-short, given-laid}
-use Rattle.code.specs.Limits.{valence}
-use Rattle.adjacency.specs.Adjacency.{aEdges, aRows, madeRows, aMost}
+use Rattle.limits.specs.Limits.{valence, aSize}
+use Rattle.adjacency.specs.Adjacency.{aEdges, aRows, madeRows}
 use Rattle.adjacency.specs.Accepted.{aFront, a-long}
 
-pub a-bytes : (N x : ℕ) → Clear (aRows aMost valence N x) → length (aEdges N x) ≡ 2 * (N - 1)
-a-bytes N x k = a-long aMost N x (clear-left (aFront aMost N x) (madeRows valence (aEdges N x)) k)
+pub a-bytes : (N x : ℕ) → Clear (aRows aSize valence N x) → length (aEdges N x) ≡ 2 * (N - 1)
+a-bytes N x k = a-long aSize N x (clear-left (aFront aSize N x) (madeRows valence (aEdges N x)) k)
 
 -- n: the length of the one right result
 module _ {rs : List Row} {c : List ℕ} {n : ℕ} (clear : Clear rs) (sized : length c ≡ n) {old new : List ℕ} where

@@ -10,7 +10,7 @@ use Rattle.laws.specs.Laying.{laid-front}
 use Rattle.refusal.specs.Table.{Clear, Writes, gives, refuses, Gives}
 use Rattle.refusal.specs.Laws.{at-most}
 use Rattle.refusal.specs.Giving.{refused-short, given, written, written-length}
-use Rattle.code.specs.Limits.{size, valence}
+use Rattle.limits.specs.Limits.{size, valence}
 use Rattle.code.specs.Code.{decode}
 use Rattle.tree.specs.Skeleton.{IsSkeleton}
 use Rattle.skeleton.specs.Edges.{edgeRows}

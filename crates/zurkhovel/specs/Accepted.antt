@@ -6,10 +6,11 @@ use native.Mathlib.Omega.{arith}
 use lib.ListN.{length}
 use Rattle.refusal.specs.Table.{Clear}
 use Rattle.refusal.specs.Laws.{others}
-use Rattle.code.specs.Limits.{size, valence}
+use Rattle.limits.specs.Limits.{size, valence, width}
 use Rattle.tree.specs.Skeleton.{IsTree, IsSkeleton, rooted}
 use Rattle.tree.specs.Theorems as Theorems
 use Rattle.skeleton.specs.Edges.{edgeRows}
+use Rattle.skeleton.specs.Tables.{in-rows}
 use Rattle.skeleton.specs.Theorems.{accepted}
 use Rattle.form.specs.Form.{centred}
 use Rattle.form.specs.Forms.{centred-form, form-size}
@@ -19,6 +20,10 @@ use Rattle.lines.specs.Judged.{digitTable}
 
 pub skeleton-of : {most N r : ℕ} {E : List ℕ} → Clear (edgeRows most valence N E r) → IsSkeleton most valence N E
 skeleton-of {most} {N} {r} {E} k = accepted most valence N E r .0 k .0
+
+-- it has a table of neighbours
+pub tabled : {most N : ℕ} {E : List ℕ} → IsSkeleton most valence N E → IsSkeleton most width N E
+tabled = in-rows (omega arith)
 
 pub tree-of : {most : ℕ} (N : ℕ) (E : List ℕ) (r : ℕ) → Clear (edgeRows most valence N E r) → IsTree N E
 tree-of N E r k = skeleton-of {E = E} k .tree
@@ -40,6 +45,6 @@ pub plain-rows : {most N : ℕ} {E : List ℕ} → IsSkeleton most valence N E �
 plain-rows {most} {N} {E} s = accepted most valence N E 1 .1 (s, (omega arith, omega (arith, s .tree .edges)))
 
 -- a skeleton's centred code is one that a line may carry
-pub centred-accepted : {N : ℕ} {E c : List ℕ} → IsSkeleton size valence N E → centred N E c → Accept size digitTable c
+pub centred-accepted : {N : ℕ} {E c : List ℕ} → IsSkeleton size valence N E → centred N E c → Accept size (digitTable valence) c
 centred-accepted {N} {E} {c} s x =
     record { few = omega (arith, form-size centred centred-form N E c (s .tree) x, s .few); clear = others (form-accepted centred centred-form size valence c N E s x) }

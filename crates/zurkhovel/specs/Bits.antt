@@ -10,9 +10,8 @@ use mathlib.Core.List.{List}
 use Prim.Native.Nat.{ℕ, _-_, _*_}
 use lib.Ieee.{Float}
 use Rattle.refusal.specs.Table.{Outcome, Answered, Gives}
-use Rattle.code.specs.Limits.{size, valence}
+use Rattle.limits.specs.Limits.{size, valence, packedBytes, wholeSize, fractionSize}
 use Rattle.code.specs.Code.{decode}
-use Rattle.bits.specs.Limits.{packedBytes, wholeSize, fractionSize}
 use Rattle.bits.specs.Bits.{bytes, word, Fill, Nothing, Zeros, Reads, packedRows, wholeRows}
 use Rattle.bits.specs.Written.{Packs, Numbers}
 use Rattle.fraction.specs.Fraction.{IsFraction, bitsOf, fractionRows}

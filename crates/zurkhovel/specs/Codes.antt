@@ -7,7 +7,7 @@ use mathlib.Core.Path.{_≡_}
 use mathlib.Core.List.{List, []}
 use Prim.Native.Nat.{ℕ}
 use Rattle.refusal.specs.Table.{Outcome, Answered, Gives}
-use Rattle.code.specs.Limits.{size, valence}
+use Rattle.limits.specs.Limits.{size, valence}
 use Rattle.code.specs.Code.{codeRows, decode}
 use Rattle.tree.specs.Skeleton.{rooted}
 use Rattle.skeleton.specs.Edges.{edgeRows}

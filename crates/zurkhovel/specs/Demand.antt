@@ -15,7 +15,7 @@ use native.Mathlib.Decide.{ℕ-discrete}
 use lib.ListN.{length, getD, take, drop, replicate}
 use Rattle.refusal.specs.Table.{Clear, Outcome, gives}
 use Rattle.refusal.specs.Giving.{Given}
-use Rattle.code.specs.Limits.{size, valence}
+use Rattle.limits.specs.Limits.{size, valence}
 use Rattle.skeleton.specs.Edges.{edgeRows}
 use Rattle.form.specs.Form.{centred}
 use Rattle.lines.specs.Line.{line, written}

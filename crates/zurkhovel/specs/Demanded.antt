@@ -7,7 +7,7 @@ use native.Mathlib.Omega.{arith}
 use lib.ListN.{length, getD, take, drop, replicate, length-append, length-drop, length-map, drop-of-length-le, length-replicate}
 use Rattle.refusal.specs.Table.{gives}
 use Rattle.refusal.specs.Giving.{gave, must-give}
-use Rattle.code.specs.Limits.{size}
+use Rattle.limits.specs.Limits.{size, valence}
 use Rattle.form.specs.Form.{centred}
 use Rattle.form.specs.Forms.{centred-form, form-size}
 use Rattle.lines.specs.Line.{line, written, TextAnswers, Reply}
@@ -25,7 +25,7 @@ use Rattle.zurkhovel.specs.Seen.{numbersOf, placesOf, Shows, Seen, seen,
 -- ---- the clean text
 
 -- it is the lines of the records written, which are accepted
-clean-written : {t : List ℕ} {cs : List (List ℕ)} → Clean t cs → Accepted size digitTable cs × (t ≡ written cs)
+clean-written : {t : List ℕ} {cs : List (List ℕ)} → Clean t cs → Accepted size (digitTable valence) cs × (t ≡ written cs)
 unfolding written
 clean-written none = (tt, refl)
 clean-written (one-more {N} {E = E} {c = c} w x h) =
@@ -70,7 +70,7 @@ pub turns-agree : TurnsAgree
 turns-agree u ns ps bs ns′ ps′ bs′ a b =
     let s = seen a in
     let r = seen b in
-    let e = Lines.one-reading size digitTable u (s .answers) (r .answers) (answered s) (answered r) in
+    let e = Lines.one-reading size (digitTable valence) u (s .answers) (r .answers) (answered s) (answered r) in
     agree (s .shows) (rw (← e) at (r .shows))
 
 zeros-join : (ns ms : List ℕ) → zeros (ns ++ ms) ≡ zeros ns + zeros ms
@@ -114,7 +114,7 @@ pub clean-text : CleanText
 clean-text t ns ps bs cs h r =
     let s = seen r in
     let (a, f) = clean-written h in
-    let e : s .answers ≡ map gives cs = Lines.read-back size digitTable (omega arith) lawful-table cs (s .answers) a (subst (λ u. TextAnswers size digitTable u (s .answers)) f (answered s)) in
+    let e : s .answers ≡ map gives cs = Lines.read-back size (digitTable valence) (omega arith) (lawful-table valence (omega arith)) cs (s .answers) a (subst (λ u. TextAnswers size (digitTable valence) u (s .answers)) f (answered s)) in
     let ns-are : ns ≡ replicate (length cs) 0 = s .shows .numbers ∙ ap numbersOf e ∙ numbers-given cs in
     let hs : handedOut ns ps bs ≡ cs = s .shows .handed ∙ ap records e ∙ records-given cs in
     record {
@@ -132,7 +132,7 @@ pub one-byte-changed : OneByteChanged
 one-byte-changed t u ns ps bs cs h c r =
     let s = seen r in
     let (a, f) = clean-written h in
-    let w = Lines.one-byte size digitTable (omega arith) lawful-table cs u (s .answers) a (rw f at c) (answered s) in
+    let w = Lines.one-byte size (digitTable valence) (omega arith) (lawful-table valence (omega arith)) cs u (s .answers) a (rw f at c) (answered s) in
     record {
       some-refused = subst (λ (ms : List ℕ). (i : ℕ) × (i < length ms) × (getD ms i 0 ≡ 0 → ⊥)) (sym (s .shows .numbers)) (refusal-shows (s .answers) (taken-none-zero (s .taken)) (w .refuses));
       ordered = rw (s .shows .handed) (w .ordered);
@@ -144,7 +144,7 @@ pub any-damage : AnyDamage
 any-damage x y z ns ps bs cs h r =
     let s = seen r in
     let (a, f) = clean-written h in
-    let w = Lines.recovers size digitTable (omega arith) lawful-table cs x y z (z ++ (10 ∷ y)) (s .answers) a (sym f) refl (answered s) in
+    let w = Lines.recovers size (digitTable valence) (omega arith) (lawful-table valence (omega arith)) cs x y z (z ++ (10 ∷ y)) (s .answers) a (sym f) refl (answered s) in
     let b = w .behind in
     record {
       earlier = w .earlier;
@@ -164,7 +164,7 @@ any-damage x y z ns ps bs cs h r =
           s .shows .handed ∙ ap records (w .ends) ∙ records-before (w .before) b;
       by-itself = λ ns′ ps′ bs′ q.
           let v = seen q in
-          let e = Lines.one-reading size digitTable (z ++ (10 ∷ [])) (v .answers) (w .before) (answered v) (w .answered) in
+          let e = Lines.one-reading size (digitTable valence) (z ++ (10 ∷ [])) (v .answers) (w .before) (answered v) (w .answered) in
           (v .shows .numbers ∙ ap numbersOf e, v .shows .places ∙ ap placesOf e, v .shows .handed ∙ ap records e);
     }
 

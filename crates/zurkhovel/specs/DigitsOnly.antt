@@ -11,7 +11,7 @@ use lib.ListN.{length, getD, take, length-map}
 use lib.Seq.{getD-at}
 use Rattle.refusal.specs.Table.{Outcome, gives, refuses}
 use Rattle.refusal.specs.Giving.{gave}
-use Rattle.code.specs.Limits.{size}
+use Rattle.limits.specs.Limits.{size, valence}
 use Rattle.lines.specs.Line.{line, Each, Cut, TextAnswers, none, Reply}
 use Rattle.lines.specs.Judged.{digitTable, lawful-table}
 use Rattle.lines.specs.Reading.{counted}
@@ -27,7 +27,7 @@ use Rattle.zurkhovel.specs.Seen.{numbersOf, placesOf, seen, answered, li
 pub write-line-digits : (N : ℕ) (E old new : List ℕ) (n : ℕ) → WriteLine N E old new (gives n) → DigitsOnly (take n new)
 write-line-digits N E old new n w =
     let (k, (c, x, e), _) = gave w in
-    subst DigitsOnly (sym e) (line-digits c (fits size digitTable (omega arith) lawful-table (centred-accepted (skeleton-of k) x)))
+    subst DigitsOnly (sym e) (line-digits c (fits size (digitTable valence) (omega arith) (lawful-table valence (omega arith)) (centred-accepted (skeleton-of k) x)))
 
 -- so each byte of it is a digit, the space or the line feed
 pub write-line-bytes : (N : ℕ) (E old new : List ℕ) (n : ℕ) → WriteLine N E old new (gives n) → Each Allowed (take n new)
@@ -37,7 +37,7 @@ write-line-bytes N E old new n w = each-allowed (write-line-digits N E old new n
 pub read-line-marked :
     (t x y rest : List ℕ) (m : ℕ) (old new : List ℕ) (o : Outcome ℕ) → Cut 10 t (x ++ (m ∷ y)) rest → Mark m → ReadLine t old new o
     → (o ≡ refuses 2 0) × (new ≡ old)
-read-line-marked t x y rest m old new o c k g = marked-line c x y m refl k g
+read-line-marked t x y rest m old new o c k g = marked-line c x y m refl k valence g
 
 -- v is whole lines: it is empty, or its last byte is a line feed
 abbrev pub WholeLines : List ℕ → Type 0
@@ -48,16 +48,16 @@ record Parted (v y : List ℕ) (os : List Reply) : Type 0 where
   pub before : List Reply
   pub after : List Reply
   pub parts : os ≡ before ++ after
-  pub front : TextAnswers size digitTable v before
-  pub behind : TextAnswers size digitTable y after
+  pub front : TextAnswers size (digitTable valence) v before
+  pub behind : TextAnswers size (digitTable valence) y after
 
-parted : {v y : List ℕ} {os : List Reply} → WholeLines v → TextAnswers size digitTable (v ++ y) os → Parted v y os
+parted : {v y : List ℕ} {os : List Reply} → WholeLines v → TextAnswers size (digitTable valence) (v ++ y) os → Parted v y os
 parted {v} {y} {os} (inl e) h =
-    record { before = []; after = os; parts = refl; front = rw e none; behind = subst (λ (u : List ℕ). TextAnswers size digitTable (u ++ y) os) e h }
+    record { before = []; after = os; parts = refl; front = rw e none; behind = subst (λ (u : List ℕ). TextAnswers size (digitTable valence) (u ++ y) os) e h }
 parted {v} {y} {os} (inr (w, e)) h =
     let q : v ++ y ≡ w ++ (10 ∷ y) = ap (λ (u : List ℕ). u ++ y) e ∙ append-assoc w (10 ∷ []) y in
-    let r = halves size digitTable w y h q in
-    record { before = r .before; after = r .after; parts = r .parts; front = subst (λ (u : List ℕ). TextAnswers size digitTable u (r .before)) (sym e) (r .front); behind = r .behind }
+    let r = halves size (digitTable valence) w y h q in
+    record { before = r .before; after = r .after; parts = r .parts; front = subst (λ (u : List ℕ). TextAnswers size (digitTable valence) u (r .before)) (sym e) (r .front); behind = r .behind }
 
 -- in a text, behind the whole lines v, such a line has the number 2 and the place 0
 pub read-text-marked :
@@ -67,8 +67,8 @@ unfolding counted
 read-text-marked v t x y rest m ns ps bs w c k r =
     let s = seen r in
     let p = parted w (answered s) in
-    let f = first size digitTable c (p .behind) in
-    let a : f .answer ≡ refuses 2 0 = marked-answer c x y m refl k (f .line) in
+    let f = first size (digitTable valence) c (p .behind) in
+    let a : f .answer ≡ refuses 2 0 = marked-answer c x y m refl k valence (f .line) in
     let e : s .answers ≡ p .before ++ (refuses 2 0 ∷ f .others) =
     p .parts ∙ ap (λ os. p .before ++ os) (f .parts ∙ ap (λ o. o ∷ f .others) a) in
     let l : length (p .before) ≡ linesIn v = lines-answered (p .front) in (

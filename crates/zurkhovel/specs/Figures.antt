@@ -13,7 +13,7 @@ use lib.ListN.{length}
 use Rattle.laws.specs.Order.{dec≽, insert, sort}
 use Rattle.laws.specs.Perms.{decIn}
 use Rattle.laws.specs.Once.{upTo}
-use Rattle.code.specs.Limits.{size, valence}
+use Rattle.limits.specs.Limits.{size, valence}
 use Rattle.code.specs.Code.{sum, edgesFrom, decode}
 use Rattle.tree.specs.Skeleton.{arcs, neighbours, degree, IsSkeleton, children, join, codeAt, rooted}
 use Rattle.path.specs.Path.{middle₁, middle₂}

@@ -4,7 +4,7 @@ use mathlib.Core.List.{List, [], _∷_}
 use Prim.Native.Nat.{ℕ, zero, suc, _+_}
 use lib.ListN.{length}
 use Rattle.refusal.specs.Table.{Outcome, Gives}
-use Rattle.code.specs.Limits.{size, valence}
+use Rattle.limits.specs.Limits.{size, valence}
 use Rattle.skeleton.specs.Edges.{edgeRows}
 use Rattle.form.specs.Form.{ofCentred}
 use Rattle.lines.specs.Line.{line}
@@ -14,7 +14,7 @@ use Rattle.answers.specs.Listing as Listing
 
 -- the first line of the text t into a lent output
 abbrev pub ReadLine : List ℕ → List ℕ → List ℕ → Outcome ℕ → Type 0
-ReadLine t old new o = Reading.ReadLine size digitTable t old new o
+ReadLine t old new o = Reading.ReadLine size (digitTable valence) t old new o
 
 -- the line of the centred code of the skeleton with N vertices and the edges E
 abbrev pub WriteLine : ℕ → List ℕ → List ℕ → List ℕ → Outcome ℕ → Type 0
@@ -22,7 +22,7 @@ WriteLine N E old new o = Gives (edgeRows size valence N E 1) (ofCentred N E lin
 
 -- the text t, line after line: rec, num and pla before, rec′, num′ and pla′ after; k lines are read, up to the place `at`
 abbrev pub ReadText : List ℕ → List ℕ → List ℕ → List ℕ → List ℕ → List ℕ → List ℕ → ℕ → ℕ → Type 0
-ReadText t rec num pla rec′ num′ pla′ k at = Reading.ReadText size digitTable size t rec num pla rec′ num′ pla′ k at
+ReadText t rec num pla rec′ num′ pla′ k at = Reading.ReadText size (digitTable valence) size t rec num pla rec′ num′ pla′ k at
 
 -- "R records, and F refused lines": how many of the answers' numbers are 0, and how many are not
 unfoldable pub zeros : List ℕ → ℕ
@@ -36,4 +36,4 @@ pub record Counted (numbers : List ℕ) (read refused : ℕ) : Type 0 where
 
 -- the listing of the text t, from byte `from` on, as far as there is room: n bytes
 abbrev pub ListText : List ℕ → List ℕ → List ℕ → ℕ → ℕ → Type 0
-ListText t old new from n = Listing.Lists size digitTable t old new from n
+ListText t old new from n = Listing.Lists size (digitTable valence) t old new from n

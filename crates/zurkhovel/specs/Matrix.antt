@@ -7,11 +7,11 @@ use mathlib.Core.Path.{_≡_}
 use mathlib.Core.List.{List, [], _∷_, _++_}
 use Prim.Native.Nat.{ℕ}
 use Rattle.refusal.specs.Table.{Row, Outcome, Answered, Gives}
-use Rattle.code.specs.Limits.{size, valence}
+use Rattle.limits.specs.Limits.{size, valence, zeroSize, aSize}
 use Rattle.code.specs.Code.{decode}
 use Rattle.skeleton.specs.Edges.{edgeRows}
 use Rattle.form.specs.Form.{centred}
-use Rattle.adjacency.specs.Adjacency.{row14, cam, camEdges, zeroA, zeroCam, aZero, aEdges, camRows, zeroRows, aRows, zeroMost, aMost}
+use Rattle.adjacency.specs.Adjacency.{row14, cam, camEdges, zeroA, zeroCam, aZero, aEdges, camRows, zeroRows, aRows}
 
 -- ---- a form read into edges
 
@@ -21,11 +21,11 @@ DecodeCam N c old new o = Gives (camRows size valence N c) (λ E. E ≡ camEdges
 
 -- of a 0A
 abbrev pub DecodeZeroA : ℕ → ℕ → List ℕ → List ℕ → Outcome ℕ → Type 0
-DecodeZeroA N x old new o = Gives (zeroRows zeroMost valence N x) (λ E. E ≡ camEdges (zeroCam N x)) old new o
+DecodeZeroA N x old new o = Gives (zeroRows zeroSize valence N x) (λ E. E ≡ camEdges (zeroCam N x)) old new o
 
 -- of an A0
 abbrev pub DecodeAZero : ℕ → ℕ → List ℕ → List ℕ → Outcome ℕ → Type 0
-DecodeAZero N x old new o = Gives (aRows aMost valence N x) (λ E. E ≡ aEdges N x) old new o
+DecodeAZero N x old new o = Gives (aRows aSize valence N x) (λ E. E ≡ aEdges N x) old new o
 
 -- ---- in the caller's numbering
 
@@ -39,11 +39,11 @@ Cam N E old new o = Gives (physicalRows size N E) (λ c. c ≡ cam N E) old new 
 
 -- the 0A
 abbrev pub ZeroA : ℕ → List ℕ → Outcome ℕ → Type 0
-ZeroA N E o = Answered (physicalRows zeroMost N E) (λ x. x ≡ zeroA (cam N E)) o
+ZeroA N E o = Answered (physicalRows zeroSize N E) (λ x. x ≡ zeroA (cam N E)) o
 
 -- the A0, of any numbering
 abbrev pub AZero : ℕ → List ℕ → Outcome ℕ → Type 0
-AZero N E o = Answered (edgeRows aMost valence N E 1) (λ x. x ≡ aZero N E) o
+AZero N E o = Answered (edgeRows aSize valence N E 1) (λ x. x ≡ aZero N E) o
 
 -- ---- by code
 
@@ -65,8 +65,8 @@ CamByCode N E old new o = Gives (edgeRows size valence N E 1) (ByCode (cam N) N 
 
 -- the 0A
 abbrev pub ZeroAByCode : ℕ → List ℕ → Outcome ℕ → Type 0
-ZeroAByCode N E o = Answered (edgeRows zeroMost valence N E 1) (ByCode (λ F. zeroA (cam N F)) N E) o
+ZeroAByCode N E o = Answered (edgeRows zeroSize valence N E 1) (ByCode (λ F. zeroA (cam N F)) N E) o
 
 -- the A0
 abbrev pub AZeroByCode : ℕ → List ℕ → Outcome ℕ → Type 0
-AZeroByCode N E o = Answered (edgeRows aMost valence N E 1) (ByCode (aZero N) N E) o
+AZeroByCode N E o = Answered (edgeRows aSize valence N E 1) (ByCode (aZero N) N E) o

@@ -13,7 +13,7 @@ use Rattle.refusal.specs.declared.Number.{Number}
 use Rattle.refusal.specs.Apart.{told-both, numbered-apart}
 use Rattle.refusal.specs.Laws.{one-accepted, one-result}
 use Rattle.refusal.specs.Giving.{one-given, one-clear}
-use Rattle.code.specs.Limits.{valence}
+use Rattle.limits.specs.Limits.{valence}
 use Rattle.code.specs.Code.{decode}
 use Rattle.tree.specs.Skeleton.{IsTree}
 use Rattle.skeleton.specs.Edges.{edgeRows}

@@ -9,7 +9,7 @@ use Rattle.refusal.specs.Outcome.{told}
 use Rattle.refusal.specs.declared.Answer.{Answer}
 use Rattle.refusal.specs.Apart.{told-both}
 use Rattle.refusal.specs.Giving.{one-clear}
-use Rattle.code.specs.Limits.{size, valence}
+use Rattle.limits.specs.Limits.{size, valence}
 use Rattle.skeleton.specs.Edges.{edgeRows}
 use Rattle.form.specs.Form.{centred}
 use Rattle.form.specs.Forms.{centred-form}
@@ -25,14 +25,14 @@ use Rattle.zurkhovel.specs.Alike.{EqualVertices}
 use Rattle.zurkhovel.specs.Accepted.{tree-of}
 
 pub one-read-line : (t old new new′ : List ℕ) (r s : Answer) → ReadLine t old new (told r) → ReadLine t old new′ (told s) → (r ≡ s) × (new ≡ new′)
-one-read-line t old new new′ r s a b = told-both r s (Lines.one-line size digitTable t old new new′ (told r) (told s) a b)
+one-read-line t old new new′ r s a b = told-both r s (Lines.one-line size (digitTable valence) t old new new′ (told r) (told s) a b)
 
 pub one-read-text :
     (t rec num pla rec₁ num₁ pla₁ rec₂ num₂ pla₂ : List ℕ) (r s : Progress)
     → ReadText t rec num pla rec₁ num₁ pla₁ (r .lines) (r .at) → ReadText t rec num pla rec₂ num₂ pla₂ (s .lines) (s .at)
     → (r ≡ s) × (rec₁ ≡ rec₂) × (num₁ ≡ num₂) × (pla₁ ≡ pla₂)
 one-read-text t rec num pla rec₁ num₁ pla₁ rec₂ num₂ pla₂ r s a b =
-    let (k, at, e, f, g) = Lines.one-text size digitTable size t rec num pla rec₁ num₁ pla₁ rec₂ num₂ pla₂ (r .lines) (r .at) (s .lines) (s .at) a b in
+    let (k, at, e, f, g) = Lines.one-text size (digitTable valence) size t rec num pla rec₁ num₁ pla₁ rec₂ num₂ pla₂ (r .lines) (r .at) (s .lines) (s .at) a b in
     (ap₂ (λ (i j : ℕ). record { lines = i; at = j }) k at, e, f, g)
 
 pub one-count : (numbers : List ℕ) (r s : Counts) → Counted numbers (r .read) (r .refused) → Counted numbers (s .read) (s .refused) → r ≡ s
@@ -41,7 +41,7 @@ one-count numbers r s a b =
     ap₂ (λ (i j : ℕ). record { read = i; refused = j }) e (omega (arith, a .others, b .others))
 
 pub one-list : (t old new new′ : List ℕ) (from n m : ℕ) → ListText t old new from n → ListText t old new′ from m → (n ≡ m) × (new ≡ new′)
-one-list t old new new′ from n m a b = Answers.one-piece size digitTable t old new new′ from n m a b
+one-list t old new new′ from n m a b = Answers.one-piece size (digitTable valence) t old new new′ from n m a b
 
 -- what Of has it to be of the centred code is one, where it is of any code and the list is accepted
 one-derived :

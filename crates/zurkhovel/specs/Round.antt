@@ -12,7 +12,7 @@ use lib.ListN.{length, take}
 use Rattle.laws.specs.Laying.{laid-front}
 use Rattle.refusal.specs.Table.{Row, Clear, Outcome, gives, Gives}
 use Rattle.refusal.specs.Giving.{Given, gave, must-give}
-use Rattle.code.specs.Limits.{size, valence}
+use Rattle.limits.specs.Limits.{size, valence}
 use Rattle.code.specs.Code.{codeRows, decode}
 use Rattle.code.specs.Right.{clear-right, right-clear}
 use Rattle.tree.specs.Skeleton.{IsTree, IsSkeleton, Renumbering, rooted}

@@ -14,9 +14,8 @@ use lib.Ieee.{Float, binary64, fits}
 use Rattle.refusal.specs.Table.{Row, Clear, Outcome, gives, Gives, row3}
 use Rattle.refusal.specs.Laws.{clear-one, clear-both, never, others, at-most, at-least, size-clear}
 use Rattle.refusal.specs.Giving.{Given, gave, gave-value, must-give, must-answer}
-use Rattle.code.specs.Limits.{size, valence}
+use Rattle.limits.specs.Limits.{size, valence, packedBytes, wholeSize, fractionSize}
 use Rattle.code.specs.Code.{digitRows, codeRows, decode}
-use Rattle.bits.specs.Limits.{packedBytes, wholeSize, fractionSize}
 use Rattle.bits.specs.Bits.{word, Nothing, Reads, row4}
 use Rattle.bits.specs.Ends.{end-sum, right-ends}
 use Rattle.bits.specs.Laws.{length-bits}

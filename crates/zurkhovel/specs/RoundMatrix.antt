@@ -13,14 +13,14 @@ use lib.ListN.{length, take}
 use Rattle.refusal.specs.Table.{Row, Clear, Outcome, gives, Gives}
 use Rattle.refusal.specs.Laws.{clear-one, clear-both, clear-left, clear-right, never}
 use Rattle.refusal.specs.Giving.{Given, gave, gave-value, must-give, must-answer}
-use Rattle.code.specs.Limits.{size, valence}
+use Rattle.limits.specs.Limits.{size, valence, zeroSize, aSize}
 use Rattle.code.specs.Right.{Right}
 use Rattle.tree.specs.Skeleton.{arcs, IsTree, IsSkeleton, Renumbering}
 use Rattle.skeleton.specs.Edges.{edgeRows}
 use Rattle.form.specs.Form.{centred}
 use Rattle.form.specs.Forms.{centred-form, form-size, form-decoded}
 use Rattle.form.specs.Accepted.{right-decoded, form-passes, form-exactly}
-use Rattle.adjacency.specs.Adjacency.{OneLower, lower, Physical, row14, cam, camEdges, zeroA, zeroCam, aZero, zeroMost, aMost}
+use Rattle.adjacency.specs.Adjacency.{OneLower, lower, Physical, row14, cam, camEdges, zeroA, zeroCam, aZero}
 use Rattle.adjacency.specs.Theorems.{cam-decode, cam-read, zero-decode, zero-read, cam-code, zero-code, a-decode, a-read, a-code}
 use Rattle.adjacency.specs.ByCode.{code-physical}
 use Rattle.zurkhovel.specs.Accepted.{skeleton-of, plain-rows}
@@ -55,13 +55,13 @@ cam-again N c old new m old′ new′ o d h g =
 pub zero-a-again : (N x : ℕ) (old new : List ℕ) (m : ℕ) (o : Outcome ℕ) → DecodeZeroA N x old new (gives m) → ZeroA N (take m new) o → o ≡ gives x
 zero-a-again N x old new m o d g =
     let (k, e, _) = gave d in
-    let (s, p, z) = zero-code zeroMost valence N x k in
-    must-answer (physical-exactly zeroMost N (camEdges (zeroCam N x)) .1 (s, p)) x (sym z) (λ b y. y ∙ z) (subst (λ F. ZeroA N F o) e g)
+    let (s, p, z) = zero-code zeroSize valence N x k in
+    must-answer (physical-exactly zeroSize N (camEdges (zeroCam N x)) .1 (s, p)) x (sym z) (λ b y. y ∙ z) (subst (λ F. ZeroA N F o) e g)
 
 pub a-zero-again : (N x : ℕ) (old new : List ℕ) (m : ℕ) (o : Outcome ℕ) → DecodeAZero N x old new (gives m) → AZero N (take m new) o → o ≡ gives x
 a-zero-again N x old new m o d g =
     let (k, e, _) = gave d in
-    let (s, z) = a-code aMost valence N x k in
+    let (s, z) = a-code aSize valence N x k in
     must-answer (plain-rows s) x (sym z) (λ b y. y ∙ z) (subst (λ F. AZero N F o) e g)
 
 -- ---- coded and decoded
@@ -83,16 +83,16 @@ module _ (N : ℕ) (E : List ℕ) {old new : List ℕ} {o : Outcome ℕ} (h : le
       let k = cam-read size valence N E s p in
       same-arcs (s .tree) (cam-code size valence N (cam N E) k .0 .tree) (cam-decode size valence N E s p) k h g
 
-  from-zero : IsSkeleton zeroMost valence N E → Physical N E → DecodeZeroA N (zeroA (cam N E)) old new o → Kept E new o
+  from-zero : IsSkeleton zeroSize valence N E → Physical N E → DecodeZeroA N (zeroA (cam N E)) old new o → Kept E new o
   from-zero s p g =
-      let k = zero-read zeroMost valence N E s p in
-      same-arcs (s .tree) (zero-code zeroMost valence N (zeroA (cam N E)) k .0 .tree)
-      (rw (zero-decode zeroMost valence N E s p) (cam-decode zeroMost valence N E s p)) k h g
+      let k = zero-read zeroSize valence N E s p in
+      same-arcs (s .tree) (zero-code zeroSize valence N (zeroA (cam N E)) k .0 .tree)
+      (rw (zero-decode zeroSize valence N E s p) (cam-decode zeroSize valence N E s p)) k h g
 
-  from-a : IsSkeleton aMost valence N E → DecodeAZero N (aZero N E) old new o → Kept E new o
+  from-a : IsSkeleton aSize valence N E → DecodeAZero N (aZero N E) old new o → Kept E new o
   from-a s g =
-      let k = a-read aMost valence N E s in
-      same-arcs (s .tree) (a-code aMost valence N (aZero N E) k .0 .tree) (a-decode aMost valence N E s) k h g
+      let k = a-read aSize valence N E s in
+      same-arcs (s .tree) (a-code aSize valence N (aZero N E) k .0 .tree) (a-decode aSize valence N E s) k h g
 
 pub cam-back :
     (N : ℕ) (E old new : List ℕ) (n : ℕ) (old′ new′ : List ℕ) (o : Outcome ℕ) → Cam N E old new (gives n) → length E ≤ length old′
@@ -107,7 +107,7 @@ pub zero-a-back :
     → Kept E new o
 zero-a-back N E x old new o c h g =
     let (k, e) = gave-value c in
-    let (s, p) = physical-exactly zeroMost N E .0 k in
+    let (s, p) = physical-exactly zeroSize N E .0 k in
     from-zero N E h s p (subst (λ y. DecodeZeroA N y old new o) e g)
 
 pub a-zero-back :

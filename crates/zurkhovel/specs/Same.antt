@@ -7,7 +7,7 @@ use mathlib.Core.Bool.{Bool, true, false}
 use mathlib.Core.List.{List, _++_}
 use Prim.Native.Nat.{ℕ}
 use Rattle.refusal.specs.Table.{RowOf, Row, ofList, OutcomeOf, gives, refuses, Answered}
-use Rattle.code.specs.Limits.{size, valence}
+use Rattle.limits.specs.Limits.{size, valence}
 use Rattle.skeleton.specs.Edges.{edgeRows}
 use Rattle.form.specs.Form.{centred}
 use Rattle.zurkhovel.specs.declared.codes.Verdict.{Verdict}

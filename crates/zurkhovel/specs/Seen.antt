@@ -13,7 +13,7 @@ use Rattle.laws.specs.Laid.{laidOver, laid-length}
 use Rattle.laws.specs.Laying.{laid-front}
 use Rattle.refusal.specs.Table.{Row, Applies, gives, refuses, kept, left}
 use Rattle.refusal.specs.Laws.{applied}
-use Rattle.code.specs.Limits.{size}
+use Rattle.limits.specs.Limits.{size, valence}
 use Rattle.lines.specs.Line.{Free, lineRows, LineAnswers, TextAnswers, Reply}
 use Rattle.lines.specs.Judged.{digitTable}
 use Rattle.lines.specs.Damage.{records, refusals}
@@ -108,11 +108,11 @@ above-zero : (rs : List Row) (k p : ℕ) → AboveZero rs → Applies rs k p →
 above-zero (r ∷ rs) k p h (inl a) = omega (arith, a .0, h .0)
 above-zero (r ∷ rs) k p h (inr a) = above-zero rs k p (h .1) a
 
-line-none-zero : (os : List Reply) {t : List ℕ} {o : Reply} → LineAnswers size digitTable t o → NoneZero os → NoneZero (o ∷ os)
+line-none-zero : (os : List Reply) {t : List ℕ} {o : Reply} → LineAnswers size (digitTable valence) t o → NoneZero os → NoneZero (o ∷ os)
 line-none-zero os (kept c r) n = n
-line-none-zero os {t} (left {k} {p} l e) n = (above-zero (lineRows size digitTable t) k p (search needs) (applied l), n)
+line-none-zero os {t} (left {k} {p} l e) n = (above-zero (lineRows size (digitTable valence) t) k p (search needs) (applied l), n)
 
-pub taken-none-zero : {t rest : List ℕ} {os : List Reply} → Taken size digitTable t os rest → NoneZero os
+pub taken-none-zero : {t rest : List ℕ} {os : List Reply} → Taken size (digitTable valence) t os rest → NoneZero os
 taken-none-zero none = tt
 taken-none-zero (unfinished l f a) = line-none-zero [] a tt
 taken-none-zero (next {os = os} c a h) = line-none-zero os a (taken-none-zero h)
@@ -129,7 +129,7 @@ pub record Shows (os : List Reply) (ns ps bs : List ℕ) : Type 0 where
 -- what is seen of the text u, to its end
 pub record Seen (u ns ps bs : List ℕ) : Type 0 where
   pub answers : List Reply
-  pub taken : Taken size digitTable u answers []
+  pub taken : Taken size (digitTable valence) u answers []
   pub shows : Shows answers ns ps bs
 
 shows-join :
@@ -158,7 +158,7 @@ turn-shows {rec = rec} {num} {pla} {rec′} {num′} {pla′} {k} g =
     let os = g .read .answers in
     let e = laid-front (numbersOf os) num num′ k (g .read .numbers) (length-map os _ ∙ sym n) in
     let f = laid-front (placesOf os) pla pla′ k (g .read .places) (length-map os _ ∙ sym n) in
-    let fit : AllFit 64 os = taken-fit size digitTable (omega arith) t in
+    let fit : AllFit 64 os = taken-fit size (digitTable valence) (omega arith) t in
     record {
       numbers = e;
       places = f;
@@ -173,12 +173,12 @@ seen (turn g r) =
     let s = seen r in
     record {
       answers = g .read .answers ++ s .answers;
-      taken = taken-join size digitTable (g .read .taken) (s .taken);
+      taken = taken-join size (digitTable valence) (g .read .taken) (s .taken);
       shows = shows-join (turn-shows g) (s .shows);
     }
 
-pub answered : {u ns ps bs : List ℕ} (s : Seen u ns ps bs) → TextAnswers size digitTable u (s .answers)
-answered s = taken-all size digitTable (s .taken) refl
+pub answered : {u ns ps bs : List ℕ} (s : Seen u ns ps bs) → TextAnswers size (digitTable valence) u (s .answers)
+answered s = taken-all size (digitTable valence) (s .taken) refl
 
 -- ---- how many lines a text has
 
@@ -200,16 +200,16 @@ lines-cut [] [] f = refl
 lines-cut [] (c ∷ rest) f = omega (arith, if-pos {C = ℕ} (ℕ-discrete 10 10) refl 1 0)
 lines-cut (a ∷ b) rest f = lines-on a (b ++ (10 ∷ rest)) (f .0) (simp length-append (omega arith)) ∙ lines-cut b rest (f .1)
 
-pub lines-taken : {t rest : List ℕ} {os : List Reply} → Taken size digitTable t os rest → linesIn t ≡ length os + linesIn rest
+pub lines-taken : {t rest : List ℕ} {os : List Reply} → Taken size (digitTable valence) t os rest → linesIn t ≡ length os + linesIn rest
 unfolding linesIn
 lines-taken none = omega arith
 lines-taken (unfinished {t} l f a) = lines-free t l f
 lines-taken (next {b = b} {rest = rest} c a h) = rw (c .parts) (omega (arith, lines-cut b rest (c .free), lines-taken h))
 
 -- as many as there are answers
-pub lines-answered : {t : List ℕ} {os : List Reply} → TextAnswers size digitTable t os → length os ≡ linesIn t
+pub lines-answered : {t : List ℕ} {os : List Reply} → TextAnswers size (digitTable valence) t os → length os ≡ linesIn t
 unfolding linesIn
-lines-answered h = omega (arith, lines-taken (all-taken size digitTable h))
+lines-answered h = omega (arith, lines-taken (all-taken size (digitTable valence) h))
 
 pub lines-some : (t : List ℕ) → 1 ≤ length t → 1 ≤ linesIn t
 unfolding linesIn

@@ -6,7 +6,8 @@ use Rattle.refusal.specs.Table.{Row, Clear, Answers, passes, fails, row3}
 use Rattle.refusal.specs.declared.Check.the-variants.{Passed}
 use mathlib.Core.List.{[], _∷_}
 use Rattle.refusal.specs.Laws.{was-clear, stops, goes-on, clear-one, first-place, at-least, at-most, then-refused, then-passed}
-use Rattle.adjacency.specs.Adjacency.{aMost, row4}
+use Rattle.adjacency.specs.Adjacency.{row4}
+use Rattle.limits.specs.Limits.{aSize}
 use Rattle.adjacency.proofs.Summing.{rows-few, shift-one}
 use native.Mathlib.Omega.{arith}
 use borrow.Author.Needs.{needs}
@@ -18,7 +19,7 @@ abbrev top : ℕ → ℕ → Row
 top n x = row4 (2 ^ (n * (n - 1) / 2)) x
 
 -- 3 does not apply
-clear : (c : tie.After-enum-told) → Clear (row3 aMost (c .before .before .before .args .n) ∷ [])
+clear : (c : tie.After-enum-told) → Clear (row3 aSize (c .before .before .before .args .n) ∷ [])
 clear c = was-clear (c .before .before .sized .ensures) (c .enum-told .given .1)
 
 few : (c : tie.After-enum-told) → let n = c .before .before .before .args .n in n * (n - 1) ≤ 110
@@ -27,7 +28,7 @@ few c = rows-few (at-most (clear c))
 whole : (c : tie.After-enum-told) → let n = c .before .before .before .args .n in (1 * 2 ^ (n * (n - 1) / 2)) % 2 ^ 64 ≡ 2 ^ (n * (n - 1) / 2)
 whole c = let n = c .before .before .before .args .n in shift-one (let k : n * (n - 1) / 2 < 64 = omega (arith, few c) in k)
 
-in-range : (c : tie.Else1) → let a = c .before .before .before .before .args in Answers (row3 aMost (a .n) ∷ top (a .n) (a .x) ∷ []) Passed
+in-range : (c : tie.Else1) → let a = c .before .before .before .before .args in Answers (row3 aSize (a .n) ∷ top (a .n) (a .x) ∷ []) Passed
 in-range c =
     let s = c .before in
     let a = s .before .before .before .args in

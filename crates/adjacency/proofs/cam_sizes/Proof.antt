@@ -4,7 +4,7 @@ use mathlib.Core.List.{[], _∷_}
 use native.Mathlib.Omega.{arith}
 use Rattle.refusal.specs.Table.{Clear, row3}
 use Rattle.refusal.specs.Laws.{was-clear, stops, at-least, then-refused, then-passed}
-use Rattle.code.specs.Limits.{size}
+use Rattle.limits.specs.Limits.{size}
 use Rattle.adjacency.specs.Adjacency.{row5-cam}
 use borrow.Author.Needs.{needs}
 use Rattle.adjacency.proofs.cam_sizes.Statement.{statement}

@@ -5,13 +5,14 @@ use Prim.Native.Nat.{_-_}
 use native.Mathlib.Omega.{arith}
 use Rattle.refusal.specs.Table.{Clear, row3}
 use Rattle.refusal.specs.Laws.{was-clear, stops, at-least, at-most, then-refused, then-passed}
-use Rattle.adjacency.specs.Adjacency.{row4, factorial, zeroMost}
+use Rattle.adjacency.specs.Adjacency.{row4, factorial}
+use Rattle.limits.specs.Limits.{zeroSize}
 use borrow.Author.Needs.{needs}
 use Rattle.adjacency.proofs.zero_sizes.Statement.{statement}
 use Rattle.adjacency.proofs.zero_sizes.Tie as tie
 
 -- 3 does not apply
-clear : (c : tie.After-enum-told) → Clear (row3 zeroMost (c .before .before .before .args .n) ∷ [])
+clear : (c : tie.After-enum-told) → Clear (row3 zeroSize (c .before .before .before .args .n) ∷ [])
 clear c = was-clear (c .before .before .sized .ensures) (c .enum-told .given .1)
 
 pub zero-sizes-spec : {M : Type 1} → statement M

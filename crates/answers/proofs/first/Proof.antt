@@ -1,7 +1,7 @@
--- `answers::first` meets its contract: 64 bytes are room enough. Assumes nothing.
+-- `answers::first` meets its contract: `size` bytes are room enough. Assumes nothing.
 use native.Mathlib.Omega.{arith}
 use borrow.Author.Needs.{needs}
-use Rattle.code.specs.Limits.{size}
+use Rattle.limits.specs.Limits.{size}
 use Rattle.lines.specs.Judged.{digitTable}
 use Rattle.lines.specs.Taking.{line-read}
 use Rattle.answers.proofs.first.Statement.{statement}
@@ -9,7 +9,7 @@ use Rattle.answers.proofs.first.Tie as tie
 
 returns : tie.Need-returns
 returns c =
-    let r = line-read size digitTable (omega arith) (c .before .read-line .ensures) in
+    let r = line-read size (digitTable (c .before .before .args .limit)) (omega arith) (c .before .read-line .ensures) in
     record { answer = r .answer; line = r .line; tells = r .told }
 
 pub first-spec : {M : Type 1} → statement M

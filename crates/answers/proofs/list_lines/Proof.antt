@@ -11,10 +11,10 @@ use Rattle.answers.proofs.list_lines.Statement.{statement}
 use Rattle.answers.proofs.list_lines.Tie as tie
 
 abbrev Inv-loop : tie.InvT-loop
-Inv-loop text from out₀ w₀ at₀ line₀ read₀ out w at line read = Going text from out₀ out (w .skip) (w .done) at line read
+Inv-loop limit text from out₀ w₀ at₀ line₀ read₀ out w at line read = Going limit text from out₀ out (w .skip) (w .done) at line read
 
 abbrev μ-loop : tie.MeasureT-loop
-μ-loop text from out₀ w₀ at₀ line₀ read₀ out w at line read = length text - at
+μ-loop limit text from out₀ w₀ at₀ line₀ read₀ out w at line read = length text - at
 
 add-read : tie.Need-add-read Inv-loop μ-loop
 add-read c =
@@ -39,7 +39,7 @@ returns : tie.Need-returns Inv-loop μ-loop
 returns c =
     let t = c .before .before in
     let l = t .before .before in
-    going-all (l .before .loop .inv) (l .before .before .before .before .pre) (l .loop-test .left) (t .totals .ensures)
+    going-all (l .before .loop .inv) (l .before .before .before .before .pre .0) (l .loop-test .left) (t .totals .ensures)
 
 pub list-lines-spec : {M : Type 1} → statement M
 list-lines-spec =
@@ -47,7 +47,7 @@ list-lines-spec =
     (tie.spec
     Inv-loop
     μ-loop
-    (λ c. going-none _ _ _)
+    (λ c. going-none _ _ _ _)
     (λ c. search needs)
     (λ c. search needs)
     (λ c. search needs)

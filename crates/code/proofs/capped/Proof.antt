@@ -6,16 +6,15 @@ use borrow.Author.Needs.{needs}
 use lib.ListN.{length}
 use Rattle.refusal.specs.Table.{passes, fails}
 use Rattle.refusal.specs.Laws.{clear-one, first-place}
-use Rattle.code.specs.Limits.{valence}
 use Rattle.code.specs.Code.{row10}
 use Rattle.code.proofs.capped.Statement.{statement}
 use Rattle.code.proofs.capped.Tie as tie
 
 abbrev Inv-loop : tie.InvT-loop
-Inv-loop code p₀ p = (1 ≤ p) × ((p ≤ length code + 1) × ((q : ℕ) → q < p → row10 valence code .applies q → ⊥))
+Inv-loop limit code p₀ p = (1 ≤ p) × ((p ≤ length code + 1) × ((q : ℕ) → q < p → row10 limit code .applies q → ⊥))
 
 abbrev μ-loop : tie.MeasureT-loop
-μ-loop code p₀ p = length code + 1 - p
+μ-loop limit code p₀ p = length code + 1 - p
 
 pub capped-spec : {M : Type 1} → statement M
 capped-spec =

@@ -4,9 +4,7 @@ use Prim.Native.Nat.{_-_}
 use native.Mathlib.Omega.{arith}
 use denote.Ref.{now}
 use lib.ListN.{length, length-set}
-use Rattle.code.specs.Limits.{size, valence}
-use Rattle.code.specs.Right.{Right, clear-right}
-use Rattle.code.proofs.Writing.{Decoding, Turn, turn, digit-most, decoding-first, decoding-next, decoded, decoding-length}
+use Rattle.code.proofs.Writing.{Decoding, Turn, turn, some-digit, first-few, decoding-first, decoding-next, decoded, decoding-length}
 use Rattle.code.proofs.write_edges.Statement.{statement}
 use Rattle.code.proofs.write_edges.Tie as tie
 
@@ -16,15 +14,12 @@ Inv-loop code out₀ places₀ t₀ at₀ i₀ out places t at i = Decoding code
 abbrev μ-loop : tie.MeasureT-loop
 μ-loop code out₀ places₀ t₀ at₀ i₀ out places t at i = length code - i
 
-right : (c : tie.Start Inv-loop μ-loop) → Right size valence (now (c .args .code))
-right c = clear-right size valence (now (c .args .code)) (c .pre .0)
-
 abbrev start : tie.In-loop Inv-loop μ-loop → tie.Start Inv-loop μ-loop
 start c = c .before .before .before .before .before .before .before .before
 
 here : (c : tie.In-loop Inv-loop μ-loop) →
     Turn (now (start c .args .code)) (now (start c .args .out)) (c .before .loop .out) (c .before .loop .places) (c .before .loop .t) (c .before .loop .at) (c .before .loop .i)
-here c = turn (right (start c)) (start c .pre .1) (c .before .loop .inv) (omega arith)
+here c = turn (start c .pre .1 .0) (start c .pre .1 .1) (c .before .loop .inv) (omega arith)
 
 pub write-edges-spec : {M : Type 1} → statement M
 write-edges-spec =
@@ -33,9 +28,9 @@ write-edges-spec =
     Inv-loop
     μ-loop
     (λ c. refl)
-    (λ c. right (c .before .before .before .before) .some)
-    (λ c κs. omega (arith, digit-most (right (c .before .before .before .before)) 0 (right (c .before .before .before .before) .some)))
-    (λ c. decoding-first (right (c .before .before .before .before .before .before)) refl (c .before .push .ensures))
+    (λ c. some-digit (now (c .before .before .before .before .args .code)) (c .before .before .before .before .pre .0))
+    (λ c κs. omega (arith, first-few (now (c .before .before .before .before .args .code)) (c .before .before .before .before .pre .0)))
+    (λ c. decoding-first _ (c .before .before .before .before .before .before .pre .0) refl (c .before .push .ensures))
     (λ c. here c .one-open)
     (λ c. here c .in-places)
     (λ c. omega (arith, here c))
@@ -49,6 +44,6 @@ write-edges-spec =
     (λ c. omega (arith, here (c .before .before .before .before)))
     (λ c. omega (arith, here (c .before .before .before .before)))
     (λ c. omega arith)
-    (λ c. let s = c .before .before .before .before in decoding-next (right (start s)) (start s .pre .1) (s .before .loop .inv) (omega arith) (c .before .push2 .ensures))
-    (λ c. decoding-length (c .before .before .before .before .before .before .before .before .pre .1) (c .before .loop .inv))
+    (λ c. let s = c .before .before .before .before in decoding-next (start s .pre .1 .0) (start s .pre .1 .1) (s .before .loop .inv) (omega arith) (c .before .push2 .ensures))
+    (λ c. decoding-length (c .before .before .before .before .before .before .before .before .pre .1 .1) (c .before .loop .inv))
     (λ c. decoded (c .before .loop .inv) (omega arith)))

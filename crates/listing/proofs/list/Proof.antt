@@ -5,7 +5,7 @@ use native.Mathlib.Omega.{arith}
 use borrow.Author.Needs.{needs}
 use lib.ListN.{length}
 use lib.Seq.{length-take-le}
-use Rattle.code.specs.Limits.{size}
+use Rattle.limits.specs.Limits.{size, valence}
 use Rattle.lines.specs.Judged.{digitTable}
 use Rattle.answers.specs.Theorems.{piece-within}
 use Rattle.listing.proofs.list.Statement.{statement}
@@ -21,7 +21,7 @@ same : (c : tie.After-list Inv-loop μ-loop) → length (c .list .last .1 .1 .0)
 same c = c .list .kept .1 .1 .0 ∙ c .before .before .before .loop .inv
 
 within : (c : tie.After-list Inv-loop μ-loop) → c .list .result ≤ 65536
-within c = omega (arith, piece-within size digitTable (c .list .ensures), c .before .before .before .loop .inv)
+within c = omega (arith, piece-within size (digitTable valence) (c .list .ensures), c .before .before .before .loop .inv)
 
 pub list-spec : {M : Type 1} → statement M
 list-spec =

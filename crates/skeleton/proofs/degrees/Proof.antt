@@ -8,17 +8,16 @@ use borrow.Author.Count.{below-more}
 use lib.ListN.{length, getD}
 use Rattle.refusal.specs.Laws.{clear-one, first-place}
 use Rattle.refusal.specs.Table.{passes, fails}
-use Rattle.code.specs.Limits.{valence}
 use Rattle.skeleton.specs.Edges.{row9}
 use Rattle.skeleton.proofs.Tally.{Tally, tally-none, tally-more, tally-at, bump-small}
 use Rattle.skeleton.proofs.degrees.Statement.{statement}
 use Rattle.skeleton.proofs.degrees.Tie as tie
 
 abbrev Inv-loop : tie.InvT-loop
-Inv-loop edges count₀ m p₀ count p = (1 ≤ p) × (p ≤ length edges / 2 + 1) × Tally edges p count × ((q : ℕ) → q < p → row9 valence edges .applies q → ⊥)
+Inv-loop limit edges count₀ m p₀ count p = (1 ≤ p) × (p ≤ length edges / 2 + 1) × Tally edges p count × ((q : ℕ) → q < p → row9 limit edges .applies q → ⊥)
 
 abbrev μ-loop : tie.MeasureT-loop
-μ-loop edges count₀ m p₀ count p = length edges / 2 + 1 - p
+μ-loop limit edges count₀ m p₀ count p = length edges / 2 + 1 - p
 
 loop-holds : tie.Need-loop-holds Inv-loop μ-loop
 loop-holds c = (omega arith, omega arith, tally-none _, λ q l a. let n : ⊥ = omega (arith, a .0) in n)
@@ -52,8 +51,8 @@ array-read-count c = omega arith
 add-count : tie.Need-add-count Inv-loop μ-loop
 add-count c =
     let o = c .before .before in
-    let l = o .before .before .before .loop in
-    let n : 4 ≤ getD (l .count) (o .before .one .result) 0 → ⊥ = λ k. c .before .full .ensures .wrong (c .if1 .left) (inl k) in
+    let l = o .before .before .before in
+    let n : l .before .before .args .limit ≤ getD (l .loop .count) (o .before .one .result) 0 → ⊥ = λ k. c .before .full .ensures .wrong (c .if1 .left) (inl k) in
     omega arith
 
 array-write-count : tie.Need-array-write-count Inv-loop μ-loop
@@ -65,9 +64,9 @@ array-read-count-2 c = omega arith
 add-count-2 : tie.Need-add-count-2 Inv-loop μ-loop
 add-count-2 c =
     let o = c .before .before in
-    let l = o .before .before .before .loop in
-    let n : 4 ≤ getD (l .count) (o .other .result) 0 → ⊥ = λ k. c .before .full .ensures .wrong (c .if1 .left) (inr k) in
-    omega (arith, bump-small (l .count) (o .before .one .result) (o .other .result) (omega arith))
+    let l = o .before .before .before in
+    let n : l .before .before .args .limit ≤ getD (l .loop .count) (o .other .result) 0 → ⊥ = λ k. c .before .full .ensures .wrong (c .if1 .left) (inr k) in
+    omega (arith, bump-small (l .loop .count) (o .before .one .result) (o .other .result) (omega arith))
 
 array-write-count-2 : tie.Need-array-write-count-2 Inv-loop μ-loop
 array-write-count-2 c = omega arith

@@ -4,10 +4,9 @@ use denote.Ref.{now}
 use borrow.Author.Needs.{needs}
 use Rattle.refusal.specs.Table.{Clear, kept, left}
 use Rattle.refusal.specs.Laws.{was-clear, was-refused}
-use Rattle.code.specs.Limits.{valence}
+use Rattle.limits.specs.Limits.{valence, aSize}
 use Rattle.skeleton.specs.Edges.{edgeRows}
-use Rattle.adjacency.specs.Adjacency.{aMost}
-use Rattle.zurkhovel.specs.Accepted.{skeleton-of}
+use Rattle.zurkhovel.specs.Accepted.{skeleton-of, tabled}
 use Rattle.zurkhovel.proofs.matrix.a_zero.Statement.{statement}
 use Rattle.zurkhovel.proofs.matrix.a_zero.Tie as tie
 
@@ -15,7 +14,7 @@ abbrev start : tie.After-enum-told → tie.Start
 start c = c .before .before .before .before
 
 -- what is known behind the check
-clear : (c : tie.After-enum-told) → Clear (edgeRows aMost valence (start c .args .n) (now (start c .args .edges)) 1)
+clear : (c : tie.After-enum-told) → Clear (edgeRows aSize valence (start c .args .n) (now (start c .args .edges)) 1)
 clear c = was-clear (c .before .before .check .ensures) (c .enum-told .given .1)
 
 pub a-zero-spec : {M : Type 1} → statement M
@@ -26,5 +25,5 @@ a-zero-spec =
     (λ c. search needs)
     (λ c. left (was-refused (c .before .before .before .check .ensures) (c .before .k .given .1)) refl)
     (λ c. search needs)
-    (λ c κs. skeleton-of (clear c))
+    (λ c κs. tabled (skeleton-of (clear c)))
     (λ c. kept (clear (c .before)) (c .a-zero .ensures)))

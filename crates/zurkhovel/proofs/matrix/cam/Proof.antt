@@ -6,7 +6,7 @@ use borrow.Author.Needs.{needs}
 use Rattle.refusal.specs.Table.{Clear}
 use Rattle.refusal.specs.Laws.{was-clear, was-refused, at-least}
 use Rattle.refusal.specs.Giving.{refused-first}
-use Rattle.code.specs.Limits.{size}
+use Rattle.limits.specs.Limits.{size}
 use Rattle.adjacency.specs.Plain.{numbered}
 use Rattle.adjacency.specs.Coded.{cam-length}
 use Rattle.zurkhovel.specs.Matrix.{physicalRows}

@@ -5,8 +5,8 @@ use borrow.Author.Needs.{needs}
 use Rattle.refusal.specs.Table.{Clear}
 use Rattle.refusal.specs.Laws.{was-clear, was-refused, at-least, at-most}
 use Rattle.refusal.specs.Giving.{refused-first}
-use Rattle.code.specs.Limits.{valence}
-use Rattle.adjacency.specs.Adjacency.{aRows, aMost}
+use Rattle.limits.specs.Limits.{valence, aSize}
+use Rattle.adjacency.specs.Adjacency.{aRows}
 use Rattle.zurkhovel.proofs.Made.{a-bytes, known-short, known-given}
 use Rattle.zurkhovel.proofs.matrix.decode_a_zero.Statement.{statement}
 use Rattle.zurkhovel.proofs.matrix.decode_a_zero.Tie as tie
@@ -15,7 +15,7 @@ abbrev start : tie.After-enum-told → tie.Start
 start c = c .before .before .before .before
 
 -- what is known behind the check
-clear : (c : tie.After-enum-told) → Clear (aRows aMost valence (start c .args .n) (start c .args .value))
+clear : (c : tie.After-enum-told) → Clear (aRows aSize valence (start c .args .n) (start c .args .value))
 clear c = was-clear (c .before .before .a-check .ensures) (c .enum-told .given .1)
 
 pub decode-a-zero-spec : {M : Type 1} → statement M

@@ -9,8 +9,8 @@ use Rattle.laws.specs.Laying.{laid-front}
 use Rattle.refusal.specs.Table.{Clear}
 use Rattle.refusal.specs.Laws.{was-clear, was-refused, at-least, at-most}
 use Rattle.refusal.specs.Giving.{refused-first}
-use Rattle.code.specs.Limits.{valence}
-use Rattle.adjacency.specs.Adjacency.{zeroCam, zeroRows, zeroMost}
+use Rattle.limits.specs.Limits.{valence, zeroSize}
+use Rattle.adjacency.specs.Adjacency.{zeroCam, zeroRows}
 use Rattle.adjacency.specs.Zero.{zero-length}
 use Rattle.zurkhovel.proofs.Behind.{behind-same}
 use Rattle.zurkhovel.proofs.matrix.decode_zero_a.Statement.{statement}
@@ -20,17 +20,17 @@ abbrev start : tie.After-enum-told → tie.Start
 start c = c .before .before .before .before
 
 -- what is known behind the check
-clear : (c : tie.After-enum-told) → Clear (zeroRows zeroMost valence (start c .args .n) (start c .args .value))
+clear : (c : tie.After-enum-told) → Clear (zeroRows zeroSize valence (start c .args .n) (start c .args .value))
 clear c = was-clear (c .before .before .zero-check .ensures) (c .enum-told .given .1)
 
 abbrev told : tie.After-zero-cam → tie.After-enum-told
 told c = c .before .before
 
 -- the array holds the CAM
-wide : (c : tie.After-zero-cam) → length (c .zero-cam .last .1 .1 .0) ≡ 20
+wide : (c : tie.After-zero-cam) → length (c .zero-cam .last .1 .1 .0) ≡ zeroSize - 1
 wide c =
     let a = start (told c) .args in
-    ap length (c .zero-cam .ensures) ∙ laid-length (zeroCam (a .n) (a .value)) (replicate {A = ℕ} 20 0) (omega (arith, zero-length (a .n) (a .value), at-most (clear (told c))))
+    ap length (c .zero-cam .ensures) ∙ laid-length (zeroCam (a .n) (a .value)) (replicate {A = ℕ} (zeroSize - 1) 0) (omega (arith, zero-length (a .n) (a .value), at-most (clear (told c))))
 
 held : (c : tie.After-zero-cam) → take (start (told c) .args .n - 1) (c .zero-cam .last .1 .1 .0) ≡ zeroCam (start (told c) .args .n) (start (told c) .args .value)
 held c = let a = start (told c) .args in laid-front (zeroCam (a .n) (a .value)) _ _ (a .n - 1) (c .zero-cam .ensures) (zero-length (a .n) (a .value))

@@ -4,7 +4,7 @@ use denote.Ref.{now}
 use borrow.Author.Needs.{needs}
 use Rattle.refusal.specs.Table.{Clear, kept, left}
 use Rattle.refusal.specs.Laws.{was-clear, was-refused}
-use Rattle.adjacency.specs.Adjacency.{zeroMost}
+use Rattle.limits.specs.Limits.{zeroSize}
 use Rattle.zurkhovel.specs.Matrix.{physicalRows}
 use Rattle.zurkhovel.specs.RoundMatrix.{physical-exactly}
 use Rattle.zurkhovel.proofs.matrix.zero_a.Statement.{statement}
@@ -14,7 +14,7 @@ abbrev start : tie.After-enum-told → tie.Start
 start c = c .before .before .before .before
 
 -- what is known behind the check
-clear : (c : tie.After-enum-told) → Clear (physicalRows zeroMost (start c .args .n) (now (start c .args .edges)))
+clear : (c : tie.After-enum-told) → Clear (physicalRows zeroSize (start c .args .n) (now (start c .args .edges)))
 clear c = was-clear (c .before .before .check .ensures) (c .enum-told .given .1)
 
 pub zero-a-spec : {M : Type 1} → statement M

@@ -5,13 +5,13 @@ use denote.Ref.{now}
 use borrow.Author.Needs.{needs}
 use Rattle.refusal.specs.Table.{kept, left}
 use Rattle.refusal.specs.Laws.{at-least, at-most}
-use Rattle.adjacency.specs.Adjacency.{zeroMost}
+use Rattle.limits.specs.Limits.{zeroSize}
 use Rattle.zurkhovel.specs.Rooting.{ListedByCode}
 use Rattle.zurkhovel.proofs.Numbered.{ends-within, ends-length, ends-skeleton, ends-physical, made-by-code}
 use Rattle.zurkhovel.proofs.matrix.zero_a_by_code.Statement.{statement}
 use Rattle.zurkhovel.proofs.matrix.zero_a_by_code.Tie as tie
 
-known : (c : tie.After-enum-told) → ListedByCode zeroMost (c .before .before .before .before .before .before .args .n) (now (c .before .before .before .before .before .before .args .edges)) (c .before .before .before .by-code .last .1 .1 .1 .0)
+known : (c : tie.After-enum-told) → ListedByCode zeroSize (c .before .before .before .before .before .before .args .n) (now (c .before .before .before .before .before .before .args .edges)) (c .before .before .before .by-code .last .1 .1 .1 .0)
 known c = rw (c .enum-told .given .1) at (c .before .before .before .by-code .ensures)
 
 pub zero-a-by-code-spec : {M : Type 1} → statement M

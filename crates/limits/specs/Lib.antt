@@ -1,0 +1,2 @@
+-- The limits of document 01. Assumes nothing.
+pub mod Limits
