@@ -1,0 +1,3 @@
+-- Laws that more than one proof of this crate cites. Assumes nothing.
+pub mod Comparing
+pub mod Copying

@@ -1,0 +1,120 @@
+// The vertices of a skeleton in the order of its rooted code, written into a buffer by recursion over rooted subtrees, and how many pairs of
+// marks were looked at on the way.
+use limits::SIZE;
+use limits::WIDTH;
+use limits::BYTES;
+ghost use mathlib.Core.Path.{_≡_};
+ghost use mathlib.Core.Bool.{Bool, true, false};
+ghost use mathlib.Core.List.{List, _++_, map, flatten};
+ghost use Prim.Native.Nat.{ℕ, _+_, _-_, _*_, _≤_, _<_};
+ghost use lib.ListN.{length, getD, take, drop};
+ghost use Rattle.laws.specs.Part.{part};
+ghost use Rattle.code.specs.Code.{sum};
+ghost use Rattle.code.specs.Limits.{size, valence};
+ghost use Rattle.ordering.specs.Ordered.{marked, markOf, row, cell, kids, ordered, compared, Rows, Stands, Heads, Stand, Standing, Spot, met, Exchanged, Waits, Waiting, Settles, endOf, Arranges, Hangs};
+
+// The answer of a comparison, and how many pairs were looked at.
+struct Compared {
+    less: bool,
+    looked: usize,
+}
+
+// A place in the buffer, and how many pairs were looked at to find it.
+struct Sought {
+    at: usize,
+    looked: usize,
+}
+
+fn wide(x: u8) -> usize
+    ensures { λ r. ⌜ (r ≡ x) × (r < 256) ⌝ }
+{
+    x as usize
+}
+
+fn mark(marks: &[u8; BYTES], v: u8) -> u8
+    ensures { λ r. ⌜ r ≡ markOf (now (marks .entry)) v ⌝ }
+{
+    marks[v as usize]
+}
+
+// Compares two parts by their marks, up to the first pair that differs.
+fn compare(marks: &[u8; BYTES], a: &[u8], b: &[u8]) -> Compared
+    ensures { λ r. ⌜ Stands (marked (now (marks .entry)) (now (a .entry))) (marked (now (marks .entry)) (now (b .entry))) (r .less) (r .looked) ⌝ }
+{
+    let mut i = 0;
+    while i < a.len() {
+        if b.len() <= i {
+            return Compared { less: false, looked: i };
+        }
+        let x = mark(marks, a[i]);
+        let y = mark(marks, b[i]);
+        if x < y {
+            return Compared { less: true, looked: i + 1 };
+        }
+        if y < x {
+            return Compared { less: false, looked: i + 1 };
+        }
+        i += 1;
+    }
+    if i < b.len() {
+        return Compared { less: true, looked: i };
+    }
+    Compared { less: false, looked: i }
+}
+
+// Copies the part of `src` from `a` up to `e` into `dst`, at `at`.
+fn transfer(src: &[u8], a: usize, e: usize, dst: &mut [u8], at: usize)
+    requires { ⌜ (a ≤ e) × (e ≤ length (now src)) × (at + (e - a) ≤ length (now dst)) ⌝ }
+    ensures { λ _. ⌜ now (dst .exit) ≡ take at (now (dst .entry)) ++ (part a e (now (src .entry)) ++ drop (at + (e - a)) (now (dst .entry))) ⌝ }
+{
+    let to = at + (e - a);
+    bytes::copy(&src[a..e], &mut dst[at..to]);
+}
+
+// Exchanges two neighbours, the part from `a` up to `m` and the part from `m` up to `b`, by way of another buffer.
+fn turned(s: &mut [u8], held: &mut [u8], a: usize, m: usize, b: usize)
+    requires { ⌜ (a ≤ m) × (m ≤ b) × (b ≤ length (now s)) × (b ≤ length (now held)) ⌝ }
+    ensures { λ _. ⌜ Exchanged (now (s .entry)) a m b (now (s .exit)) ⌝ }
+{
+    let n = m - a;
+    let e = b - a;
+    transfer(s, a, b, held, 0);
+    transfer(held, n, e, s, a);
+    transfer(held, 0, n, s, a + (b - m));
+}
+
+// The same, by way of a buffer of its own.
+fn exchange(s: &mut [u8], a: usize, m: usize, b: usize)
+    requires { ⌜ (a ≤ m) × (m ≤ b) × (b ≤ length (now s)) × (b ≤ size) ⌝ }
+    ensures { λ _. ⌜ Exchanged (now (s .entry)) a m b (now (s .exit)) ⌝ }
+{
+    let mut held = [0u8; SIZE];
+    turned(s, &mut held, a, m, b);
+}
+
+// Where the part from `m` up to `b` belongs among the parts from `f` up to `m`: before the first that is smaller. It is compared with each of
+// them. `lens` has the length of each where it begins.
+fn seek(marks: &[u8; BYTES], s: &[u8], lens: &[u8], f: usize, m: usize, b: usize) -> Sought
+    requires { ⌜ Standing (now s) (now lens) f m ⌝ }
+    requires { ⌜ (m ≤ b) × (b ≤ length (now s)) × (m ≤ length (now lens)) ⌝ }
+    ensures { λ r. ⌜ (r .at ≤ m) × (r .looked + f ≤ m) ⌝ }
+    ensures { λ r. ⌜ ((p q : List ℕ) (L : List (List ℕ)) → Stand (now (s .entry)) (now (lens .entry)) f m p L q
+        → Spot (marked (now (marks .entry))) f L (part m b (now (s .entry))) (r .at)
+        × (r .looked ≡ met (marked (now (marks .entry))) (part m b (now (s .entry))) L)) ⌝ }
+{
+    let mut x = f;
+    let mut at = m;
+    let mut looked = 0;
+    while x < m {
+        let a = x;
+        x += wide(lens[a]);
+        let c = compare(marks, &s[a..x], &s[m..b]);
+        looked += c.looked;
+        if c.less {
+            if at == m {
+                at = a;
+            }
+        }
+    }
+    Sought { at: at, looked: looked }
+}
