@@ -20,6 +20,11 @@ unfoldable pub sortBy : (List ℕ → List ℕ) → List (List ℕ) → List (Li
 sortBy f [] = []
 sortBy f (c ∷ cs) = insertBy f c (sortBy f cs)
 
+-- c put before the first of ds whose key is smaller than its own
+unfoldable pub place : (List ℕ → List ℕ) → List ℕ → List (List ℕ) → List (List ℕ)
+place f c [] = c ∷ []
+place f c (d ∷ ds) = ite (dec≽ (f d) (f c)) (d ∷ place f c ds) (c ∷ d ∷ ds)
+
 -- how many pairs are looked at when two lists are compared: up to and including the first difference, or to the end of the shorter
 unfoldable pub looked : List ℕ → List ℕ → ℕ
 looked [] ys = 0

@@ -16,7 +16,7 @@ use Rattle.tree.specs.Label.{Marks, joinₗ, codeₗ, rootedₗ, digits,
 abbrev pub base : Marks
 base = record { Label = Unit {0}; mark = λ k a. k; arity = λ m. m; atom = λ m. tt; arity-mark = λ k a. refl; atom-mark = λ k a. refl }
 
-code-base : (l : ℕ → Unit {0}) (n : ℕ) (A : List Arc) (p v : ℕ) → codeₗ base l n A p v ≡ codeAt n A p v
+pub code-base : (l : ℕ → Unit {0}) (n : ℕ) (A : List Arc) (p v : ℕ) → codeₗ base l n A p v ≡ codeAt n A p v
 unfolding codeₗ codeAt join joinₗ
 code-base l zero A p v = refl
 code-base l (suc n) A p v = λ i. join (map (λ w. code-base l n A v w i) (children A p v))

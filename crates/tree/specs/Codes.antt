@@ -43,7 +43,7 @@ pub neighbours-perm : {A B : List Arc} (v : ℕ) → List·Permᴰ A B → List�
 unfolding neighbours
 neighbours-perm v π = Permᴰ·map (λ (a : Arc). a .1) (Permᴰ·filter (λ (e : Arc). ℕ-discrete (e .0) v) π)
 
-neighbours-none : (v : ℕ) → neighbours [] v ≡ []
+pub neighbours-none : (v : ℕ) → neighbours [] v ≡ []
 unfolding neighbours
 neighbours-none v = refl
 
@@ -72,7 +72,7 @@ near p (tree u d f) m = cc (
 )
 
 -- the neighbours of a vertex of a forest: its parent and its children
-full : (p v : ℕ) (d f : Forest) (rest : List Arc) → (v ≡ p → ⊥) → (List·Memᴰ v (vertices d) → ⊥) → (List·Memᴰ v (vertices f) → ⊥) → neighbours rest v ≡ []
+pub full : (p v : ℕ) (d f : Forest) (rest : List Arc) → (v ≡ p → ⊥) → (List·Memᴰ v (vertices d) → ⊥) → (List·Memᴰ v (vertices f) → ⊥) → neighbours rest v ≡ []
     → neighbours (hung p (tree v d f) ++ rest) v ≡ p ∷ roots d
 unfolding hung
 full p v d f rest n m k e = cc (
@@ -123,23 +123,23 @@ module _ (A : List Arc) where
   good p f π m t = good-part p f [] (rw append-nil π) m t (λ w h. neighbours-none w)
 
 -- the members of l but p
-abbrev but : ℕ → List ℕ → List ℕ
+abbrev pub but : ℕ → List ℕ → List ℕ
 but p l = filter {p = λ w. ¬ (w ≡ p)} (λ w. Dec·not (ℕ-discrete w p)) l
 
-but-none : (p : ℕ) (l : List ℕ) → (List·Memᴰ p l → ⊥) → but p l ≡ l
+pub but-none : (p : ℕ) (l : List ℕ) → (List·Memᴰ p l → ⊥) → but p l ≡ l
 but-none p [] n = refl
 but-none p (x ∷ l) n =
     if-pos (Dec·not (ℕ-discrete x p)) (λ e. n (List·Memᴰ·head (sym e))) (x ∷ but p l) (but p l) ∙ ap (λ m. x ∷ m) (but-none p l (λ h. n (List·Memᴰ·tail h)))
 
-but-first : (p : ℕ) (l : List ℕ) → (List·Memᴰ p l → ⊥) → but p (p ∷ l) ≡ l
+pub but-first : (p : ℕ) (l : List ℕ) → (List·Memᴰ p l → ⊥) → but p (p ∷ l) ≡ l
 but-first p l n = if-neg (Dec·not (ℕ-discrete p p)) (λ h. h refl) (p ∷ but p l) (but p l) ∙ but-none p l n
 
 -- where the neighbours are l, and the parent is none or besides, the children are l
-children-all : (A : List Arc) (p v : ℕ) (l : List ℕ) → List·Permᴰ (neighbours A v) l → (List·Memᴰ p l → ⊥) → List·Permᴰ (children A p v) l
+pub children-all : (A : List Arc) (p v : ℕ) (l : List ℕ) → List·Permᴰ (neighbours A v) l → (List·Memᴰ p l → ⊥) → List·Permᴰ (children A p v) l
 unfolding children
 children-all A p v l π n = subst (λ m. List·Permᴰ (children A p v) m) (but-none p l n) (Permᴰ·filter (λ w. Dec·not (ℕ-discrete w p)) π)
 
-children-but : (A : List Arc) (p v : ℕ) (l : List ℕ) → List·Permᴰ (neighbours A v) (p ∷ l) → (List·Memᴰ p l → ⊥) → List·Permᴰ (children A p v) l
+pub children-but : (A : List Arc) (p v : ℕ) (l : List ℕ) → List·Permᴰ (neighbours A v) (p ∷ l) → (List·Memᴰ p l → ⊥) → List·Permᴰ (children A p v) l
 unfolding children
 children-but A p v l π n = subst (λ m. List·Permᴰ (children A p v) m) (but-first p l n) (Permᴰ·filter (λ w. Dec·not (ℕ-discrete w p)) π)
 
@@ -154,7 +154,8 @@ module _ (M : Marks) where
     branches none = []
     branches (tree v d f) = joinₗ M (label v) (branches d) ∷ branches f
 
-    codes-of : (A : List Arc) (n p : ℕ) (f : Forest) → count f ≤ n → Good A p f → map (codeₗ M label n A p) (roots f) ≡ branches f
+    -- and by the arcs
+    pub codes-of : (A : List Arc) (n p : ℕ) (f : Forest) → count f ≤ n → Good A p f → map (codeₗ M label n A p) (roots f) ≡ branches f
     unfolding roots branches count codeₗ
     codes-of A n p none h g = refl
     codes-of A zero p (tree v d f) h g = let z : ⊥ = omega arith in absurd z

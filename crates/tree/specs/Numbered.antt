@@ -84,11 +84,21 @@ module _ (M : Marks) (N : ℕ) (E : List ℕ) (r : ℕ) (l : ℕ → M .Label) w
   abbrev pub Told : List ℕ → Type 0
   Told c = (ρ : Renumbering N E (decode (digits M c))) × (ρ .to r ≡ 1) × Keeps M N E (decode (digits M c)) l (labels M c) ρ
 
-  told : (t : Rooted N E r) (c : List ℕ) → digits M c ≡ width (t .forest) ∷ shape (t .forest) → map (M .atom) c ≡ map l (r ∷ vertices (t .forest)) → Told c
+  -- and the number of a vertex is its place in the list o
+  abbrev pub ToldBy : List ℕ → List ℕ → Type 0
+  ToldBy o c =
+      (ρ : Renumbering N E (decode (digits M c)))
+      × (ρ .to r ≡ 1)
+      × Keeps M N E (decode (digits M c)) l (labels M c) ρ
+      × ((v : ℕ) → ρ .to v ≡ suc (place v o))
+      × ((i : ℕ) → ρ .from i ≡ getD o (i - 1) 0)
+
+  pub told : (t : Rooted N E r) (c : List ℕ) → digits M c ≡ width (t .forest) ∷ shape (t .forest) → map (M .atom) c ≡ map l (r ∷ vertices (t .forest)) → ToldBy (r ∷ vertices (t .forest)) c
   unfolding numbered labels
   told t c d a =
       let L : List ℕ = r ∷ vertices (t .forest) in
-      subst (λ D. (ρ : Renumbering N E D) × (ρ .to r ≡ 1) × Keeps M N E D l (labels M c) ρ) (sym (ap decode d ∙ decode-forest (t .forest))) (
+      subst (λ D. (ρ : Renumbering N E D) × (ρ .to r ≡ 1) × Keeps M N E D l (labels M c) ρ × ((v : ℕ) → ρ .to v ≡ suc (place v L)) × ((i : ℕ) → ρ .from i ≡ getD L (i - 1) 0))
+      (sym (ap decode d ∙ decode-forest (t .forest))) (
         numbered N E r t,
         ap suc (place-here r r (vertices (t .forest)) refl),
         λ v h k.
@@ -99,14 +109,18 @@ module _ (M : Marks) (N : ℕ) (E : List ℕ) (r : ℕ) (l : ℕ → M .Label) w
             ∙ ap (λ z. getD z (place v L) (M .atom 0)) a
             ∙ getD-map-in l L (place v L) (M .atom 0) 0 i
             ∙ ap l e,
+        λ v. refl,
+        λ i. refl,
       )
 
   -- a tree coded and decoded is the same tree under other numbers, with the root 1 and the same labels
   pub to-decoded : Rooted N E r → Told (rootedₗ M l N E r)
   to-decoded t =
       let f : Forest = sorted M l N E r t .forest in
+      let (ρ, a, k, x, y) =
       told (sorted M l N E r t) (rootedₗ M l N E r) (rooted-digits M l N E r t)
-      (ap (map (M .atom)) (rooted-marks M l N E r t) ∙ ap₂ (λ x y. x ∷ y) (M .atom-mark (width f) (l r)) (marks-labels M l f))
+      (ap (map (M .atom)) (rooted-marks M l N E r t) ∙ ap₂ (λ x y. x ∷ y) (M .atom-mark (width f) (l r)) (marks-labels M l f)) in
+      (ρ, a, k)
 
 -- trees with equal rooted codes are the same, root for root and label for label
 pub same-tree : (M : Marks) (N : ℕ) (E F : List ℕ) (r q : ℕ) (l m : ℕ → M .Label) → Rooted N E r → Rooted N F q → rootedₗ M l N E r ≡ rootedₗ M m N F q

@@ -57,7 +57,7 @@ abbrev pub Down : Forest → Type 0
 Down none = Unit {0}
 Down (tree v d f) = Falling (strings d) × Down d × Down f
 
-ordered-forest : (f : Forest) (ds : List ℕ) → Ordered (shape f ++ ds) ↔ (Down f × Ordered ds)
+pub ordered-forest : (f : Forest) (ds : List ℕ) → Ordered (shape f ++ ds) ↔ (Down f × Ordered ds)
 unfolding shape
 ordered-forest none ds = (λ o. (tt, o), λ t. t .1)
 ordered-forest (tree v d f) ds = rw (append-assoc (shape d) (shape f) ds, first-codes d (shape f ++ ds)) (
@@ -84,7 +84,7 @@ module _ (l : ℕ → Unit {0}) where
   sorted-down none s = tt
   sorted-down (tree v d f) (h, a, b) = let o : Down d = sorted-down d a in (rw (down-branches d o) at h, o, sorted-down f b)
 
-  number-branches : (j : ℕ) (f : Forest) → branches base l (number j f) ≡ branches base l f
+  pub number-branches : (j : ℕ) (f : Forest) → branches base l (number j f) ≡ branches base l f
   unfolding branches number
   number-branches j none = refl
   number-branches j (tree v d f) = ap₂ (λ x y. joinₗ base tt x ∷ y) (number-branches (suc j) d) (number-branches (suc j + count d) f)

@@ -90,7 +90,7 @@ number-distinct j (tree v d f) = (
   number-distinct (suc j + count d) f,
 )
 
-edges-length : (p : ℕ) (f : Forest) → length (edgesOf p f) ≡ 2 * count f
+pub edges-length : (p : ℕ) (f : Forest) → length (edgesOf p f) ≡ 2 * count f
 unfolding edgesOf count
 edges-length p none = refl
 edges-length p (tree v d f) = omega (arith, length-append (edgesOf v d) (edgesOf p f), edges-length v d, edges-length p f)

@@ -1,0 +1,44 @@
+-- The definitions, run on document 01's own figures. Assumes nothing.
+use mathlib.Core.Path.{_≡_, refl, ap}
+use mathlib.Core.Logic.{Dec·not}
+use mathlib.Core.List.{List, [], _∷_, map, flatten}
+use Prim.Native.Nat.{ℕ}
+use native.Mathlib.Decide.{ℕ-discrete, decLt}
+use native.Mathlib.Omega.{arith}
+use lib.ListN.{getD}
+use Rattle.laws.specs.Order.{dec≽, insert, sort}
+use Rattle.code.specs.Code.{codes, childCodes, decode, edgesFrom}
+use Rattle.tree.specs.Skeleton.{arcs, neighbours, children, join, codeAt, rooted}
+use Rattle.numbering.specs.Decoded.{starts, begins, parent}
+
+-- 002's example
+abbrev example : List ℕ
+example = 3 ∷ 2 ∷ 1 ∷ 0 ∷ 0 ∷ 1 ∷ 0 ∷ 0 ∷ []
+
+of-root : begins example 1 ≡ 2 ∷ 6 ∷ 8 ∷ []
+unfolding begins starts childCodes codes flatten
+of-root = refl
+
+of-second : begins example 2 ≡ 3 ∷ 5 ∷ []
+unfolding begins starts childCodes codes flatten
+of-second = refl
+
+its-children : children (arcs (decode example)) (parent example 2) 2 ≡ 3 ∷ 5 ∷ []
+unfolding children neighbours arcs decode edgesFrom parent ℕ-discrete Dec·not
+its-children = refl
+
+their-codes : map (codeAt 8 (arcs (decode example)) 1) (begins example 1) ≡ (2 ∷ 1 ∷ 0 ∷ 0 ∷ []) ∷ (1 ∷ 0 ∷ []) ∷ (0 ∷ []) ∷ []
+unfolding begins starts childCodes codes flatten codeAt join children neighbours arcs decode edgesFrom sort insert dec≽ ℕ-discrete decLt Dec·not
+their-codes = refl
+
+-- the same tree numbered breadth first has the same code, and is not what the code decodes to
+abbrev breadth-first : List ℕ
+breadth-first = 1 ∷ 2 ∷ 1 ∷ 3 ∷ 1 ∷ 4 ∷ 2 ∷ 5 ∷ 2 ∷ 6 ∷ 3 ∷ 7 ∷ 5 ∷ 8 ∷ []
+
+same-code : rooted 8 breadth-first 1 ≡ example
+unfolding rooted codeAt join children neighbours arcs sort insert dec≽ flatten ℕ-discrete decLt Dec·not
+same-code = refl
+
+not-decoded : children (arcs breadth-first) 0 1 ≡ begins example 1 → ⊥
+unfolding children neighbours arcs begins starts childCodes codes flatten ℕ-discrete Dec·not
+not-decoded e = let z : _≡_ {A = ℕ} 3 6 = ap (λ l. getD l 1 0) e in omega arith
