@@ -11,10 +11,10 @@ use mathlib.Core.List.{List, [], _∷_, _++_, map, filter, flatten}
 use Prim.Native.Nat.{ℕ, zero, suc, _+_, _-_, _*_, _≤_, _<_}
 use native.Mathlib.Decide.{ℕ-discrete}
 use lib.ListN.{length, getD, take}
-use Rattle.laws.specs.Order.{_≽_, dec≽}
+use Rattle.laws.specs.Order.{_≽_}
 use Rattle.code.specs.Code.{sum}
 use Rattle.code.specs.Limits.{size, valence}
-use Rattle.numbering.specs.Order.{looked, pairs, sortBy, orderBy, pairsBy}
+use Rattle.numbering.specs.Order.{place, looked, pairs, sortBy, orderBy, pairsBy}
 
 -- ---- the order by the table
 
@@ -92,17 +92,12 @@ pub record Standing (s lens : List ℕ) (x y : ℕ) : Type 0 where
   pub behind : List ℕ
   pub stand : Stand s lens x y before parts behind
 
--- c put before the first of ds whose key is smaller
-unfoldable pub placeBy : (List ℕ → List ℕ) → List ℕ → List (List ℕ) → List (List ℕ)
-placeBy f c [] = c ∷ []
-placeBy f c (d ∷ ds) = ite (dec≽ (f d) (f c)) (d ∷ placeBy f c ds) (c ∷ d ∷ ds)
-
--- that place among the parts L, the first of which begins at x
+-- the place of c among the parts L, the first of which begins at x
 pub record Spot (f : List ℕ → List ℕ) (x : ℕ) (L : List (List ℕ)) (c : List ℕ) (at : ℕ) : Type 0 where
   pub front : List (List ℕ)
   pub back : List (List ℕ)
   pub parts : L ≡ front ++ back
-  pub sorted : placeBy f c L ≡ front ++ (c ∷ back)
+  pub sorted : place f c L ≡ front ++ (c ∷ back)
   pub is : at ≡ x + length (flatten front)
 
 -- how many pairs are looked at where c is compared with each of L
@@ -129,7 +124,7 @@ pub record Waiting (s lens : List ℕ) (f m : ℕ) : Type 0 where
 
 -- it stands at its place among them now; all else is as it was; n pairs were looked at
 pub record Settles (marks lens s' lens' : List ℕ) (f m : ℕ) (p : List ℕ) (L : List (List ℕ)) (c q : List ℕ) (n : ℕ) : Type 0 where
-  pub stand : Stand s' lens' f (m + length c) p (placeBy (marked marks) c L) q
+  pub stand : Stand s' lens' f (m + length c) p (place (marked marks) c L) q
   pub kept : (i : ℕ) → (i < f) ⊎ (m + length c ≤ i) → getD lens' i 0 ≡ getD lens i 0
   pub count : n ≡ met (marked marks) c L
 

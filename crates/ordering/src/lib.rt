@@ -1,8 +1,8 @@
 // The vertices of a skeleton in the order of its rooted code, written into a buffer by recursion over rooted subtrees, and how many pairs of
 // marks were looked at on the way.
+use limits::BYTES;
 use limits::SIZE;
 use limits::WIDTH;
-use limits::BYTES;
 ghost use mathlib.Core.Path.{_≡_};
 ghost use mathlib.Core.Bool.{Bool, true, false};
 ghost use mathlib.Core.List.{List, _++_, map, flatten};
@@ -44,22 +44,37 @@ fn compare(marks: &[u8; BYTES], a: &[u8], b: &[u8]) -> Compared
     let mut i = 0;
     while i < a.len() {
         if b.len() <= i {
-            return Compared { less: false, looked: i };
+            return Compared {
+                less: false,
+                looked: i,
+            };
         }
         let x = mark(marks, a[i]);
         let y = mark(marks, b[i]);
         if x < y {
-            return Compared { less: true, looked: i + 1 };
+            return Compared {
+                less: true,
+                looked: i + 1,
+            };
         }
         if y < x {
-            return Compared { less: false, looked: i + 1 };
+            return Compared {
+                less: false,
+                looked: i + 1,
+            };
         }
         i += 1;
     }
     if i < b.len() {
-        return Compared { less: true, looked: i };
+        return Compared {
+            less: true,
+            looked: i,
+        };
     }
-    Compared { less: false, looked: i }
+    Compared {
+        less: false,
+        looked: i,
+    }
 }
 
 // Copies the part of `src` from `a` up to `e` into `dst`, at `at`.
@@ -116,5 +131,8 @@ fn seek(marks: &[u8; BYTES], s: &[u8], lens: &[u8], f: usize, m: usize, b: usize
             }
         }
     }
-    Sought { at: at, looked: looked }
+    Sought {
+        at: at,
+        looked: looked,
+    }
 }
