@@ -3,3 +3,4 @@ pub mod Comparing
 pub mod Copying
 pub mod Standing
 pub mod Spots
+pub mod Settling

@@ -136,3 +136,35 @@ fn seek(marks: &[u8; BYTES], s: &[u8], lens: &[u8], f: usize, m: usize, b: usize
         looked: looked,
     }
 }
+
+// Where the part that begins at `at` ends.
+fn end(lens: &[u8; SIZE], at: usize) -> usize
+    requires { ⌜ at < size ⌝ }
+    ensures { λ r. ⌜ r ≡ endOf (now (lens .entry)) at ⌝ }
+{
+    at + wide(lens[at])
+}
+
+// Moves the part that begins at `m` to its place among the parts from `f` up to `m`.
+fn settle(
+    marks: &[u8; BYTES],
+    out: &mut [u8; SIZE],
+    lens: &mut [u8; SIZE],
+    f: usize,
+    m: usize,
+) -> usize
+    requires { ⌜ (length (now out) ≡ size) × (length (now lens) ≡ size) ⌝ }
+    requires { ⌜ Waiting (now out) (now lens) f m ⌝ }
+    ensures { λ r. ⌜ (length (now (out .exit)) ≡ size) × (length (now (lens .exit)) ≡ size) × (r ≤ size) ⌝ }
+    ensures { λ r. ⌜ ((p : List ℕ) (L : List (List ℕ)) (c q : List ℕ) → Waits (now (out .entry)) (now (lens .entry)) f m p L c q
+        → Settles (now (marks .entry)) (now (lens .entry)) (now (out .exit)) (now (lens .exit)) f m p L c q r) ⌝ }
+{
+    let b = end(lens, m);
+    let z = seek(marks, out, lens, f, m, b);
+    let at = z.at;
+    if at < m {
+        exchange(out, at, m, b);
+        exchange(lens, at, m, b);
+    }
+    z.looked
+}
