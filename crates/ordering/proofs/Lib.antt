@@ -4,3 +4,4 @@ pub mod Copying
 pub mod Standing
 pub mod Spots
 pub mod Settling
+pub mod Arranging

@@ -14,7 +14,7 @@ use Rattle.code.specs.Counting.{sum-append}
 use Rattle.numbering.specs.Order.{looked, place}
 use Rattle.numbering.specs.Sorted.{place-here, place-past}
 use Rattle.ordering.specs.Ordered.{markOf, marked, Stands, Heads, Stand, Standing, Spot, met}
-use Rattle.ordering.proofs.Standing.{length-one, length-both, length-first, First, first-of, middle-part}
+use Rattle.ordering.proofs.Standing.{length-one, length-both, length-first, First, first-of, empty, middle-part}
 
 pub met-more : (f : List ℕ → List ℕ) (c : List ℕ) (L : List (List ℕ)) (d : List ℕ) → met f c (L ++ (d ∷ [])) ≡ met f c L + looked (f d) (f c)
 unfolding sum
@@ -36,10 +36,6 @@ pub record Passed (k : List ℕ → List ℕ) (lens : List ℕ) (f m : ℕ) (c :
 pub none-passed : (k : List ℕ → List ℕ) {s lens : List ℕ} {f m : ℕ} (c : List ℕ) {p q : List ℕ} {L : List (List ℕ)} → Stand s lens f m p L q → Passed k lens f m c L f m 0
 unfolding sum flatten
 none-passed k c {L = L} t = record { passed = []; rest = L; parts = refl; here = omega arith; count = refl; heads = t .heads; found = inl (refl, refl) }
-
-empty : (lens : List ℕ) (x : ℕ) (l : List (List ℕ)) → length (flatten l) ≡ 0 → Heads lens x l → l ≡ []
-empty lens x [] e h = refl
-empty lens x (d ∷ l) e h = let z : ⊥ = omega (arith, length-first d l, h .1) in absurd z
 
 module _ {k : List ℕ → List ℕ} {s lens : List ℕ} {f m : ℕ} {c : List ℕ} {p q : List ℕ} {L : List (List ℕ)} {x at n : ℕ} (t : Stand s lens f m p L q) (g : Passed k lens f m c L x at n) where
   total : m ≡ x + length (flatten (g .rest))

@@ -36,6 +36,11 @@ unfolding flatten
 first-of [] h = let z : ⊥ = omega arith in absurd z
 first-of (c ∷ L) h = record { first = c; others = L; is = refl }
 
+-- parts that have no places are none
+pub empty : (lens : List ℕ) (x : ℕ) (l : List (List ℕ)) → length (flatten l) ≡ 0 → Heads lens x l → l ≡ []
+empty lens x [] e h = refl
+empty lens x (d ∷ l) e h = let z : ⊥ = omega (arith, length-first d l, h .1) in absurd z
+
 module _ (lens : List ℕ) where
   -- the lengths of parts and of further parts behind them
   pub heads-join : (x : ℕ) (K L : List (List ℕ)) → Heads lens x K → Heads lens (x + length (flatten K)) L → Heads lens x (K ++ L)
@@ -79,3 +84,9 @@ middle-part p q K L c x y e h k =
     let regroup : p ++ ((flatten K ++ (c ++ flatten L)) ++ q) ≡ (p ++ flatten K) ++ (c ++ (flatten L ++ q)) = simp append-assoc in
     ap (part x y) (e ∙ ap (λ l. p ++ (l ++ q)) (flatten-append K (c ∷ L)) ∙ regroup)
     ∙ part-at (p ++ flatten K) c (flatten L ++ q) x y (rw length-append h) k
+
+-- the parts are within the buffer
+pub within : {s lens : List ℕ} {x y : ℕ} {p : List ℕ} {L : List (List ℕ)} {q : List ℕ} → Stand s lens x y p L q → y ≤ length s
+within {s} {p = p} {L = L} {q = q} t =
+    let l : length p + (length (flatten L) + length q) ≡ length s = sym (ap length (t .whole) ∙ simp length-append) in
+    omega (arith, t .begins, t .ends)

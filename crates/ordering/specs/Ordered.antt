@@ -123,19 +123,19 @@ pub record Waiting (s lens : List ℕ) (f m : ℕ) : Type 0 where
   pub is : Waits s lens f m before parts one behind
 
 -- it stands at its place among them now; all else is as it was; n pairs were looked at
-pub record Settles (marks lens s' lens' : List ℕ) (f m : ℕ) (p : List ℕ) (L : List (List ℕ)) (c q : List ℕ) (n : ℕ) : Type 0 where
-  pub stand : Stand s' lens' f (m + length c) p (place (marked marks) c L) q
+pub record Settles (k : List ℕ → List ℕ) (lens s' lens' : List ℕ) (f m : ℕ) (p : List ℕ) (L : List (List ℕ)) (c q : List ℕ) (n : ℕ) : Type 0 where
+  pub stand : Stand s' lens' f (m + length c) p (place k c L) q
   pub kept : (i : ℕ) → (i < f) ⊎ (m + length c ≤ i) → getD lens' i 0 ≡ getD lens i 0
-  pub count : n ≡ met (marked marks) c L
+  pub count : n ≡ met k c L
 
 -- the parts behind what stands at `at`: where they end
 abbrev pub endOf : List ℕ → ℕ → ℕ
 endOf lens at = at + getD lens at 0
 
 -- the parts L are sorted now, n pairs were looked at
-pub record Arranges (marks s' : List ℕ) (p : List ℕ) (L : List (List ℕ)) (q : List ℕ) (n : ℕ) : Type 0 where
-  pub whole : s' ≡ p ++ (flatten (sortBy (marked marks) L) ++ q)
-  pub count : n ≡ pairs (map (marked marks) L)
+pub record Arranges (k : List ℕ → List ℕ) (s' p : List ℕ) (L : List (List ℕ)) (q : List ℕ) (n : ℕ) : Type 0 where
+  pub whole : s' ≡ p ++ (flatten (sortBy k L) ++ q)
+  pub count : n ≡ pairs (map k L)
 
 -- What hangs at v, which stands at `at`: the parts of its children L one behind the other, each in its order; m pairs were looked at below
 -- them. What stood before is as it was.

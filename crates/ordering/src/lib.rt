@@ -157,7 +157,7 @@ fn settle(
     requires { ⌜ Waiting (now out) (now lens) f m ⌝ }
     ensures { λ r. ⌜ (length (now (out .exit)) ≡ size) × (length (now (lens .exit)) ≡ size) × (r ≤ size) ⌝ }
     ensures { λ r. ⌜ ((p : List ℕ) (L : List (List ℕ)) (c q : List ℕ) → Waits (now (out .entry)) (now (lens .entry)) f m p L c q
-        → Settles (now (marks .entry)) (now (lens .entry)) (now (out .exit)) (now (lens .exit)) f m p L c q r) ⌝ }
+        → Settles (marked (now (marks .entry))) (now (lens .entry)) (now (out .exit)) (now (lens .exit)) f m p L c q r) ⌝ }
 {
     let b = end(lens, m);
     let z = seek(marks, out, lens, f, m, b);
@@ -167,4 +167,25 @@ fn settle(
         exchange(lens, at, m, b);
     }
     z.looked
+}
+
+// Puts the parts behind what stands at `at` in order, largest first: each is settled among those before it. There is at least one.
+fn arrange(marks: &[u8; BYTES], out: &mut [u8; SIZE], lens: &mut [u8; SIZE], at: usize) -> usize
+    requires { ⌜ (length (now out) ≡ size) × (length (now lens) ≡ size) ⌝ }
+    requires { ⌜ Standing (now out) (now lens) (at + 1) (endOf (now lens) at) × (at + 1 < endOf (now lens) at) ⌝ }
+    ensures { λ r. ⌜ (length (now (out .exit)) ≡ size) × (length (now (lens .exit)) ≡ size) × (r ≤ size * size) ⌝ }
+    ensures { λ _. ⌜ ((i : ℕ) → i ≤ at → getD (now (lens .exit)) i 0 ≡ getD (now (lens .entry)) i 0) ⌝ }
+    ensures { λ r. ⌜ ((p q : List ℕ) (L : List (List ℕ)) → Stand (now (out .entry)) (now (lens .entry)) (at + 1) (endOf (now (lens .entry)) at) p L q
+        → Arranges (marked (now (marks .entry))) (now (out .exit)) p L q r) ⌝ }
+{
+    let f = at + 1;
+    let e = end(lens, at);
+    let mut m = end(lens, f);
+    let mut looked = 0;
+    while m < e {
+        let b = end(lens, m);
+        looked += settle(marks, out, lens, f, m);
+        m = b;
+    }
+    looked
 }
