@@ -5,3 +5,6 @@ pub mod Standing
 pub mod Spots
 pub mod Settling
 pub mod Arranging
+pub mod Depth
+pub mod Kids
+pub mod Turns

@@ -137,11 +137,20 @@ pub record Arranges (k : List ℕ → List ℕ) (s' p : List ℕ) (L : List (Lis
   pub whole : s' ≡ p ++ (flatten (sortBy k L) ++ q)
   pub count : n ≡ pairs (map k L)
 
--- What hangs at v, which stands at `at`: the parts of its children L one behind the other, each in its order; m pairs were looked at below
--- them. What stood before is as it was.
-pub record Hangs (s lens s' lens' : List ℕ) (at : ℕ) (L : List (List ℕ)) : Type 0 where
+-- the answer is yes only where two places at least follow `at`, and no only where the first part behind `at` is the only one
+pub record Several (lens : List ℕ) (at : ℕ) (r : Bool) : Type 0 where
+  pub more : r ≡ true → at + 2 < endOf lens at
+  pub lone : r ≡ false → (getD lens at 0 ≤ 2) ⊎ (getD lens at 0 ≤ 1 + getD lens (at + 1) 0)
+
+-- behind v, which stands at `at`, the parts of its children ws hang one behind the other, each in its order; n pairs were looked at to put
+-- them in order; what stood before is as it was
+pub record Hangs (m : List ℕ) (t : List (List ℕ)) (s lens s' lens' : List ℕ) (v at : ℕ) (ws : List ℕ) (n : ℕ) : Type 0 where
+  pub outs : length s' ≡ size
+  pub long : length lens' ≡ size
   pub behind : List ℕ
-  pub whole : s' ≡ take (at + 1) s ++ (flatten L ++ behind)
-  pub length-is : getD lens' at 0 ≡ 1 + length (flatten L)
-  pub heads : Heads lens' (at + 1) L
+  pub whole : s' ≡ take (at + 1) s ++ (flatten (map (ordered m t v) ws) ++ behind)
+  pub head : getD lens' at 0 ≡ 1 + length (flatten (map (ordered m t v) ws))
+  pub heads : Heads lens' (at + 1) (map (ordered m t v) ws)
   pub kept : (i : ℕ) → i < at → getD lens' i 0 ≡ getD lens i 0
+  pub count : n ≡ sum (map (compared m t v) ws)
+  pub few : n ≤ size * size * length (flatten (map (ordered m t v) ws))

@@ -7,11 +7,11 @@ ghost use mathlib.Core.Path.{_≡_};
 ghost use mathlib.Core.Bool.{Bool, true, false};
 ghost use mathlib.Core.List.{List, _++_, map, flatten};
 ghost use Prim.Native.Nat.{ℕ, _+_, _-_, _*_, _≤_, _<_};
-ghost use lib.ListN.{length, getD, take, drop};
+ghost use lib.ListN.{length, getD, set, take, drop};
 ghost use Rattle.laws.specs.Part.{part};
 ghost use Rattle.code.specs.Code.{sum};
 ghost use Rattle.code.specs.Limits.{size, valence};
-ghost use Rattle.ordering.specs.Ordered.{marked, markOf, row, cell, kids, ordered, compared, Rows, Stands, Heads, Stand, Standing, Spot, met, Exchanged, Waits, Waiting, Settles, endOf, Arranges, Hangs};
+ghost use Rattle.ordering.specs.Ordered.{marked, markOf, row, cell, kids, ordered, compared, Rows, Stands, Heads, Stand, Standing, Spot, met, Exchanged, Waits, Waiting, Settles, endOf, Arranges, Several, Hangs};
 
 // The answer of a comparison, and how many pairs were looked at.
 struct Compared {
@@ -186,6 +186,99 @@ fn arrange(marks: &[u8; BYTES], out: &mut [u8; SIZE], lens: &mut [u8; SIZE], at:
         let b = end(lens, m);
         looked += settle(marks, out, lens, f, m);
         m = b;
+    }
+    looked
+}
+
+// What stands at `at`.
+fn vertex(out: &[u8; SIZE], at: usize) -> usize
+    requires { ⌜ at < size ⌝ }
+    ensures { λ r. ⌜ r ≡ getD (now (out .entry)) at 0 ⌝ }
+{
+    wide(out[at])
+}
+
+// What stands in column j of the row of v.
+fn neighbour(rows: &[[u8; WIDTH]; SIZE], v: usize, j: usize) -> usize
+    requires { ⌜ (1 ≤ v) × (v ≤ size) × (j < valence) ⌝ }
+    ensures { λ r. ⌜ r ≡ cell (now (rows .entry)) v j ⌝ }
+{
+    wide(rows[v - 1][j])
+}
+
+// Writes w at `m`, a part of its own.
+fn lay(out: &mut [u8; SIZE], lens: &mut [u8; SIZE], m: usize, w: usize)
+    requires { ⌜ (m < size) × (w ≤ size) ⌝ }
+    requires { ⌜ (length (now out) ≡ size) × (length (now lens) ≡ size) ⌝ }
+    ensures { λ _. ⌜ (now (out .exit) ≡ set (now (out .entry)) m w) × (now (lens .exit) ≡ set (now (lens .entry)) m 1) ⌝ }
+{
+    out[m] = w as u8;
+    lens[m] = 1;
+}
+
+// Whether there are several parts behind what stands at `at`: the first of them is not all of them.
+fn several(lens: &[u8; SIZE], at: usize) -> bool
+    requires { ⌜ (at < size) × (endOf (now lens) at ≤ size) ⌝ }
+    ensures { λ r. ⌜ Several (now (lens .entry)) at r ⌝ }
+{
+    let n = wide(lens[at]);
+    if n <= 2 {
+        return false;
+    }
+    if n - 1 <= wide(lens[at + 1]) {
+        return false;
+    }
+    true
+}
+
+// Takes the part that begins where the one at `at` ends into it.
+fn extend(lens: &mut [u8; SIZE], at: usize)
+    requires { ⌜ (length (now lens) ≡ size) × (endOf (now lens) at < size) × (endOf (now lens) (endOf (now lens) at) ≤ at + size) ⌝ }
+    ensures { λ _. ⌜ now (lens .exit) ≡ set (now (lens .entry)) at (getD (now (lens .entry)) at 0 + getD (now (lens .entry)) (endOf (now (lens .entry)) at) 0) ⌝ }
+{
+    let m = end(lens, at);
+    let n = lens[m];
+    lens[at] += n;
+}
+
+// Writes what hangs at the vertex that stands at `at`, whose parent is `parent`: the parts of its children one behind the other, each in
+// its order. Each child's part is asked for first, further behind in the buffer, so at each call fewer vertices are left; its own
+// children's parts are then put in order. Returns how many pairs were looked at.
+fn order(
+    rows: &[[u8; WIDTH]; SIZE],
+    marks: &[u8; BYTES],
+    out: &mut [u8; SIZE],
+    lens: &mut [u8; SIZE],
+    parent: usize,
+    at: usize,
+) -> usize
+    requires { ⌜ (length (now out) ≡ size) × (length (now lens) ≡ size) × (getD (now lens) at 0 ≡ 1) ⌝ }
+    requires { ⌜ Rows (now rows) (getD (now out) at 0) ⌝ }
+    requires { ⌜ at + length (ordered (now marks) (now rows) parent (getD (now out) at 0)) ≤ size ⌝ }
+    ensures { λ r. ⌜ Hangs (now (marks .entry)) (now (rows .entry)) (now (out .entry)) (now (lens .entry)) (now (out .exit)) (now (lens .exit))
+        (getD (now (out .entry)) at 0) at (kids (now (rows .entry)) parent (getD (now (out .entry)) at 0)) r ⌝ }
+{
+    let mut looked = 0;
+    let mut j = 0;
+    while j < WIDTH {
+        let v = vertex(out, at);
+        let w = neighbour(rows, v, j);
+        if w == 0 {
+            return looked;
+        }
+        j += 1;
+        if w != parent {
+            let m = end(lens, at);
+            lay(out, lens, m, w);
+            if neighbour(rows, w, 1) != 0 {
+                looked += order(rows, marks, out, lens, v, m);
+                let q = end(lens, at);
+                if several(lens, q) {
+                    looked += arrange(marks, out, lens, q);
+                }
+            }
+            extend(lens, at);
+        }
     }
     looked
 }
