@@ -26,11 +26,10 @@ module _ (m : ℕ → ℕ) (K : ℕ → ℕ → List ℕ) where
   deeper zero p v h = let z : ⊥ = omega arith in absurd z
   deeper (suc n) p v h =
       let few : length (flatten (below n p v)) < n = omega (arith, sorted-length (map m) (below n p v)) in
-      let o : below (suc n) p v ≡ below n p v = same-map (orderBy m K n v) (orderBy m K n v) (orderBy m K (suc n) v) n (λ w l. deeper n v w l .0) (K p v) few in
-      (
+      let o : below (suc n) p v ≡ below n p v = same-map (orderBy m K n v) (orderBy m K n v) (orderBy m K (suc n) v) n (λ w l. deeper n v w l .0) (K p v) few in (
         ap (λ l. v ∷ flatten (sortBy (map m) l)) o,
         ap₂ (λ x y. sum x + pairs y) (same-map (orderBy m K n v) (pairsBy m K n v) (pairsBy m K (suc n) v) n (λ w l. deeper n v w l .1) (K p v) few)
-        (same-map (orderBy m K n v) (λ w. map m (orderBy m K n v w)) (λ w. map m (orderBy m K (suc n) v w)) n (λ w l. ap (map m) (deeper n v w l .0)) (K p v) few),
+            (same-map (orderBy m K n v) (λ w. map m (orderBy m K n v w)) (λ w. map m (orderBy m K (suc n) v w)) n (λ w l. ap (map m) (deeper n v w l .0)) (K p v) few),
       )
 
   -- an order with fewer vertices than the depth is made of its children's

@@ -142,6 +142,11 @@ pub record Written (m : List ℕ) (t : List (List ℕ)) (out lens out' lens' : L
   pub count : n' ≡ n + compared m t v w
   pub few : n' ≤ n + size * size * length (ordered m t v w)
 
+pub same-written : {m : List ℕ} {t : List (List ℕ)} {out lens out' lens' out2 lens2 : List ℕ} {v w at n n' : ℕ} → out2 ≡ out' → lens2 ≡ lens' → Written m t out lens out' lens' v w at n n'
+    → Written m t out lens out2 lens2 v w at n n'
+same-written {m} {t} {out} {lens} {lens' = lens'} {out2 = out2} {v = v} {w = w} {at = at} {n = n} {n' = n'} eo el r =
+    subst (λ l. Written m t out lens out2 l v w at n n') (sym el) (subst (λ o. Written m t out lens o lens' v w at n n') (sym eo) r)
+
 -- one part or none is in order
 lone-arranged : (k : List ℕ → List ℕ) (L : List (List ℕ)) → length L ≤ 1 → (sortBy k L ≡ L) × (pairs (map k L) ≡ 0)
 unfolding sortBy insertBy pairs sum
