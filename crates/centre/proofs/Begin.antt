@@ -1,35 +1,18 @@
 -- The table of a skeleton as a copy of which nothing is peeled off.
 --
--- In order: neighbours; a row and its neighbours; the copy. Assumes nothing.
+-- In order: a row and its neighbours; the copy. Assumes nothing.
 use mathlib.Core.Path.{_≡_, _∙_}
-use mathlib.Core.List.{List, [], List·Memᴰ, List·Memᴰ·not-nil, Permᴰ·symm}
+use mathlib.Core.List.{List, [], List·Memᴰ, List·Memᴰ·not-nil}
 use Prim.Native.Nat.{ℕ, _-_, _≤_}
 use native.Mathlib.Omega.{arith}
 use lib.ListN.{length, getD}
 use lib.Seq.{ext-getD, length-take-le, getD-take}
-use Rattle.laws.specs.Once.{Once, once-perm}
 use Rattle.code.specs.Limits.{size, valence}
-use Rattle.tree.specs.Skeleton.{arcs, neighbours, degree, IsTree, Degrees}
+use Rattle.tree.specs.Skeleton.{arcs, neighbours, degree, Degrees}
 use Rattle.tree.specs.Walks.{turn, arc-end}
-use Rattle.tree.specs.Forest.{Forest, none, tree, Distinct, Rooted}
-use Rattle.tree.specs.Grow.{rooted-tree}
-use Rattle.tree.specs.Codes.{roots, root-in, near, neighbours-perm}
-use Rattle.tree.specs.Arcs.{near-arc, arc-near}
+use Rattle.tree.specs.Arcs.{near-arc, arc-near, neighbours-once}
 use Rattle.skeleton.specs.Table.{IsTable, Held}
 use Rattle.centre.specs.Peeling.{deg, row, Stays, Copy, Leaves}
-
--- ---- neighbours
-
-roots-once : (f : Forest) → Distinct f → Once (roots f)
-unfolding roots
-roots-once none t = tt
-roots-once (tree v d f) t = (λ m. t .1 (root-in f m), roots-once f (t .4))
-
--- a tree has no edge twice
-neighbours-once : (N : ℕ) (E : List ℕ) (v : ℕ) → IsTree N E → 1 ≤ v → v ≤ N → Once (neighbours (arcs E) v)
-neighbours-once N E v t h k =
-    let r : Rooted N E v = rooted-tree N E v t h k in
-    once-perm (Permᴰ·symm (neighbours-perm v (r .same))) (rw (near v (r .forest) (r .apart)) (roots-once (r .forest) (r .distinct)))
 
 -- ---- a row and its neighbours
 

@@ -8,7 +8,9 @@ use native.Mathlib.Omega.{arith}
 use lib.ListN.{getD}
 use Rattle.laws.specs.Order.{dec≽, insert, sort}
 use Rattle.code.specs.Code.{codes, childCodes, decode, edgesFrom}
-use Rattle.tree.specs.Skeleton.{arcs, neighbours, children, join, codeAt, rooted}
+use Rattle.tree.specs.Skeleton.{arcs, neighbours, degree, children, join, codeAt, rooted}
+use Rattle.numbering.specs.Order.{insertBy, sortBy, orderBy}
+use Rattle.numbering.specs.Numbers.{kidsOf, order}
 use Rattle.numbering.specs.Decoded.{starts, begins, parent}
 
 -- 002's example
@@ -42,3 +44,13 @@ same-code = refl
 not-decoded : children (arcs breadth-first) 0 1 ≡ begins example 1 → ⊥
 unfolding children neighbours arcs begins starts childCodes codes flatten ℕ-discrete Dec·not
 not-decoded e = let z : _≡_ {A = ℕ} 3 6 = ap (λ l. getD l 1 0) e in omega arith
+
+-- 3-methylhexane in 001's numbering, at its centre: the vertices of the digits 3110100
+by-code : order 7 (1 ∷ 2 ∷ 2 ∷ 3 ∷ 2 ∷ 4 ∷ 3 ∷ 5 ∷ 1 ∷ 6 ∷ 6 ∷ 7 ∷ []) 2 ≡ 2 ∷ 1 ∷ 6 ∷ 7 ∷ 3 ∷ 5 ∷ 4 ∷ []
+unfolding order orderBy sortBy insertBy kidsOf degree children neighbours arcs dec≽ flatten ℕ-discrete decLt Dec·not
+by-code = refl
+
+-- of equal siblings the one whose edge is listed first goes first
+first-listed : order 4 (3 ∷ 2 ∷ 4 ∷ 3 ∷ 3 ∷ 1 ∷ []) 3 ≡ 3 ∷ 2 ∷ 4 ∷ 1 ∷ []
+unfolding order orderBy sortBy insertBy kidsOf degree children neighbours arcs dec≽ flatten ℕ-discrete decLt Dec·not
+first-listed = refl

@@ -1,6 +1,11 @@
 -- Numbering by code. Assumes nothing.
 pub mod Order
 pub mod Sorted
+pub mod Turned
+pub mod Numbering
+pub mod Numbers
+pub mod Kids
+pub mod Same
 pub mod Standing
 pub mod Decoded
 pub mod Examples

@@ -27,13 +27,13 @@ Exact A p none = Unit {0}
 Exact A p (tree v d f) = (neighbours A v ≡ p ∷ roots d) × Exact A v d × Exact A p f
 
 -- none of the n numbers from j on has a neighbour in A
-abbrev pub Strange : List Arc → ℕ → ℕ → Type 0
+abbrev Strange : List Arc → ℕ → ℕ → Type 0
 Strange A j n = (w : ℕ) → j ≤ w → w < j + n → neighbours A w ≡ []
 
 pub root-high : (v j : ℕ) (f : Forest) → v < j → List·Memᴰ v (roots (number j f)) → ⊥
 root-high v j f l m = let z : ⊥ = omega (arith, number-in v j f (root-in (number j f) m)) in z
 
-pub exact : (A X Y : List Arc) (p j : ℕ) (f : Forest) → A ≡ X ++ (hung p (number j f) ++ Y) → p < j → Strange X j (count f) → Strange Y j (count f) → Exact A p (number j f)
+exact : (A X Y : List Arc) (p j : ℕ) (f : Forest) → A ≡ X ++ (hung p (number j f) ++ Y) → p < j → Strange X j (count f) → Strange Y j (count f) → Exact A p (number j f)
 unfolding hung number count vertices
 exact A X Y p j none e l x y = tt
 exact A X Y p j (tree v d f) e l x y =

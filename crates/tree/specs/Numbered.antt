@@ -45,7 +45,7 @@ map-number g j (tree v d f) c =
     let (a, b) = counts-append g (suc j) (vertices d) (vertices f) (c .1) in
     λ i. tree (c .0 i) (map-number g (suc j) d a i) (map-number g (suc j + count d) f (rw (count-vertices d) at b) i)
 
-getD-map-in : {A B : Type 0} (g : A → B) (l : List A) (i : ℕ) (d : B) (e : A) → i < length l → getD (map g l) i d ≡ g (getD l i e)
+pub getD-map-in : {A B : Type 0} (g : A → B) (l : List A) (i : ℕ) (d : B) (e : A) → i < length l → getD (map g l) i d ≡ g (getD l i e)
 getD-map-in g [] i d e h = let z : ⊥ = omega arith in absurd z
 getD-map-in g (x ∷ l) zero d e h = refl
 getD-map-in g (x ∷ l) (suc i) d e h = getD-map-in g l i d e (omega arith)
