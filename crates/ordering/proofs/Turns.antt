@@ -15,7 +15,7 @@ use Rattle.code.specs.Code.{sum}
 use Rattle.code.specs.Counting.{sum-append}
 use Rattle.code.specs.Limits.{size, valence}
 use Rattle.numbering.specs.Order.{pairs, sortBy, insertBy}
-use Rattle.ordering.specs.Ordered.{marked, row, cell, kids, ordered, compared, Rows, Heads, Stand, Standing, endOf, Arranges, Several, Hangs}
+use Rattle.ordering.specs.Ordered.{marked, row, cell, kids, ordered, compared, Rows, Heads, Stand, Standing, endOf, Arranges, Several, Hangs, Covers}
 use Rattle.ordering.proofs.Standing.{flatten-one, length-one, length-both, length-first, empty, heads-join, heads-move}
 use Rattle.ordering.proofs.Depth.{branches, some-ordered, ordered-is, compared-is, ordered-length, alone}
 use Rattle.ordering.proofs.Kids.{rest, row-ends, zero-ends, past-parent, one-child, lone}
@@ -364,3 +364,7 @@ module _ {m : List ℕ} {t : List (List ℕ)} {out₀ lens₀ : List ℕ} {p v a
               few = omega (arith, new .few, s .hangs .few, more);
             };
           }
+
+-- where the part is the root's, it begins the buffer
+pub covers : {m : List ℕ} {t : List (List ℕ)} {out lens out' lens' : List ℕ} {r n : ℕ} → Written m t out lens out' lens' 0 r 0 0 n → Covers m t r out' n
+covers w = record { outs = w .outs; behind = w .behind; whole = w .whole; count = omega (arith, w .count) }

@@ -154,3 +154,24 @@ pub record Hangs (m : List ℕ) (t : List (List ℕ)) (s lens s' lens' : List �
   pub kept : (i : ℕ) → i < at → getD lens' i 0 ≡ getD lens i 0
   pub count : n ≡ sum (map (compared m t v) ws)
   pub few : n ≤ size * size * length (flatten (map (ordered m t v) ws))
+
+-- what hangs at the root, in its order, begins s; n pairs were looked at
+pub record Covers (m : List ℕ) (t : List (List ℕ)) (root : ℕ) (s : List ℕ) (n : ℕ) : Type 0 where
+  pub outs : length s ≡ size
+  pub behind : List ℕ
+  pub whole : s ≡ ordered m t 0 root ++ behind
+  pub count : n ≡ compared m t 0 root
+
+-- ---- digits as marks
+
+-- the number of v's neighbours, by the table
+abbrev pub deg : List ℕ → ℕ → ℕ
+deg d v = getD d (v - 1) 0
+
+-- x is the digit of v where r is the root
+abbrev pub IsDigit : List ℕ → ℕ → ℕ → ℕ → Type 0
+IsDigit d r v x = (v ≡ r → x ≡ deg d v) × ((v ≡ r → ⊥) → x ≡ deg d v - 1)
+
+-- s has the digit of each of the vertices up to n
+abbrev pub Fills : List ℕ → ℕ → ℕ → List ℕ → Type 0
+Fills d r n s = (v : ℕ) → 1 ≤ v → v ≤ n → IsDigit d r v (getD s v 0)

@@ -9,9 +9,10 @@ ghost use mathlib.Core.List.{List, _++_, map, flatten};
 ghost use Prim.Native.Nat.{ℕ, _+_, _-_, _*_, _≤_, _<_};
 ghost use lib.ListN.{length, getD, set, take, drop};
 ghost use Rattle.laws.specs.Part.{part};
+ghost use Rattle.laws.specs.Laid.{laidOver};
 ghost use Rattle.code.specs.Code.{sum};
 ghost use Rattle.code.specs.Limits.{size, valence};
-ghost use Rattle.ordering.specs.Ordered.{marked, markOf, row, cell, kids, ordered, compared, Rows, Stands, Heads, Stand, Standing, Spot, met, Exchanged, Waits, Waiting, Settles, endOf, Arranges, Several, Hangs};
+ghost use Rattle.ordering.specs.Ordered.{marked, markOf, row, cell, kids, ordered, compared, Rows, Stands, Heads, Stand, Standing, Spot, met, Exchanged, Waits, Waiting, Settles, endOf, Arranges, Several, Hangs, Covers, IsDigit, Fills};
 
 // The answer of a comparison, and how many pairs were looked at.
 struct Compared {
@@ -281,4 +282,63 @@ fn order(
         }
     }
     looked
+}
+
+// Writes what hangs at `root`, which has no parent, in its order from the start of the buffer. Returns how many pairs were looked at.
+fn cover(
+    rows: &[[u8; WIDTH]; SIZE],
+    marks: &[u8; BYTES],
+    root: usize,
+    out: &mut [u8; SIZE],
+) -> usize
+    requires { ⌜ Rows (now rows) root ⌝ }
+    requires { ⌜ (length (now out) ≡ size) × (length (ordered (now marks) (now rows) 0 root) ≤ size) ⌝ }
+    ensures { λ r. ⌜ Covers (now (marks .entry)) (now (rows .entry)) root (now (out .exit)) r ⌝ }
+{
+    let mut lens = [0u8; SIZE];
+    lay(out, &mut lens, 0, root);
+    let looked = order(rows, marks, out, &mut lens, 0, 0);
+    if several(&lens, 0) {
+        return looked + arrange(marks, out, &mut lens, 0);
+    }
+    looked
+}
+
+// The digit of v where `root` is the root: its neighbours, and but for the root all but one.
+fn digit(degs: &[u8; SIZE], root: usize, v: usize) -> u8
+    requires { ⌜ (1 ≤ v) × (v ≤ size) ⌝ }
+    ensures { λ r. ⌜ IsDigit (now (degs .entry)) root v r ⌝ }
+{
+    let k = degs[v - 1];
+    if v == root {
+        return k;
+    }
+    if k == 0 {
+        return 0;
+    }
+    k - 1
+}
+
+// Writes the digit of each vertex at its number.
+fn fill(degs: &[u8; SIZE], n: usize, root: usize, marks: &mut [u8])
+    requires { ⌜ (n ≤ size) × (n < length (now marks)) ⌝ }
+    ensures { λ _. ⌜ Fills (now (degs .entry)) root n (now (marks .exit)) ⌝ }
+{
+    let mut v = 0;
+    while v < n {
+        v += 1;
+        marks[v] = digit(degs, root, v);
+    }
+}
+
+// Writes the mark of each of `s` from the start of `out`.
+fn read(marks: &[u8; BYTES], s: &[u8], out: &mut [u8])
+    requires { ⌜ length (now s) ≤ length (now out) ⌝ }
+    ensures { λ _. ⌜ now (out .exit) ≡ laidOver (marked (now (marks .entry)) (now (s .entry))) (now (out .entry)) ⌝ }
+{
+    let mut i = 0;
+    while i < s.len() {
+        out[i] = mark(marks, s[i]);
+        i += 1;
+    }
 }
