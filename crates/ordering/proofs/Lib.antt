@@ -8,3 +8,5 @@ pub mod Arranging
 pub mod Depth
 pub mod Kids
 pub mod Turns
+pub mod Neighbours
+pub mod Tables

@@ -14,6 +14,9 @@ use lib.ListN.{length, getD, take}
 use Rattle.laws.specs.Order.{_≽_}
 use Rattle.code.specs.Code.{sum}
 use Rattle.code.specs.Limits.{size, valence}
+use Rattle.tree.specs.Skeleton as tree
+use Rattle.tree.specs.Base.{base}
+use Rattle.numbering.specs.Numbers as numbers
 use Rattle.numbering.specs.Order.{place, looked, pairs, sortBy, orderBy, pairsBy}
 
 -- ---- the order by the table
@@ -175,3 +178,11 @@ IsDigit d r v x = (v ≡ r → x ≡ deg d v) × ((v ≡ r → ⊥) → x ≡ de
 -- s has the digit of each of the vertices up to n
 abbrev pub Fills : List ℕ → ℕ → ℕ → List ℕ → Type 0
 Fills d r n s = (v : ℕ) → 1 ≤ v → v ≤ n → IsDigit d r v (getD s v 0)
+
+-- ---- what the public functions are held to
+
+-- the first N of s are the vertices of the tree E in the order of its rooted code at r, their marks are that code, and n pairs were looked at
+pub record Placed (N : ℕ) (E : List ℕ) (r : ℕ) (m s : List ℕ) (n : ℕ) : Type 0 where
+  pub order : take N s ≡ numbers.order N E r
+  pub code : marked m (take N s) ≡ tree.rooted N E r
+  pub count : n ≡ numbers.pairsₗ base (λ v. tt) N E r

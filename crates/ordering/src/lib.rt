@@ -12,7 +12,11 @@ ghost use Rattle.laws.specs.Part.{part};
 ghost use Rattle.laws.specs.Laid.{laidOver};
 ghost use Rattle.code.specs.Code.{sum};
 ghost use Rattle.code.specs.Limits.{size, valence};
-ghost use Rattle.ordering.specs.Ordered.{marked, markOf, row, cell, kids, ordered, compared, Rows, Stands, Heads, Stand, Standing, Spot, met, Exchanged, Waits, Waiting, Settles, endOf, Arranges, Several, Hangs, Covers, IsDigit, Fills};
+ghost use Rattle.tree.specs.Skeleton as tree;
+ghost use Rattle.tree.specs.Base.{base};
+ghost use Rattle.skeleton.specs.Table.{IsTable, Held};
+ghost use Rattle.numbering.specs.Numbers as numbers;
+ghost use Rattle.ordering.specs.Ordered.{marked, markOf, row, cell, kids, ordered, compared, Rows, Stands, Heads, Stand, Standing, Spot, met, Exchanged, Waits, Waiting, Settles, endOf, Arranges, Several, Hangs, Covers, IsDigit, Fills, Placed};
 
 // The answer of a comparison, and how many pairs were looked at.
 struct Compared {
@@ -341,4 +345,64 @@ fn read(marks: &[u8; BYTES], s: &[u8], out: &mut [u8])
         out[i] = mark(marks, s[i]);
         i += 1;
     }
+}
+
+// Fills in the digits as marks, and writes the vertices in the order of the rooted code at `root` from the start of the buffer.
+fn vertices(
+    rows: &[[u8; WIDTH]; SIZE],
+    degs: &[u8; SIZE],
+    n: usize,
+    root: usize,
+    marks: &mut [u8; BYTES],
+    buffer: &mut [u8; SIZE],
+) -> usize
+    requires { ⌜ Held n (now rows) (now degs) ⌝ }
+    requires { ⌜ (1 ≤ root) × (root ≤ n) × (size < length (now marks)) × (length (now buffer) ≡ size) ⌝ }
+    ensures { λ r. ⌜ length (now (buffer .exit)) ≡ size ⌝ }
+    ensures { λ r. ⌜ ((E : List ℕ) → tree.IsTree n E → IsTable n E (now (rows .entry)) (now (degs .entry))
+        → Placed n E root (now (marks .exit)) (now (buffer .exit)) r) ⌝ }
+{
+    fill(degs, n, root, marks);
+    cover(rows, marks, root, buffer)
+}
+
+// Writes the vertices of the skeleton of n vertices whose table is given, in the order of the digits of its rooted code at `root`. Returns
+// how many pairs of digits were looked at, where every two siblings were compared once.
+pub fn numbering(
+    rows: &[[u8; WIDTH]; SIZE],
+    degs: &[u8; SIZE],
+    n: usize,
+    root: usize,
+    out: &mut [u8],
+) -> usize
+    requires { ⌜ Held n (now rows) (now degs) ⌝ }
+    requires { ⌜ (1 ≤ root) × (root ≤ n) × (n ≤ length (now out)) ⌝ }
+    ensures { λ r. ⌜ ((E : List ℕ) → tree.IsTree n E → IsTable n E (now (rows .entry)) (now (degs .entry))
+        → (now (out .exit) ≡ laidOver (numbers.order n E root) (now (out .entry))) × (r ≡ numbers.pairsₗ base (λ v. tt) n E root)) ⌝ }
+{
+    let mut marks = [0u8; BYTES];
+    let mut buffer = [0u8; SIZE];
+    let looked = vertices(rows, degs, n, root, &mut marks, &mut buffer);
+    bytes::copy(&buffer[..n], out);
+    looked
+}
+
+// Writes the rooted code at `root` of the skeleton of n vertices whose table is given. Returns the same number.
+pub fn rooted(
+    rows: &[[u8; WIDTH]; SIZE],
+    degs: &[u8; SIZE],
+    n: usize,
+    root: usize,
+    out: &mut [u8],
+) -> usize
+    requires { ⌜ Held n (now rows) (now degs) ⌝ }
+    requires { ⌜ (1 ≤ root) × (root ≤ n) × (n ≤ length (now out)) ⌝ }
+    ensures { λ r. ⌜ ((E : List ℕ) → tree.IsTree n E → IsTable n E (now (rows .entry)) (now (degs .entry))
+        → (now (out .exit) ≡ laidOver (tree.rooted n E root) (now (out .entry))) × (r ≡ numbers.pairsₗ base (λ v. tt) n E root)) ⌝ }
+{
+    let mut marks = [0u8; BYTES];
+    let mut buffer = [0u8; SIZE];
+    let looked = vertices(rows, degs, n, root, &mut marks, &mut buffer);
+    read(&marks, &buffer[..n], out);
+    looked
 }

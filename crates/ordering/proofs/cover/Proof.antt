@@ -45,7 +45,7 @@ cover-spec =
     let o = c .before .before .before .before .before .before in
     let y = o .before .before .before in
     let (outs, long, few) = c .arrange .ensures .0 in
-    covers (arranged (spot (y .before .before .before)) (y .lay .ensures .0) (y .lay .ensures .1) (o .order .ensures) refl outs long few (c .arrange .ensures .1 .0) (c .arrange .ensures .1 .1) (omega arith)))
+    covers {lens' = c .arrange .last .1 .1 .0} (arranged (spot (y .before .before .before)) (y .lay .ensures .0) (y .lay .ensures .1) (o .order .ensures) refl outs long few (c .arrange .ensures .1 .0) (c .arrange .ensures .1 .1) (omega arith)))
     (λ c.
     let o = c .before .before .before in
     let y = o .before .before .before in
