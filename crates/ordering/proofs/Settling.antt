@@ -34,7 +34,7 @@ at-third p x y n i e =
     ∙ ap (λ k. getD ((p ++ x) ++ y) (k + i) 0) (e ∙ sym (length-append p x))
     ∙ getD-append-add (p ++ x) y i 0
 
-at-second : (p x y : List ℕ) (n i : ℕ) → n ≡ length p → i < length x → getD (p ++ (x ++ y)) (n + i) 0 ≡ getD x i 0
+pub at-second : (p x y : List ℕ) (n i : ℕ) → n ≡ length p → i < length x → getD (p ++ (x ++ y)) (n + i) 0 ≡ getD x i 0
 at-second p x y n i e h = ap (λ k. getD (p ++ (x ++ y)) (k + i) 0) e ∙ getD-append-add p (x ++ y) i 0 ∙ List·getD-append x y 0 i h
 
 module _ (p x y z : List ℕ) (a m b : ℕ) (lp : length p ≡ a) (lx : a + length x ≡ m) (ly : m + length y ≡ b) where

@@ -16,7 +16,7 @@ ghost use Rattle.tree.specs.Skeleton as tree;
 ghost use Rattle.tree.specs.Base.{base};
 ghost use Rattle.skeleton.specs.Table.{IsTable, Held};
 ghost use Rattle.numbering.specs.Numbers as numbers;
-ghost use Rattle.ordering.specs.Ordered.{marked, markOf, row, cell, kids, ordered, compared, Rows, Stands, Heads, Stand, Standing, Spot, met, Exchanged, Waits, Waiting, Settles, endOf, Arranges, Several, Hangs, Covers, IsDigit, Fills, Placed};
+ghost use Rattle.ordering.specs.Ordered.{marked, markOf, row, cell, kids, ordered, compared, Rows, Stands, Heads, Stand, Standing, Spot, met, Exchanged, Waits, Waiting, Settles, endOf, Arranges, Several, Hangs, Covers, Fills, Placed};
 
 // The answer of a comparison, and how many pairs were looked at.
 struct Compared {
@@ -308,31 +308,34 @@ fn cover(
     looked
 }
 
-// The digit of v where `root` is the root: its neighbours, and but for the root all but one.
-fn digit(degs: &[u8; SIZE], root: usize, v: usize) -> u8
-    requires { ⌜ (1 ≤ v) × (v ≤ size) ⌝ }
-    ensures { λ r. ⌜ IsDigit (now (degs .entry)) root v r ⌝ }
+fn less(k: u8) -> u8
+    ensures { λ r. ⌜ r ≡ k - 1 ⌝ }
 {
-    let k = degs[v - 1];
-    if v == root {
-        return k;
-    }
     if k == 0 {
         return 0;
     }
     k - 1
 }
 
-// Writes the digit of each vertex at its number.
+// Makes each number one less. 0 stays.
+fn lower(s: &mut [u8])
+    ensures { λ _. ⌜ ((i : ℕ) → i < length (now (s .entry)) → getD (now (s .exit)) i 0 ≡ getD (now (s .entry)) i 0 - 1) ⌝ }
+{
+    let mut i = 0;
+    while i < s.len() {
+        s[i] = less(s[i]);
+        i += 1;
+    }
+}
+
+// Writes the digit of each vertex at its number: how many neighbours it has, and but for the root all but one.
 fn fill(degs: &[u8; SIZE], n: usize, root: usize, marks: &mut [u8])
-    requires { ⌜ (n ≤ size) × (n < length (now marks)) ⌝ }
+    requires { ⌜ (1 ≤ root) × (root ≤ n) × (n ≤ size) × (n < length (now marks)) × (length (now degs) ≡ size) ⌝ }
     ensures { λ _. ⌜ Fills (now (degs .entry)) root n (now (marks .exit)) ⌝ }
 {
-    let mut v = 0;
-    while v < n {
-        v += 1;
-        marks[v] = digit(degs, root, v);
-    }
+    transfer(degs, 0, n, marks, 1);
+    lower(marks);
+    marks[root] = degs[root - 1];
 }
 
 // Writes the mark of each of `s` from the start of `out`.

@@ -1,6 +1,5 @@
 -- `ordering::vertices` meets its contract. Assumes nothing.
 use native.Mathlib.Omega.{arith}
-use borrow.Author.Needs.{needs}
 use Rattle.ordering.proofs.Tables.{root-rows, root-length, placed}
 use Rattle.ordering.proofs.vertices.Statement.{statement}
 use Rattle.ordering.proofs.vertices.Tie as tie
@@ -9,7 +8,10 @@ pub vertices-spec : {M : Type 1} → statement M
 vertices-spec =
     tie.close
     (tie.spec
-    (λ c κs. search needs)
+    (λ c κs.
+    let s = c .before in
+    let (low, high, room, long) = s .pre .1 in
+    (low, high, s .pre .0 .skeleton .few, omega (arith, s .pre .0 .skeleton .few), s .pre .0 .table .shaped .degs))
     (λ c κs.
     let f = c .before .before in
     let s = f .before .before in
