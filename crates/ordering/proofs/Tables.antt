@@ -9,7 +9,7 @@ use native.Mathlib.Omega.{arith}
 use lib.ListN.{length, getD, take, drop}
 use lib.Seq.{take-at}
 use Rattle.laws.specs.Places.{at-in}
-use Rattle.limits.specs.Limits.{size, valence}
+use Rattle.limits.specs.Limits.{size, width}
 use Rattle.tree.specs.Skeleton.{arcs, neighbours, degree, Degrees, IsTree, children, rooted}
 use Rattle.tree.specs.Base.{base, rooted-base}
 use Rattle.tree.specs.Grow.{rooted-tree}
@@ -39,12 +39,12 @@ member-length : {A : Type 0} {x : A} {l : List A} → List·Memᴰ x l → 0 < l
 member-length {l = []} m = absurd (List·Memᴰ·not-nil m)
 member-length {l = y ∷ l} m = omega arith
 
-module _ {N : ℕ} {E : List ℕ} {t : List (List ℕ)} {d : List ℕ} (tree : IsTree N E) (b : IsTable N E t d) (l : N ≤ size) (g : Degrees valence N E) where
+module _ {N : ℕ} {E : List ℕ} {t : List (List ℕ)} {d : List ℕ} (tree : IsTree N E) (b : IsTable N E t d) (l : N ≤ size) (g : Degrees width N E) where
   -- the row of v
-  long : (v : ℕ) → 1 ≤ v → v ≤ N → length (row t v) ≡ valence
+  long : (v : ℕ) → 1 ≤ v → v ≤ N → length (row t v) ≡ width
   long v h k = b .shaped .wide (v - 1) (omega arith)
 
-  few : (v : ℕ) → 1 ≤ v → v ≤ N → degree E v ≤ valence
+  few : (v : ℕ) → 1 ≤ v → v ≤ N → degree E v ≤ width
   unfolding Degrees
   few v h k = g v h k
 
@@ -55,13 +55,13 @@ module _ {N : ℕ} {E : List ℕ} {t : List (List ℕ)} {d : List ℕ} (tree : I
       let e = b .row v j h k i in
       (omega (arith, a .0), omega (arith, a .1))
 
-  past-columns : (v j : ℕ) → 1 ≤ v → v ≤ N → degree E v ≤ j → j < valence → cell t v j ≡ 0
+  past-columns : (v j : ℕ) → 1 ≤ v → v ≤ N → degree E v ≤ j → j < width → cell t v j ≡ 0
   past-columns v j h k i m = b .rest (v - 1) j (omega arith) (omega (arith, b .degs v h k)) m
 
   row-is : (v : ℕ) → 1 ≤ v → v ≤ N → filled (row t v) ≡ neighbours (arcs E) v
   unfolding degree
   row-is v h k =
-      let f : degree E v ≤ valence = few v h k in
+      let f : degree E v ≤ width = few v h k in
       let n = long v h k in
       filled-is (row t v) (neighbours (arcs E) v) (omega arith) (λ j i. b .row v j h k i) (λ j i. omega (arith, at-column v j h k i, b .row v j h k i)) (λ j i m. past-columns v j h k i (omega arith))
 
@@ -82,7 +82,7 @@ module _ {N : ℕ} {E : List ℕ} {t : List (List ℕ)} {d : List ℕ} (tree : I
     back = λ u j i o m s z. returned u j i o m s z (decLt j (degree E u));
   }
     where
-      step : (u j : ℕ) → 1 ≤ u → u ≤ N → j < valence → Dec (j < degree E u) → cell t u j ≤ N
+      step : (u j : ℕ) → 1 ≤ u → u ≤ N → j < width → Dec (j < degree E u) → cell t u j ≤ N
       step u j i o m (yes q) = at-column u j i o q .1
       step u j i o m (no q) = omega (arith, past-columns u j i o (omega arith) m)
 
@@ -90,7 +90,7 @@ module _ {N : ℕ} {E : List ℕ} {t : List (List ℕ)} {d : List ℕ} (tree : I
       alone w i o z (yes q) = let y : ⊥ = omega (arith, at-column w 1 i o q) in absurd y
       alone w i o z (no q) = omega arith
 
-      returned : (u j : ℕ) → 1 ≤ u → u ≤ N → j < valence → 1 ≤ cell t u j → cell t (cell t u j) 1 ≡ 0 → Dec (j < degree E u) → cell t (cell t u j) 0 ≡ u
+      returned : (u j : ℕ) → 1 ≤ u → u ≤ N → j < width → 1 ≤ cell t u j → cell t (cell t u j) 1 ≡ 0 → Dec (j < degree E u) → cell t (cell t u j) 0 ≡ u
       returned u j i o m s z (no q) = let y : ⊥ = omega (arith, past-columns u j i o (omega arith) m) in absurd y
       returned u j i o m s z (yes q) =
           let w = cell t u j in
@@ -106,7 +106,7 @@ module _ {N : ℕ} {E : List ℕ} {t : List (List ℕ)} {d : List ℕ} (tree : I
 abbrev alike : ℕ → base .Label
 alike v = tt
 
-module _ {N : ℕ} {E : List ℕ} {t : List (List ℕ)} {d : List ℕ} {r : ℕ} (s : List ℕ) (tree : IsTree N E) (b : IsTable N E t d) (l : N ≤ size) (g : Degrees valence N E) (h : 1 ≤ r) (k : r ≤ N)
+module _ {N : ℕ} {E : List ℕ} {t : List (List ℕ)} {d : List ℕ} {r : ℕ} (s : List ℕ) (tree : IsTree N E) (b : IsTable N E t d) (l : N ≤ size) (g : Degrees width N E) (h : 1 ≤ r) (k : r ≤ N)
     (f : Fills d r N s) where
   reads-table : Reads base alike N E r (markOf s) (kids t)
   reads-table = record {
@@ -144,7 +144,7 @@ module _ {N : ℕ} {E : List ℕ} {t : List (List ℕ)} {d : List ℕ} {r : ℕ}
 -- ---- what is written
 
 -- another list with the same table has as few neighbours
-degrees-of : {N : ℕ} {E : List ℕ} {t : List (List ℕ)} {d : List ℕ} → Held N t d → IsTable N E t d → Degrees valence N E
+degrees-of : {N : ℕ} {E : List ℕ} {t : List (List ℕ)} {d : List ℕ} → Held N t d → IsTable N E t d → Degrees width N E
 unfolding Degrees
 degrees-of s b v h k = omega (arith, b .degs v h k, s .table .degs v h k, s .skeleton .degrees v h k)
 

@@ -13,7 +13,7 @@ use lib.ListN.{length, getD, set, take, drop, length-append, length-set, take-ap
 use lib.Seq.{take-at, take-suc-set, take-set-le, length-take-le, getD-take, getD-set-same, getD-set-other}
 use Rattle.code.specs.Code.{sum}
 use Rattle.code.specs.Counting.{sum-append}
-use Rattle.limits.specs.Limits.{size, valence}
+use Rattle.limits.specs.Limits.{size, width}
 use Rattle.numbering.specs.Order.{pairs, sortBy, insertBy}
 use Rattle.ordering.specs.Ordered.{marked, row, cell, kids, ordered, compared, Rows, Heads, Stand, Standing, endOf, Arranges, Several, Hangs, Covers}
 use Rattle.ordering.proofs.Standing.{flatten-one, length-one, length-both, length-first, empty, heads-join, heads-move}
@@ -33,7 +33,7 @@ pub record Call (m : List ℕ) (t : List (List ℕ)) (out lens : List ℕ) (p v 
 pub record Sofar (m : List ℕ) (t : List (List ℕ)) (p : ℕ) (out₀ lens₀ out lens : List ℕ) (v at j n : ℕ) : Type 0 where
   pub done : List ℕ
   pub split : kids t p v ≡ done ++ rest p (row t v) j
-  pub turns : j ≤ valence
+  pub turns : j ≤ width
   pub hangs : Hangs m t out₀ lens₀ out lens v at done n
 
 module _ {m : List ℕ} {t : List (List ℕ)} {out₀ lens₀ : List ℕ} {p v at : ℕ} (c : Call m t out₀ lens₀ p v at) where
@@ -44,7 +44,7 @@ module _ {m : List ℕ} {t : List (List ℕ)} {out₀ lens₀ : List ℕ} {p v a
   pub below : at < size
   below = omega (arith, total)
 
-  wide-row : length (row t v) ≡ valence
+  wide-row : length (row t v) ≡ width
   wide-row = c .rows .wide v (c .rows .some) (c .rows .inside)
 
   pub start : Sofar m t p out₀ lens₀ out₀ lens₀ v at 0 0
@@ -77,14 +77,14 @@ module _ {m : List ℕ} {t : List (List ℕ)} {out₀ lens₀ : List ℕ} {p v a
     finish : rest p (row t v) j ≡ [] → Hangs m t out₀ lens₀ out lens v at (kids t p v) n
     finish e = subst (λ ws. Hangs m t out₀ lens₀ out lens v at ws n) (sym (s .split ∙ ap (λ l. s .done ++ l) e ∙ append-nil (s .done))) (s .hangs)
 
-    pub at-zero : j < valence → {w : ℕ} → w ≡ cell t v j → w ≡ 0 → Hangs m t out₀ lens₀ out lens v at (kids t p v) n
+    pub at-zero : j < width → {w : ℕ} → w ≡ cell t v j → w ≡ 0 → Hangs m t out₀ lens₀ out lens v at (kids t p v) n
     at-zero h is z = finish (zero-ends p (row t v) j (omega (arith, wide-row)) (sym is ∙ z))
 
-    pub at-end : valence ≤ j → Hangs m t out₀ lens₀ out lens v at (kids t p v) n
+    pub at-end : width ≤ j → Hangs m t out₀ lens₀ out lens v at (kids t p v) n
     at-end h = finish (row-ends p (row t v) j (omega (arith, wide-row)))
 
     -- the next number of the row is a vertex
-    module _ (h : j < valence) {w : ℕ} (is : w ≡ cell t v j) (n0 : w ≡ 0 → ⊥) where
+    module _ (h : j < width) {w : ℕ} (is : w ≡ cell t v j) (n0 : w ≡ 0 → ⊥) where
       not-zero : getD (row t v) j 0 ≡ 0 → ⊥
       not-zero e = n0 (is ∙ e)
 
@@ -285,7 +285,7 @@ module _ {m : List ℕ} {t : List (List ℕ)} {out lens : List ℕ} {v w at : �
           (record { whole = g .whole ∙ ap (λ l. take (at + 1) out1 ++ (flatten l ++ g .behind)) (sym o); count = sym k }) (omega arith)
 
 module _ {m : List ℕ} {t : List (List ℕ)} {out₀ lens₀ : List ℕ} {p v at : ℕ} (c : Call m t out₀ lens₀ p v at) {out lens : List ℕ} {j n : ℕ} (s : Sofar m t p out₀ lens₀ out lens v at j n)
-    (h : j < valence) {w : ℕ} (is : w ≡ cell t v j) (n0 : w ≡ 0 → ⊥) where
+    (h : j < width) {w : ℕ} (is : w ≡ cell t v j) (n0 : w ≡ 0 → ⊥) where
   -- a neighbour without a second one is a leaf
   pub leafy : {u : ℕ} → u ≡ v → cell t w 1 ≡ 0 → kids t u w ≡ []
   unfolding kids

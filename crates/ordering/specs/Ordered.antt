@@ -13,7 +13,7 @@ use native.Mathlib.Decide.{ℕ-discrete}
 use lib.ListN.{length, getD, take}
 use Rattle.laws.specs.Order.{_≽_}
 use Rattle.code.specs.Code.{sum}
-use Rattle.limits.specs.Limits.{size, valence}
+use Rattle.limits.specs.Limits.{size, width}
 use Rattle.tree.specs.Skeleton as tree
 use Rattle.tree.specs.Base.{base}
 use Rattle.numbering.specs.Numbers as numbers
@@ -61,9 +61,9 @@ pub record Rows (t : List (List ℕ)) (v : ℕ) : Type 0 where
   pub few : number ≤ size
   pub some : 1 ≤ v
   pub inside : v ≤ number
-  pub wide : (u : ℕ) → 1 ≤ u → u ≤ number → length (row t u) ≡ valence
-  pub within : (u j : ℕ) → 1 ≤ u → u ≤ number → j < valence → cell t u j ≤ number
-  pub back : (u j : ℕ) → 1 ≤ u → u ≤ number → j < valence → 1 ≤ cell t u j → cell t (cell t u j) 1 ≡ 0 → cell t (cell t u j) 0 ≡ u
+  pub wide : (u : ℕ) → 1 ≤ u → u ≤ number → length (row t u) ≡ width
+  pub within : (u j : ℕ) → 1 ≤ u → u ≤ number → j < width → cell t u j ≤ number
+  pub back : (u j : ℕ) → 1 ≤ u → u ≤ number → j < width → 1 ≤ cell t u j → cell t (cell t u j) 1 ≡ 0 → cell t (cell t u j) 0 ≡ u
 
 -- ---- comparing
 

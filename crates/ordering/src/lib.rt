@@ -11,7 +11,7 @@ ghost use lib.ListN.{length, getD, set, take, drop};
 ghost use Rattle.laws.specs.Part.{part};
 ghost use Rattle.laws.specs.Laid.{laidOver};
 ghost use Rattle.code.specs.Code.{sum};
-ghost use Rattle.limits.specs.Limits.{size, valence};
+ghost use Rattle.limits.specs.Limits.{size, width};
 ghost use Rattle.tree.specs.Skeleton as tree;
 ghost use Rattle.tree.specs.Base.{base};
 ghost use Rattle.skeleton.specs.Table.{IsTable, Held};
@@ -205,7 +205,7 @@ fn vertex(out: &[u8; SIZE], at: usize) -> usize
 
 // What stands in column j of the row of v.
 fn neighbour(rows: &[[u8; WIDTH]; SIZE], v: usize, j: usize) -> usize
-    requires { ⌜ (1 ≤ v) × (v ≤ size) × (j < valence) ⌝ }
+    requires { ⌜ (1 ≤ v) × (v ≤ size) × (j < width) ⌝ }
     ensures { λ r. ⌜ r ≡ cell (now (rows .entry)) v j ⌝ }
 {
     wide(rows[v - 1][j])

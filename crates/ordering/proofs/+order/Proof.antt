@@ -6,7 +6,7 @@ use native.Mathlib.Omega.{arith}
 use lib.ListN.{getD}
 use borrow.Fn.Kinds.{In}
 use borrow.Fn.PlainCycle.{Measures, is, falls, and}
-use Rattle.limits.specs.Limits.{size, valence}
+use Rattle.limits.specs.Limits.{size, width}
 use Rattle.ordering.specs.Ordered.{cell, Standing, endOf, Several}
 use Rattle.ordering.proofs.Turns.{Call, Sofar, below, start, still, at-zero, at-end, skip, inside, Written, same-written, Room, within, leaf, calls, kept-called, ends, standing, arranged, left-alone, leafy, roomy, where-ends, extends, taken}
 use Rattle.ordering.proofs.order.Reads as order
@@ -35,7 +35,7 @@ abbrev order-Inv-loop : order-lts.InvT-loop
 order-Inv-loop rows marks out₀ lens₀ parent at looked₀ j₀ out lens looked j = Sofar marks rows parent out₀ lens₀ out lens (getD out₀ at 0) at j looked
 
 abbrev order-μ-loop : order-lts.MeasureT-loop
-order-μ-loop rows marks out₀ lens₀ parent at looked₀ j₀ out lens looked j = valence - j
+order-μ-loop rows marks out₀ lens₀ parent at looked₀ j₀ out lens looked j = width - j
 
 -- the callees' readings below the measure t
 abbrev Callees : ℕ → order-lts.Claims

@@ -1,2 +1,0 @@
--- What the coder's contracts cite. Assumes nothing.
-pub mod Coded
