@@ -9,7 +9,7 @@ use Rattle.answers.proofs.first.Tie as tie
 
 returns : tie.Need-returns
 returns c =
-    let r = line-read size (digitTable (c .before .before .args .limit)) (omega arith) (c .before .read-line .ensures) in
+    let r = line-read size (digitTable (c .before .before .before .before .args .limit)) (omega arith) (c .before .read-line .ensures) in
     record { answer = r .answer; line = r .line; tells = r .told }
 
 pub first-spec : {M : Type 1} → statement M
