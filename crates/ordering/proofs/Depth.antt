@@ -6,7 +6,7 @@ use native.Mathlib.Omega.{arith}
 use lib.ListN.{length}
 use Rattle.code.specs.Code.{sum}
 use Rattle.code.specs.Limits.{size}
-use Rattle.numbering.specs.Order.{pairs, sortBy, insertBy, orderBy, pairsBy}
+use Rattle.numbering.specs.Order.{pairs, sortBy, orderBy, pairsBy}
 use Rattle.numbering.specs.Sorted.{sorted-length}
 use Rattle.ordering.specs.Ordered.{markOf, marked, kids, ordered, compared}
 use Rattle.ordering.proofs.Standing.{length-first}
