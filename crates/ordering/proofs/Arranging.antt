@@ -3,15 +3,14 @@
 use mathlib.Core.Path.{_≡_, refl, sym, ap, ap₂, subst, _∙_}
 use mathlib.Core.Logic.{inl, inr}
 use mathlib.Core.List.{List, [], _∷_, _++_, append-assoc, append-nil, flatten, map, map-append, map-map}
-use Prim.Native.Nat.{ℕ, suc, _+_, _*_, _≤_, _<_}
-use native.Mathlib.Nat.{add-zero}
+use Prim.Native.Nat.{ℕ, _+_, _*_, _≤_, _<_}
 use native.Mathlib.Omega.{arith}
-use lib.ListN.{length, getD, length-append}
+use lib.ListN.{length, getD}
 use Rattle.code.specs.Code.{sum}
 use Rattle.limits.specs.Limits.{size}
 use Rattle.numbering.specs.Order.{looked, pairs, insertBy, sortBy, place}
 use Rattle.numbering.specs.Sorted.{sort-more, sum-sorted, sorted-length, pairs-more}
-use Rattle.ordering.specs.Ordered.{Heads, Stand, Standing, met, Waits, Waiting, Settles, Arranges, endOf}
+use Rattle.ordering.specs.Ordered.{Heads, Stand, Standing, met, Waits, Waiting, Settles, Arranges}
 use Rattle.ordering.proofs.Standing.{length-both, length-first, First, first-of, empty, heads-move}
 
 -- one more is compared with all before it
@@ -44,7 +43,7 @@ module _ (k : List ℕ → List ℕ) {out lens : List ℕ} {f e : ℕ} {p : List
       (omega (arith, heads-one .0, heads-one .1), omega (arith, heads-one .0, t .ends))
 
   -- the first part stands sorted by itself
-  pub first-sorts : Sorts k out lens f (f + getD lens f 0) 0 p L q
+  first-sorts : Sorts k out lens f (f + getD lens f 0) 0 p L q
   unfolding sortBy insertBy pairs sum flatten
   first-sorts = record {
     done = one .first ∷ [];
@@ -65,7 +64,7 @@ module _ {k : List ℕ → List ℕ} {out lens : List ℕ} {f e m n : ℕ} {p : 
   left = omega (arith, g .stand .ends, sorted-length k (g .done), ap (λ l. length (flatten l)) (g .parts), length-both (g .done) (g .rest))
 
   -- none is left
-  pub all-sorted : e ≤ m → (out ≡ p ++ (flatten (sortBy k L) ++ q)) × (n ≡ pairs (map k L))
+  all-sorted : e ≤ m → (out ≡ p ++ (flatten (sortBy k L) ++ q)) × (n ≡ pairs (map k L))
   unfolding flatten
   all-sorted h =
       let none = empty lens m (g .rest) (omega (arith, left)) (g .heads) in
@@ -79,7 +78,7 @@ module _ {k : List ℕ → List ℕ} {out lens : List ℕ} {f e m n : ℕ} {p : 
     heads-next : Heads lens m (next .first ∷ next .others)
     heads-next = subst (Heads lens m) (next .is) (g .heads)
 
-    pub next-ends : (1 ≤ getD lens m 0) × (m + getD lens m 0 ≤ e)
+    next-ends : (1 ≤ getD lens m 0) × (m + getD lens m 0 ≤ e)
     next-ends =
         let l = ap (λ l. length (flatten l)) (next .is) ∙ length-first (next .first) (next .others) in
         (omega (arith, heads-next .0, heads-next .1), omega (arith, heads-next .0, left))
@@ -97,11 +96,11 @@ module _ {k : List ℕ → List ℕ} {out lens : List ℕ} {f e m n : ℕ} {p : 
       some = heads-next .1;
     }
 
-    pub waiting : Waiting out lens f m
+    waiting : Waiting out lens f m
     waiting = record { before = p; parts = sortBy k (g .done); one = next .first; behind = flatten (next .others) ++ q; is = waits }
 
     -- it is settled among them
-    pub settles : {out' lens' : List ℕ} {b i : ℕ} → b ≡ m + getD lens m 0
+    settles : {out' lens' : List ℕ} {b i : ℕ} → b ≡ m + getD lens m 0
         → ((p : List ℕ) (L : List (List ℕ)) (c q : List ℕ) → Waits out lens f m p L c q → Settles k lens out' lens' f m p L c q i) → Sorts k out' lens' f b (n + i) p L q
     settles {out'} {lens'} {b} {i} eb all =
         let s = all p (sortBy k (g .done)) (next .first) (flatten (next .others) ++ q) waits in

@@ -1,9 +1,9 @@
 -- Two parts compared by their marks, pair by pair: what holds while the pairs are equal (`Agree`), and what each way out tells of the
 -- whole. Assumes nothing.
 use mathlib.Core.Path.{_≡_, refl, sym, ap, ap₂, subst, _∙_}
-use mathlib.Core.Logic.{inl, inr, ite, if-pos, if-neg, ⊎-elim}
+use mathlib.Core.Logic.{inl, inr, if-pos, if-neg, ⊎-elim}
 use mathlib.Core.Bool.{Bool, true, false}
-use mathlib.Core.List.{List, [], _∷_, map}
+use mathlib.Core.List.{List, [], _∷_}
 use Prim.Native.Nat.{ℕ, suc, _+_, _≤_, _<_}
 use native.Mathlib.Decide.{ℕ-discrete}
 use native.Mathlib.Numerals.{add-one}

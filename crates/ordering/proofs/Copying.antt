@@ -1,11 +1,10 @@
 -- A part of a list copied into another, and two neighbouring parts exchanged by three such copies. Assumes nothing.
 use mathlib.Core.Path.{_≡_, refl, sym, ap, ap₂, _∙_}
-use mathlib.Core.List.{List, [], _∷_, _++_, append-assoc, append-nil}
+use mathlib.Core.List.{List, [], _++_, append-assoc, append-nil}
 use Prim.Native.Nat.{ℕ, _+_, _-_, _≤_}
-use native.Mathlib.Nat.{add-zero, zero-add}
 use native.Mathlib.Omega.{arith}
-use lib.ListN.{length, take, drop, length-append, length-drop, drop-of-length-le}
-use lib.Seq.{take-at, drop-at, drop-drop, take-length, length-take-le}
+use lib.ListN.{length, take, drop, length-append, drop-of-length-le}
+use lib.Seq.{take-at, drop-at, drop-drop, take-length}
 use borrow.Rule.Slice.PartMut.{putMid, midOf, post-is, mid-len}
 use Rattle.laws.specs.Part.{part, part-length}
 use Rattle.ordering.specs.Ordered.{Exchanged}

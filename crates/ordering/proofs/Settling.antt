@@ -1,6 +1,6 @@
 -- A part moved to its place: the parts before the place stay, those behind it change places with the new one, and their lengths with them.
 -- Assumes nothing.
-use mathlib.Core.Path.{_≡_, refl, sym, ap, ap₂, subst, _∙_}
+use mathlib.Core.Path.{_≡_, sym, ap, ap₂, subst, _∙_}
 use mathlib.Core.Logic.{_⊎_, ⊎-elim}
 use mathlib.Core.List.{List, [], _∷_, _++_, append-assoc, flatten}
 use Prim.Native.Nat.{ℕ, _+_, _-_, _≤_, _<_}
@@ -11,9 +11,9 @@ use lib.Seq.{getD-append-add, length-take-le, drop-drop}
 use Rattle.laws.specs.Part.{part, part-length, part-join}
 use Rattle.code.specs.Parts.{flatten-append}
 use Rattle.numbering.specs.Order.{place}
-use Rattle.ordering.specs.Ordered.{Heads, Stand, Standing, Spot, met, Exchanged, Waits, Settles}
+use Rattle.ordering.specs.Ordered.{Heads, Standing, Spot, met, Exchanged, Waits, Settles}
 use Rattle.ordering.proofs.Copying.{part-at}
-use Rattle.ordering.proofs.Standing.{length-both, length-first, heads-join, heads-left, heads-right, heads-move}
+use Rattle.ordering.proofs.Standing.{heads-join, heads-left, heads-right, heads-move}
 
 -- nothing is exchanged where the first part is empty
 pub idle : (s : List ℕ) (a m b : ℕ) → m ≤ a → Exchanged s a m b s
@@ -83,13 +83,13 @@ module _ {s lens : List ℕ} {f m : ℕ} {p : List ℕ} {L : List (List ℕ)} {c
   standing = record { before = p; parts = L; behind = c ++ q; stand = w .stand }
 
   -- the new part, where it stands
-  pub new-part : (b : ℕ) → m + length c ≡ b → part m b s ≡ c
+  new-part : (b : ℕ) → m + length c ≡ b → part m b s ≡ c
   new-part b h =
       let t = w .stand in
       let l : length (p ++ flatten L) ≡ m = rw length-append (omega (arith, t .begins, t .ends)) in
       ap (part m b) (t .whole ∙ sym (append-assoc p (flatten L) (c ++ q))) ∙ part-at (p ++ flatten L) c q m b l h
 
-  pub settled : {k : List ℕ → List ℕ} {at n b : ℕ} {s' lens' : List ℕ} → m + length c ≡ b → b ≤ length lens → Spot k f L c at → n ≡ met k c L
+  settled : {k : List ℕ → List ℕ} {at n b : ℕ} {s' lens' : List ℕ} → m + length c ≡ b → b ≤ length lens → Spot k f L c at → n ≡ met k c L
       → Exchanged s at m b s' → Exchanged lens at m b lens' → Settles k lens s' lens' f m p L c q n
   unfolding flatten
   settled {k} {at} {n} {b} {s'} {lens'} h j u e x y =

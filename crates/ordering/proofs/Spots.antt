@@ -4,19 +4,18 @@ use mathlib.Core.Path.{_≡_, refl, sym, ap, ap₂, subst, _∙_}
 use mathlib.Core.Logic.{_⊎_, inl, inr, ⊎-elim}
 use mathlib.Core.Bool.{Bool, true, false}
 use mathlib.Core.List.{List, [], _∷_, _++_, append-assoc, append-nil, flatten, map, map-append}
-use Prim.Native.Nat.{ℕ, suc, _+_, _≤_, _<_}
+use Prim.Native.Nat.{ℕ, _+_, _≤_, _<_}
 use native.Mathlib.Omega.{arith}
-use lib.ListN.{length, getD, length-append, length-map}
-use Rattle.laws.specs.Order.{_≽_}
+use lib.ListN.{length, getD}
 use Rattle.laws.specs.Part.{part}
 use Rattle.code.specs.Code.{sum}
 use Rattle.code.specs.Counting.{sum-append}
 use Rattle.numbering.specs.Order.{looked, place}
 use Rattle.numbering.specs.Sorted.{place-here, place-past}
-use Rattle.ordering.specs.Ordered.{markOf, marked, Stands, Heads, Stand, Standing, Spot, met}
+use Rattle.ordering.specs.Ordered.{Stands, Heads, Stand, Standing, Spot, met}
 use Rattle.ordering.proofs.Standing.{length-one, length-both, length-first, First, first-of, empty, middle-part}
 
-pub met-more : (f : List ℕ → List ℕ) (c : List ℕ) (L : List (List ℕ)) (d : List ℕ) → met f c (L ++ (d ∷ [])) ≡ met f c L + looked (f d) (f c)
+met-more : (f : List ℕ → List ℕ) (c : List ℕ) (L : List (List ℕ)) (d : List ℕ) → met f c (L ++ (d ∷ [])) ≡ met f c L + looked (f d) (f c)
 unfolding sum
 met-more f c L d =
     let e : met f c (L ++ (d ∷ [])) ≡ met f c L + (looked (f d) (f c) + 0) = ap sum (map-append (λ d. looked (f d) (f c)) L (d ∷ [])) ∙ sum-append (map (λ d. looked (f d) (f c)) L) (looked (f d) (f c) ∷ []) in
@@ -33,7 +32,7 @@ pub record Passed (k : List ℕ → List ℕ) (lens : List ℕ) (f m : ℕ) (c :
   pub heads : Heads lens x rest
   pub found : ((at ≡ m) × (place k c L ≡ passed ++ place k c rest)) ⊎ ((at < m) × Spot k f L c at)
 
-pub none-passed : (k : List ℕ → List ℕ) {s lens : List ℕ} {f m : ℕ} (c : List ℕ) {p q : List ℕ} {L : List (List ℕ)} → Stand s lens f m p L q → Passed k lens f m c L f m 0
+none-passed : (k : List ℕ → List ℕ) {s lens : List ℕ} {f m : ℕ} (c : List ℕ) {p q : List ℕ} {L : List (List ℕ)} → Stand s lens f m p L q → Passed k lens f m c L f m 0
 unfolding sum flatten
 none-passed k c {L = L} t = record { passed = []; rest = L; parts = refl; here = omega arith; count = refl; heads = t .heads; found = inl (refl, refl) }
 
@@ -42,7 +41,7 @@ module _ {k : List ℕ → List ℕ} {s lens : List ℕ} {f m : ℕ} {c : List �
   total = omega (arith, t .ends, ap (λ l. length (flatten l)) (g .parts), length-both (g .passed) (g .rest), g .here)
 
   -- all are passed: the place is behind the last, if it is not found
-  pub all-passed : m ≤ x → Spot k f L c at × (n ≡ met k c L)
+  all-passed : m ≤ x → Spot k f L c at × (n ≡ met k c L)
   unfolding place
   all-passed h =
       let none = empty lens x (g .rest) (omega (arith, total)) (g .heads) in
@@ -65,7 +64,7 @@ module _ {k : List ℕ → List ℕ} {s lens : List ℕ} {f m : ℕ} {c : List �
     heads-are = subst (Heads lens x) (next .is) (g .heads)
 
     -- the next part, by its length
-    pub next-fits : (1 ≤ getD lens x 0) × (x + getD lens x 0 ≤ m)
+    next-fits : (1 ≤ getD lens x 0) × (x + getD lens x 0 ≤ m)
     next-fits =
         let long = ap (λ l. length (flatten l)) (next .is) ∙ length-first (next .first) (next .others) in
         (omega (arith, heads-are .0, heads-are .1), omega (arith, heads-are .0, total))
@@ -92,7 +91,7 @@ module _ {k : List ℕ → List ℕ} {s lens : List ℕ} {f m : ℕ} {c : List �
         found = w;
       }
 
-      pub not-smaller : less ≡ false → Passed k lens f m c L (x + getD lens x 0) at (n + i)
+      not-smaller : less ≡ false → Passed k lens f m c L (x + getD lens x 0) at (n + i)
       not-smaller e =
           on (⊎-elim (λ w. inl (
             w .0,
@@ -120,7 +119,7 @@ module _ {k : List ℕ → List ℕ} {s lens : List ℕ} {f m : ℕ} {c : List �
           )) (λ w. let z : ⊥ = omega (arith, w .0) in absurd z) (g .found))
 
       -- a later one
-      pub later : (at ≡ m → ⊥) → Passed k lens f m c L (x + getD lens x 0) at (n + i)
+      later : (at ≡ m → ⊥) → Passed k lens f m c L (x + getD lens x 0) at (n + i)
       later j = on (⊎-elim (λ w. absurd (j (w .0))) inr (g .found))
 
 -- the same of all parts that may stand there

@@ -1,24 +1,29 @@
--- The order by the table is that of the skeleton whose table it is. In order: the children, what the recursion asks of a table, marks that
--- are the digits, and what is then written. Assumes nothing.
-use mathlib.Core.Path.{_≡_, refl, sym, ap, ap₂, subst, _∙_}
-use mathlib.Core.Logic.{inl, inr, if-pos, if-neg}
-use mathlib.Core.List.{List, [], _∷_, _++_, map, List·Memᴰ, List·Memᴰ·not-nil, Memᴰ·cast, List·Permᴰ, Permᴰ·refl}
-use Prim.Native.Nat.{ℕ, zero, suc, _+_, _-_, _≤_, _<_}
+-- The order by the table is that of the skeleton whose table it is. In order: the children, what the recursion asks of a table, what is
+-- written by any marks, with labels, and by the digits. Assumes nothing.
+use mathlib.Core.Path.{_≡_, refl, ap, ap₂, subst, _∙_}
+use mathlib.Core.Logic.{if-pos, if-neg}
+use mathlib.Core.List.{List, [], _∷_, List·Memᴰ, List·Memᴰ·not-nil, Memᴰ·cast, List·Permᴰ, Permᴰ·refl}
+use Prim.Native.Nat.{ℕ, suc, _-_, _≤_, _<_}
 use native.Mathlib.Decide.{ℕ-discrete, decLt}
 use native.Mathlib.Omega.{arith}
-use lib.ListN.{length, getD, take, drop}
+use lib.ListN.{length, getD, take}
 use lib.Seq.{take-at}
 use Rattle.laws.specs.Places.{at-in}
-use Rattle.limits.specs.Limits.{size, width}
+<<<<<<< HEAD
+use Rattle.limits.specs.Limits.{size, width, width}
 use Rattle.tree.specs.Skeleton.{arcs, neighbours, degree, Degrees, IsTree, children, rooted}
 use Rattle.tree.specs.Base.{base, rooted-base}
+=======
+use Rattle.tree.specs.Skeleton.{arcs, neighbours, degree, Degrees, IsTree, children}
+use Rattle.tree.specs.Label.{Marks}
+use Rattle.tree.specs.Base.{base}
+>>>>>>> coder
 use Rattle.tree.specs.Grow.{rooted-tree}
 use Rattle.skeleton.specs.Table.{IsTable, Held}
-use Rattle.numbering.specs.Order.{orderBy, pairsBy}
 use Rattle.numbering.specs.Numbering.{Reads, Orders, tree-numbering}
-use Rattle.numbering.specs.Numbers.{order, orderₗ, pairsₗ, markAt, reads-tree}
+use Rattle.numbering.specs.Numbers.{orderₗ, pairsₗ, markAt, reads-tree}
 use Rattle.numbering.specs.Same.{Same, one-order}
-use Rattle.ordering.specs.Ordered.{markOf, marked, filled, but, row, cell, kids, ordered, compared, Rows, Fills, Covers, Placed}
+use Rattle.ordering.specs.Ordered.{markOf, marked, filled, but, row, cell, kids, ordered, compared, Rows, Filled, Fills, Covers, Placed}
 use Rattle.ordering.proofs.Neighbours.{neighbour-in, mutual-in, lone}
 
 -- a row that holds the numbers of a list and then 0
@@ -66,11 +71,11 @@ module _ {N : ℕ} {E : List ℕ} {t : List (List ℕ)} {d : List ℕ} (tree : I
       filled-is (row t v) (neighbours (arcs E) v) (omega arith) (λ j i. b .row v j h k i) (λ j i. omega (arith, at-column v j h k i, b .row v j h k i)) (λ j i m. past-columns v j h k i (omega arith))
 
   -- the table's children are the children
-  pub kids-are : (p v : ℕ) → 1 ≤ v → v ≤ N → kids t p v ≡ children (arcs E) p v
+  kids-are : (p v : ℕ) → 1 ≤ v → v ≤ N → kids t p v ≡ children (arcs E) p v
   unfolding kids children
   kids-are p v h k = ap (but p) (row-is v h k)
 
-  pub rows-are : (v : ℕ) → 1 ≤ v → v ≤ N → Rows t v
+  rows-are : (v : ℕ) → 1 ≤ v → v ≤ N → Rows t v
   unfolding degree
   rows-are v h k = record {
     number = N;
@@ -100,12 +105,41 @@ module _ {N : ℕ} {E : List ℕ} {t : List (List ℕ)} {d : List ℕ} (tree : I
           let one : length (neighbours (arcs E) w) ≤ 1 = alone w (a .0) (a .1) z (decLt 1 (degree E w)) in
           b .row w 0 (a .0) (a .1) some ∙ lone (neighbours (arcs E) w) u (omega arith) n
 
+-- ---- marks, with labels
+
+module _ (M : Marks) (label : ℕ → M .Label) {N : ℕ} {E : List ℕ} {t : List (List ℕ)} {d : List ℕ} {r : ℕ} (s : List ℕ) (tree : IsTree N E) (b : IsTable N E t d) (l : N ≤ size) (g : Degrees width N E)
+    (h : 1 ≤ r) (k : r ≤ N) (f : Filled M label N E r s) where
+  reads-table : Reads M label N E r (markOf s) (kids t)
+  reads-table = record {
+    kids = λ p v i j. subst (λ l. List·Permᴰ (kids t p v) l) (kids-are tree b l g p v i j) (Permᴰ·refl (kids t p v));
+    top = f .top;
+    rest = f .rest;
+  }
+
+  same : Same (markOf s) (markAt M label E r) (kids t) (children (arcs E)) (suc size) N 0 r
+  same =
+      one-order M label N E r (markOf s) (markAt M label E r) (kids t) (children (arcs E)) reads-table (reads-tree M label N E r) (λ p v i j. kids-are tree b l g p v i j) (rooted-tree N E r tree h k)
+      (suc size) N (omega arith) (omega arith)
+
+  -- the order by the table is an order of the vertices, whose marks are the rooted code
+  numbers : Orders M label N E r (markOf s) (ordered s t 0 r)
+  unfolding ordered
+  numbers = tree-numbering M label N E r (markOf s) (kids t) reads-table (suc size) (omega arith) tree h k
+
+  -- what hangs at the root is the order of the edge list
+  pub placed : {out : List ℕ} {n : ℕ} → Covers s t r out n → Placed M label N E r s out n
+  unfolding ordered compared orderₗ pairsₗ
+  placed {out} c =
+      let first : take N out ≡ ordered s t 0 r = ap (take N) (c .whole) ∙ take-at (ordered s t 0 r) (c .behind) N (numbers .all) in
+      record { order = first ∙ same .order; code = ap (marked s) first ∙ numbers .code; count = c .count ∙ same .count }
+
 -- ---- digits as marks
 
 -- in document 01's codes no vertex has a label
 abbrev alike : ℕ → base .Label
 alike v = tt
 
+<<<<<<< HEAD
 module _ {N : ℕ} {E : List ℕ} {t : List (List ℕ)} {d : List ℕ} {r : ℕ} (s : List ℕ) (tree : IsTree N E) (b : IsTable N E t d) (l : N ≤ size) (g : Degrees width N E) (h : 1 ≤ r) (k : r ≤ N)
     (f : Fills d r N s) where
   reads-table : Reads base alike N E r (markOf s) (kids t)
@@ -142,6 +176,10 @@ module _ {N : ℕ} {E : List ℕ} {t : List (List ℕ)} {d : List ℕ} {r : ℕ}
   ordered-code = numbers .code ∙ rooted-base alike N E r
 
 -- ---- what is written
+=======
+digits-filled : {N : ℕ} {E : List ℕ} {t : List (List ℕ)} {d : List ℕ} {r : ℕ} (s : List ℕ) → IsTable N E t d → 1 ≤ r → r ≤ N → Fills d r N s → Filled base alike N E r s
+digits-filled {r = r} s b h k f = record { top = f r h k .0 refl ∙ b .degs r h k; rest = λ v i j n. f v i j .1 n ∙ ap (λ i. i - 1) (b .degs v i j) }
+>>>>>>> coder
 
 -- another list with the same table has as few neighbours
 degrees-of : {N : ℕ} {E : List ℕ} {t : List (List ℕ)} {d : List ℕ} → Held N t d → IsTable N E t d → Degrees width N E
@@ -155,16 +193,8 @@ module _ {N : ℕ} {t : List (List ℕ)} {d : List ℕ} {r : ℕ} (s : Held N t 
 
   module _ (m : List ℕ) (f : Fills d r N m) where
     pub root-length : length (ordered m t 0 r) ≡ N
-    root-length = ordered-length m (s .skeleton .tree) (s .table) (s .skeleton .few) (s .skeleton .degrees) h k f
+    root-length = numbers base alike m (s .skeleton .tree) (s .table) (s .skeleton .few) (s .skeleton .degrees) h k (digits-filled m (s .table) h k f) .all
 
-    -- what hangs at the root is the order of the edge list
-    pub placed : {out : List ℕ} {n : ℕ} → Covers m t r out n → (E : List ℕ) → IsTree N E → IsTable N E t d → Placed N E r m out n
-    placed {out} c E tree b =
-        let g = degrees-of s b in
-        let few = s .skeleton .few in
-        let first : take N out ≡ ordered m t 0 r = ap (take N) (c .whole) ∙ take-at (ordered m t 0 r) (c .behind) N root-length in
-        record {
-          order = first ∙ ordered-is m tree b few g h k f;
-          code = ap (marked m) first ∙ ordered-code m tree b few g h k f;
-          count = c .count ∙ compared-is m tree b few g h k f;
-        }
+    -- what is written, where the digits are the marks
+    pub digits-placed : {out : List ℕ} {n : ℕ} → Covers m t r out n → (E : List ℕ) → IsTree N E → IsTable N E t d → Placed base alike N E r m out n
+    digits-placed c E tree b = placed base alike m tree b (s .skeleton .few) (degrees-of s b) h k (digits-filled m b h k f) c

@@ -2,21 +2,20 @@
 -- that meets the parent, the part of a child where it is written (`Written`: by the recursion and then arranged, or a leaf's), and the turn
 -- that takes it in. Assumes nothing.
 use mathlib.Core.Path.{_≡_, refl, sym, ap, ap₂, subst, _∙_}
-use mathlib.Core.Logic.{_⊎_, inl, inr, ⊎-elim}
-use mathlib.Core.Bool.{Bool, true, false}
+use mathlib.Core.Logic.{_⊎_, ⊎-elim}
+use mathlib.Core.Bool.{false}
 use mathlib.Core.List.{List, [], _∷_, _++_, append-assoc, append-nil, flatten, map, map-append}
-use Prim.Native.Nat.{ℕ, suc, _+_, _*_, _≤_, _<_}
-use native.Mathlib.Nat.{add-zero, add-assoc}
+use Prim.Native.Nat.{ℕ, _+_, _*_, _≤_, _<_}
 use native.Mathlib.Numerals.{add-one}
 use native.Mathlib.Omega.{arith}
 use lib.ListN.{length, getD, set, take, drop, length-append, length-set, take-append-drop, List·getD-append}
-use lib.Seq.{take-at, take-suc-set, take-set-le, length-take-le, getD-take, getD-set-same, getD-set-other}
+use lib.Seq.{take-at, take-suc-set, length-take-le, getD-take, getD-set-same, getD-set-other}
 use Rattle.code.specs.Code.{sum}
 use Rattle.code.specs.Counting.{sum-append}
 use Rattle.limits.specs.Limits.{size, width}
 use Rattle.numbering.specs.Order.{pairs, sortBy, insertBy}
 use Rattle.ordering.specs.Ordered.{marked, row, cell, kids, ordered, compared, Rows, Heads, Stand, Standing, endOf, Arranges, Several, Hangs, Covers}
-use Rattle.ordering.proofs.Standing.{flatten-one, length-one, length-both, length-first, empty, heads-join, heads-move}
+use Rattle.ordering.proofs.Standing.{flatten-one, length-one, length-both, length-first, heads-join, heads-move}
 use Rattle.ordering.proofs.Depth.{branches, some-ordered, ordered-is, compared-is, ordered-length, alone}
 use Rattle.ordering.proofs.Kids.{rest, row-ends, zero-ends, past-parent, one-child, lone}
 
@@ -213,7 +212,7 @@ module _ {m : List ℕ} {t : List (List ℕ)} {out lens : List ℕ} {v w at : �
       }
 
   module _ {out1 lens1 : List ℕ} (eo : out1 ≡ set out at w) (el : lens1 ≡ set lens at 1) where
-    pub at-w : getD out1 at 0 ≡ w
+    at-w : getD out1 at 0 ≡ w
     at-w = ap (λ l. getD l at 0) eo ∙ laid
 
     -- a call for w
@@ -309,7 +308,7 @@ module _ {m : List ℕ} {t : List (List ℕ)} {out₀ lens₀ : List ℕ} {p v a
       new : Written m t out lens out2 lens2 v w a n n2
       new = subst (λ u. Written m t out lens out2 lens2 u w a n n2) eu wr
 
-      pub where-ends : endOf lens2 at ≡ a
+      where-ends : endOf lens2 at ≡ a
       where-ends = omega (arith, new .kept at before)
 
       there : getD lens2 (endOf lens2 at) 0 ≡ length (ordered m t v w)

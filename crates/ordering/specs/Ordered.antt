@@ -1,21 +1,21 @@
--- Document 01, "Codes": "The code at a vertex asks for its children's codes first". Here what that recursion is held to, by the table
--- alone. It writes vertices, and compares them by their marks.
+-- Document 01, "Codes": "Coding a vertex asks for its children's codes first, and a subtree is always smaller than its tree."
 --
--- In order: the children of a vertex by the table, the order of what hangs there and the pairs looked at; what the functions ask of a
--- table; parts that stand one behind the other in the buffer; what each function leaves there. That the order is the skeleton's whose
--- table it is, is proved in `proofs`. Assumes nothing.
+-- What that recursion is held to, by the table alone. It writes vertices, and compares them by their marks. In order: the children of a
+-- vertex by the table, the order of what hangs there and the pairs looked at; what the recursion asks of a table; comparing; parts that
+-- stand one behind the other in the buffer, and what each function leaves there; marks, with labels, and what the buffer then holds of
+-- the skeleton whose table it is; digits as marks. Assumes nothing.
 use mathlib.Core.Path.{_≡_}
 use mathlib.Core.Logic.{_⊎_, ite, Dec·not}
 use mathlib.Core.Bool.{Bool, true, false}
 use mathlib.Core.List.{List, [], _∷_, _++_, map, filter, flatten}
-use Prim.Native.Nat.{ℕ, zero, suc, _+_, _-_, _*_, _≤_, _<_}
+use Prim.Native.Nat.{ℕ, suc, _+_, _-_, _*_, _≤_, _<_}
 use native.Mathlib.Decide.{ℕ-discrete}
 use lib.ListN.{length, getD, take}
 use Rattle.laws.specs.Order.{_≽_}
 use Rattle.code.specs.Code.{sum}
 use Rattle.limits.specs.Limits.{size, width}
 use Rattle.tree.specs.Skeleton as tree
-use Rattle.tree.specs.Base.{base}
+use Rattle.tree.specs.Label.{Marks, rootedₗ}
 use Rattle.numbering.specs.Numbers as numbers
 use Rattle.numbering.specs.Order.{place, looked, pairs, sortBy, orderBy, pairsBy}
 
@@ -67,7 +67,7 @@ pub record Rows (t : List (List ℕ)) (v : ℕ) : Type 0 where
 
 -- ---- comparing
 
--- the answer of a comparison, and the pairs looked at
+-- the answer of a comparison is right, and n pairs were looked at
 pub record Stands (a b : List ℕ) (less : Bool) (n : ℕ) : Type 0 where
   pub pairs : n ≡ looked a b
   pub few : n ≤ length a
@@ -112,7 +112,7 @@ abbrev pub Exchanged : List ℕ → ℕ → ℕ → ℕ → List ℕ → Type 0
 Exchanged s a m b s' =
     (p x y z : List ℕ) → s ≡ p ++ (x ++ (y ++ z)) → length p ≡ a → a + length x ≡ m → m + length y ≡ b → s' ≡ p ++ (y ++ (x ++ z))
 
--- behind the parts L stands one more, c, at m
+-- behind the parts L stands one more, c, at m; and some parts and one more do
 pub record Waits (s lens : List ℕ) (f m : ℕ) (p : List ℕ) (L : List (List ℕ)) (c q : List ℕ) : Type 0 where
   pub stand : Stand s lens f m p L (c ++ q)
   pub head : getD lens m 0 ≡ length c
@@ -131,7 +131,7 @@ pub record Settles (k : List ℕ → List ℕ) (lens s' lens' : List ℕ) (f m :
   pub kept : (i : ℕ) → (i < f) ⊎ (m + length c ≤ i) → getD lens' i 0 ≡ getD lens i 0
   pub count : n ≡ met k c L
 
--- the parts behind what stands at `at`: where they end
+-- where the part that begins at `at` ends
 abbrev pub endOf : List ℕ → ℕ → ℕ
 endOf lens at = at + getD lens at 0
 
@@ -165,6 +165,19 @@ pub record Covers (m : List ℕ) (t : List (List ℕ)) (root : ℕ) (s : List �
   pub whole : s ≡ ordered m t 0 root ++ behind
   pub count : n ≡ compared m t 0 root
 
+-- ---- marks
+
+-- s has the mark of each vertex of the tree E with the root r
+pub record Filled (M : Marks) (label : ℕ → M .Label) (N : ℕ) (E : List ℕ) (r : ℕ) (s : List ℕ) : Type 0 where
+  pub top : markOf s r ≡ M .mark (tree.degree E r) (label r)
+  pub rest : (v : ℕ) → 1 ≤ v → v ≤ N → (v ≡ r → ⊥) → markOf s v ≡ M .mark (tree.degree E v - 1) (label v)
+
+-- the first N of s are the vertices of the tree E in the order of its rooted code at r, their marks are that code, and n pairs were looked at
+pub record Placed (M : Marks) (label : ℕ → M .Label) (N : ℕ) (E : List ℕ) (r : ℕ) (m s : List ℕ) (n : ℕ) : Type 0 where
+  pub order : take N s ≡ numbers.orderₗ M label N E r
+  pub code : marked m (take N s) ≡ rootedₗ M label N E r
+  pub count : n ≡ numbers.pairsₗ M label N E r
+
 -- ---- digits as marks
 
 -- the number of v's neighbours, by the table
@@ -178,11 +191,3 @@ IsDigit d r v x = (v ≡ r → x ≡ deg d v) × ((v ≡ r → ⊥) → x ≡ de
 -- s has the digit of each of the vertices up to n
 abbrev pub Fills : List ℕ → ℕ → ℕ → List ℕ → Type 0
 Fills d r n s = (v : ℕ) → 1 ≤ v → v ≤ n → IsDigit d r v (getD s v 0)
-
--- ---- what the public functions are held to
-
--- the first N of s are the vertices of the tree E in the order of its rooted code at r, their marks are that code, and n pairs were looked at
-pub record Placed (N : ℕ) (E : List ℕ) (r : ℕ) (m s : List ℕ) (n : ℕ) : Type 0 where
-  pub order : take N s ≡ numbers.order N E r
-  pub code : marked m (take N s) ≡ tree.rooted N E r
-  pub count : n ≡ numbers.pairsₗ base (λ v. tt) N E r

@@ -4,19 +4,21 @@ use limits::BYTES;
 use limits::SIZE;
 use limits::WIDTH;
 ghost use mathlib.Core.Path.{_≡_};
-ghost use mathlib.Core.Bool.{Bool, true, false};
-ghost use mathlib.Core.List.{List, _++_, map, flatten};
+ghost use mathlib.Core.List.{List, _++_};
 ghost use Prim.Native.Nat.{ℕ, _+_, _-_, _*_, _≤_, _<_};
 ghost use lib.ListN.{length, getD, set, take, drop};
 ghost use Rattle.laws.specs.Part.{part};
 ghost use Rattle.laws.specs.Laid.{laidOver};
+<<<<<<< HEAD
 ghost use Rattle.code.specs.Code.{sum};
-ghost use Rattle.limits.specs.Limits.{size, width};
+ghost use Rattle.limits.specs.Limits.{size, width, width};
+=======
+>>>>>>> coder
 ghost use Rattle.tree.specs.Skeleton as tree;
 ghost use Rattle.tree.specs.Base.{base};
 ghost use Rattle.skeleton.specs.Table.{IsTable, Held};
 ghost use Rattle.numbering.specs.Numbers as numbers;
-ghost use Rattle.ordering.specs.Ordered.{marked, markOf, row, cell, kids, ordered, compared, Rows, Stands, Heads, Stand, Standing, Spot, met, Exchanged, Waits, Waiting, Settles, endOf, Arranges, Several, Hangs, Covers, Fills, Placed};
+ghost use Rattle.ordering.specs.Ordered.{marked, markOf, cell, kids, ordered, compared, Rows, Stands, Stand, Standing, Spot, met, Exchanged, Waits, Waiting, Settles, endOf, Arranges, Several, Hangs, Covers, Fills, Placed};
 
 // The answer of a comparison, and how many pairs were looked at.
 struct Compared {
@@ -363,7 +365,7 @@ fn vertices(
     requires { ⌜ (1 ≤ root) × (root ≤ n) × (size < length (now marks)) × (length (now buffer) ≡ size) ⌝ }
     ensures { λ r. ⌜ length (now (buffer .exit)) ≡ size ⌝ }
     ensures { λ r. ⌜ ((E : List ℕ) → tree.IsTree n E → IsTable n E (now (rows .entry)) (now (degs .entry))
-        → Placed n E root (now (marks .exit)) (now (buffer .exit)) r) ⌝ }
+        → Placed base (λ v. tt) n E root (now (marks .exit)) (now (buffer .exit)) r) ⌝ }
 {
     fill(degs, n, root, marks);
     cover(rows, marks, root, buffer)

@@ -8,7 +8,7 @@ use borrow.Fn.Kinds.{In}
 use borrow.Fn.PlainCycle.{Measures, is, falls, and}
 use Rattle.limits.specs.Limits.{size, width}
 use Rattle.ordering.specs.Ordered.{cell, Standing, endOf, Several}
-use Rattle.ordering.proofs.Turns.{Call, Sofar, below, start, still, at-zero, at-end, skip, inside, Written, same-written, Room, within, leaf, calls, kept-called, ends, standing, arranged, left-alone, leafy, roomy, where-ends, extends, taken}
+use Rattle.ordering.proofs.Turns.{Call, Sofar, below, start, still, at-zero, at-end, skip, inside, Written, same-written, Room, within, leaf, calls, kept-called, ends, standing, arranged, left-alone, leafy, roomy, extends, taken}
 use Rattle.ordering.proofs.order.Reads as order
 use Rattle.ordering.proofs.order.Kinds as order-kinds
 use Rattle.ordering.proofs.+order.Lts-order as order-lts

@@ -1,14 +1,13 @@
 -- `ordering::fill` meets its contract. Assumes nothing.
-use mathlib.Core.Path.{_≡_, refl, sym, ap, _∙_}
+use mathlib.Core.Path.{_≡_, sym, ap, _∙_}
 use mathlib.Core.List.{List, _++_}
 use Prim.Native.Nat.{ℕ, _+_, _-_, _≤_, _<_}
-use native.Mathlib.Decide.{ℕ-discrete}
 use native.Mathlib.Omega.{arith}
 use lib.ListN.{length, getD, set, take, drop, length-set}
 use lib.Seq.{getD-set-same, getD-set-other, getD-take, length-take-le}
 use borrow.Author.Needs.{needs}
 use Rattle.laws.specs.Part.{part, part-length}
-use Rattle.ordering.specs.Ordered.{deg, IsDigit, Fills}
+use Rattle.ordering.specs.Ordered.{deg, Fills}
 use Rattle.ordering.proofs.Settling.{at-second}
 use Rattle.ordering.proofs.fill.Statement.{statement}
 use Rattle.ordering.proofs.fill.Tie as tie

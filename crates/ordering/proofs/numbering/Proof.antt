@@ -1,5 +1,5 @@
 -- `ordering::numbering` meets its contract. Assumes nothing.
-use mathlib.Core.Path.{_≡_, sym, ap, ap₂, _∙_}
+use mathlib.Core.Path.{_≡_, refl, sym, ap, ap₂, _∙_}
 use mathlib.Core.List.{List, _++_}
 use Prim.Native.Nat.{ℕ}
 use native.Mathlib.Omega.{arith}
@@ -7,6 +7,8 @@ use lib.ListN.{length, take, drop}
 use lib.Seq.{take-length, length-take-le}
 use borrow.Author.Needs.{needs}
 use Rattle.laws.specs.Laid.{laidOver}
+use Rattle.tree.specs.Base.{base}
+use Rattle.numbering.specs.Numbers.{order, orderₗ}
 use Rattle.ordering.proofs.numbering.Statement.{statement}
 use Rattle.ordering.proofs.numbering.Tie as tie
 
@@ -18,6 +20,11 @@ copied {c} new old e h = h ∙ ap₂ (λ l n. l ++ drop n old) (take-length c �
 -- the vertices fill the front of the buffer
 front : (c : tie.After-vertices) → let s = c .before .before .before .before in length (take (s .args .n) (c .vertices .last .1 .1 .1 .1 .1 .0)) ≡ s .args .n
 front c = let s = c .before .before .before .before in length-take-le (s .args .n) (c .vertices .last .1 .1 .1 .1 .1 .0) (omega (arith, s .pre .0 .skeleton .few, c .vertices .ensures .0))
+
+-- the order where no vertex has a label
+plain : (N : ℕ) (E : List ℕ) (r : ℕ) → orderₗ base (λ v. tt) N E r ≡ order N E r
+unfolding order orderₗ
+plain N E r = refl
 
 pub numbering-spec : {M : Type 1} → statement M
 numbering-spec =
@@ -32,4 +39,4 @@ numbering-spec =
     let y = c .before .before in
     let v = y .before .before .before in
     let p = v .vertices .ensures .1 E tree table in
-    (copied _ _ (p .order) (y .copy .ensures .1), p .count)))
+    (copied _ _ (p .order ∙ plain _ E _) (y .copy .ensures .1), p .count)))

@@ -5,6 +5,7 @@ use lib.ListN.{length, take}
 use lib.Seq.{length-take-le}
 use borrow.Author.Needs.{needs}
 use Rattle.laws.specs.Laid.{laidOver}
+use Rattle.tree.specs.Base.{rooted-base}
 use Rattle.ordering.proofs.rooted.Statement.{statement}
 use Rattle.ordering.proofs.rooted.Tie as tie
 
@@ -26,4 +27,4 @@ rooted-spec =
     let v = y .before .before .before .before in
     let s = v .before .before .before .before in
     let p = v .vertices .ensures .1 E tree table in
-    (y .read .ensures ∙ ap (λ l. laidOver l (s .args .out .now)) (p .code), p .count)))
+    (y .read .ensures ∙ ap (λ l. laidOver l (s .args .out .now)) (p .code ∙ rooted-base (λ v. tt) _ E _), p .count)))

@@ -1,10 +1,8 @@
 -- `ordering::seek` meets its contract. Assumes nothing.
-use mathlib.Core.Path.{_≡_}
-use mathlib.Core.Logic.{⊎-elim}
 use Prim.Native.Nat.{_+_, _-_, _≤_}
 use borrow.Author.Needs.{needs}
 use native.Mathlib.Omega.{arith}
-use lib.ListN.{length, length-map}
+use lib.ListN.{length-map}
 use Rattle.laws.specs.Part.{part, part-length}
 use Rattle.ordering.specs.Ordered.{markOf, marked}
 use Rattle.ordering.proofs.Spots.{Looking, look, found, fits, past, first, behind}

@@ -5,7 +5,6 @@ use mathlib.Core.Bool.{true, false}
 use Prim.Native.Nat.{ℕ}
 use native.Mathlib.Omega.{arith}
 use borrow.Author.Needs.{needs}
-use Rattle.ordering.specs.Ordered.{endOf}
 use Rattle.ordering.proofs.several.Statement.{statement}
 use Rattle.ordering.proofs.several.Tie as tie
 

@@ -1,6 +1,6 @@
 -- `ordering::vertices` meets its contract. Assumes nothing.
 use native.Mathlib.Omega.{arith}
-use Rattle.ordering.proofs.Tables.{root-rows, root-length, placed}
+use Rattle.ordering.proofs.Tables.{root-rows, root-length, digits-placed}
 use Rattle.ordering.proofs.vertices.Statement.{statement}
 use Rattle.ordering.proofs.vertices.Tie as tie
 
@@ -21,4 +21,4 @@ vertices-spec =
     let f = c .before .before .before in
     let s = f .before .before in
     let (low, high, room, long) = s .pre .1 in
-    (c .cover .ensures .outs, placed (s .pre .0) low high (f .fill .last .1 .1 .1 .0) (f .fill .ensures) (c .cover .ensures))))
+    (c .cover .ensures .outs, digits-placed (s .pre .0) low high (f .fill .last .1 .1 .1 .0) (f .fill .ensures) (c .cover .ensures))))
