@@ -5,12 +5,8 @@ use Prim.Native.Nat.{ℕ, zero, suc, _+_, _≤_, _<_}
 use native.Mathlib.Omega.{arith}
 use lib.ListN.{length}
 use Rattle.code.specs.Code.{sum}
-<<<<<<< HEAD
 use Rattle.limits.specs.Limits.{size}
-use Rattle.numbering.specs.Order.{pairs, sortBy, insertBy, orderBy, pairsBy}
-=======
 use Rattle.numbering.specs.Order.{pairs, sortBy, orderBy, pairsBy}
->>>>>>> coder
 use Rattle.numbering.specs.Sorted.{sorted-length}
 use Rattle.ordering.specs.Ordered.{markOf, marked, kids, ordered, compared}
 use Rattle.ordering.proofs.Standing.{length-first}

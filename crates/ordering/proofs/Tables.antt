@@ -9,15 +9,10 @@ use native.Mathlib.Omega.{arith}
 use lib.ListN.{length, getD, take}
 use lib.Seq.{take-at}
 use Rattle.laws.specs.Places.{at-in}
-<<<<<<< HEAD
-use Rattle.limits.specs.Limits.{size, width, width}
-use Rattle.tree.specs.Skeleton.{arcs, neighbours, degree, Degrees, IsTree, children, rooted}
-use Rattle.tree.specs.Base.{base, rooted-base}
-=======
+use Rattle.limits.specs.Limits.{size, width}
 use Rattle.tree.specs.Skeleton.{arcs, neighbours, degree, Degrees, IsTree, children}
 use Rattle.tree.specs.Label.{Marks}
 use Rattle.tree.specs.Base.{base}
->>>>>>> coder
 use Rattle.tree.specs.Grow.{rooted-tree}
 use Rattle.skeleton.specs.Table.{IsTable, Held}
 use Rattle.numbering.specs.Numbering.{Reads, Orders, tree-numbering}
@@ -139,47 +134,8 @@ module _ (M : Marks) (label : ℕ → M .Label) {N : ℕ} {E : List ℕ} {t : Li
 abbrev alike : ℕ → base .Label
 alike v = tt
 
-<<<<<<< HEAD
-module _ {N : ℕ} {E : List ℕ} {t : List (List ℕ)} {d : List ℕ} {r : ℕ} (s : List ℕ) (tree : IsTree N E) (b : IsTable N E t d) (l : N ≤ size) (g : Degrees width N E) (h : 1 ≤ r) (k : r ≤ N)
-    (f : Fills d r N s) where
-  reads-table : Reads base alike N E r (markOf s) (kids t)
-  reads-table = record {
-    kids = λ p v i j. subst (λ l. List·Permᴰ (kids t p v) l) (kids-are tree b l g p v i j) (Permᴰ·refl (kids t p v));
-    top = f r h k .0 refl ∙ b .degs r h k;
-    rest = λ v i j n. f v i j .1 n ∙ ap (λ i. i - 1) (b .degs v i j);
-  }
-
-  same : Same (markOf s) (markAt base alike E r) (kids t) (children (arcs E)) (suc size) N 0 r
-  same =
-      one-order base alike N E r (markOf s) (markAt base alike E r) (kids t) (children (arcs E)) reads-table (reads-tree base alike N E r) (λ p v i j. kids-are tree b l g p v i j) (rooted-tree N E r tree h k)
-      (suc size) N (omega arith) (omega arith)
-
-  numbers : Orders base alike N E r (markOf s) (ordered s t 0 r)
-  unfolding ordered
-  numbers = tree-numbering base alike N E r (markOf s) (kids t) reads-table (suc size) (omega arith) tree h k
-
-  -- the order by the table is the order of the edge list
-  pub ordered-is : ordered s t 0 r ≡ order N E r
-  unfolding ordered order
-  ordered-is = same .order
-
-  -- and as many pairs are looked at
-  pub compared-is : compared s t 0 r ≡ pairsₗ base alike N E r
-  unfolding compared pairsₗ
-  compared-is = same .count
-
-  pub ordered-length : length (ordered s t 0 r) ≡ N
-  ordered-length = numbers .all
-
-  -- its marks are the rooted code
-  pub ordered-code : marked s (ordered s t 0 r) ≡ rooted N E r
-  ordered-code = numbers .code ∙ rooted-base alike N E r
-
--- ---- what is written
-=======
 digits-filled : {N : ℕ} {E : List ℕ} {t : List (List ℕ)} {d : List ℕ} {r : ℕ} (s : List ℕ) → IsTable N E t d → 1 ≤ r → r ≤ N → Fills d r N s → Filled base alike N E r s
 digits-filled {r = r} s b h k f = record { top = f r h k .0 refl ∙ b .degs r h k; rest = λ v i j n. f v i j .1 n ∙ ap (λ i. i - 1) (b .degs v i j) }
->>>>>>> coder
 
 -- another list with the same table has as few neighbours
 degrees-of : {N : ℕ} {E : List ℕ} {t : List (List ℕ)} {d : List ℕ} → Held N t d → IsTable N E t d → Degrees width N E

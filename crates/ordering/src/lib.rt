@@ -9,11 +9,7 @@ ghost use Prim.Native.Nat.{ℕ, _+_, _-_, _*_, _≤_, _<_};
 ghost use lib.ListN.{length, getD, set, take, drop};
 ghost use Rattle.laws.specs.Part.{part};
 ghost use Rattle.laws.specs.Laid.{laidOver};
-<<<<<<< HEAD
-ghost use Rattle.code.specs.Code.{sum};
-ghost use Rattle.limits.specs.Limits.{size, width, width};
-=======
->>>>>>> coder
+ghost use Rattle.limits.specs.Limits.{size, width};
 ghost use Rattle.tree.specs.Skeleton as tree;
 ghost use Rattle.tree.specs.Base.{base};
 ghost use Rattle.skeleton.specs.Table.{IsTable, Held};
