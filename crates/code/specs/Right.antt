@@ -40,7 +40,7 @@ right-plain most R c = (
 
 -- ---- row 10
 
-small-clear : (R : ℕ) (c : List ℕ) → ((p : ℕ) → row10 R c .applies p → ⊥) ↔ ((p : ℕ) → 1 ≤ p → p ≤ length c → digit c p ≤ cap R p)
+pub small-clear : (R : ℕ) (c : List ℕ) → ((p : ℕ) → row10 R c .applies p → ⊥) ↔ ((p : ℕ) → 1 ≤ p → p ≤ length c → digit c p ≤ cap R p)
 small-clear R c = (
   λ f p h k. let n : cap R p < digit c p → ⊥ = λ l. f p (h, k, l) in omega arith,
   λ s p a. (let z : ⊥ = omega (arith, s p (a .0) (a .1), a .2) in z),
