@@ -8,6 +8,7 @@ use native.Mathlib.Omega.{arith}
 use native.Mathlib.Numerals.{add-one}
 use lib.Seq.{take-all}
 use lib.ListN.{drop-of-length-le, length, take, drop, set, length-append, length-take, length-drop, length-set}
+use Rattle.limits.specs.Limits.{aSize}
 use Rattle.laws.specs.Laid.{laidOver}
 use Rattle.code.specs.Code.{sum}
 use Rattle.adjacency.specs.Mixed.{left, digits, product}
@@ -122,7 +123,7 @@ pub record Taking (n x : ℕ) (old : List ℕ) (i s k : ℕ) (out : List ℕ) : 
   pub long : length out ≡ length old
   pub lies : out ≡ laidOver done old
 
-pub taking-none : (n x : ℕ) (old : List ℕ) → 1 ≤ n → n ≤ 11 → Taking n x old 1 (n * (n - 1) / 2) 0 old
+pub taking-none : (n x : ℕ) (old : List ℕ) → 1 ≤ n → n ≤ aSize → Taking n x old 1 (n * (n - 1) / 2) 0 old
 unfolding aEdges powers
 taking-none n x old h l =
     record {
@@ -141,7 +142,7 @@ column-step : (i m x y : ℕ) → left (pows (suc i) m) x ≡ y → columns i (d
 unfolding from digits columns
 column-step i m x y e = rw (← e)
 
-module _ {n x : ℕ} {old : List ℕ} {i s k : ℕ} {out : List ℕ} (t : Taking n x old i s k out) (h : i < n) (small : n ≤ 11) where
+module _ {n x : ℕ} {old : List ℕ} {i s k : ℕ} {out : List ℕ} (t : Taking n x old i s k out) (h : i < n) (small : n ≤ aSize) where
   sum-step : sum (from i (n - i)) ≡ i + sum (from (suc i) (n - suc i))
   unfolding from sum
   sum-step = let e : n - i ≡ suc (n - suc i) = omega arith in rw e

@@ -8,6 +8,7 @@ use native.Mathlib.Numerals.{add-one}
 use lib.Dec.{lit<}
 use lib.ListN.{length, getD, take, drop, set, length-set, length-drop, take-append-drop}
 use lib.Seq.{drop-cons, take-suc, set-at, length-take-le}
+use Rattle.limits.specs.Limits.{zeroSize}
 use Rattle.laws.specs.Laid.{laidOver}
 use Rattle.adjacency.specs.Mixed.{mixed, left, digits, mixed-le}
 use Rattle.adjacency.specs.Adjacency.{from, zeroA, factorial, zeroCam}
@@ -28,7 +29,7 @@ factorial-most : factorial 20 < 2 ^ 64
 unfolding factorial
 factorial-most = lit< tt
 
-pub factorial-fits : {k : ℕ} → k < 21 → factorial k < 2 ^ 64
+pub factorial-fits : {k : ℕ} → k < zeroSize → factorial k < 2 ^ 64
 factorial-fits {k} h =
     let e : k + (20 - k) ≡ 20 = omega arith in
     lt-of-le-of-lt (rw e at (factorial-rises k (20 - k))) factorial-most
@@ -60,7 +61,7 @@ ranked-more {c} {i} {x} r h =
     let f : suc (i + 1) ≡ i + 1 + 1 = omega arith in
     record { low = omega arith; is = rw (add-one i) (rw (e, drop-cons c i 0 h, f, add-one i) at (r .is)) }
 
-pub ranked-fits : {c : List ℕ} {i x : ℕ} → Entries 1 c → length c < 21 → Ranked c i x → i ≤ length c → x < 2 ^ 64
+pub ranked-fits : {c : List ℕ} {i x : ℕ} → Entries 1 c → length c < zeroSize → Ranked c i x → i ≤ length c → x < 2 ^ 64
 ranked-fits {c} {i} {x} k l r h =
     let b = below-entries (entries-drop k i) in
     let e : 1 + i ≡ i + 1 = omega arith in

@@ -7,6 +7,7 @@ use native.Mathlib.Omega.{arith}
 use native.Mathlib.Numerals.{add-one}
 use lib.Pow.{pow-mono, pow-lt}
 use lib.ListN.{length}
+use Rattle.limits.specs.Limits.{aSize}
 use Rattle.code.specs.Code.{sum}
 use Rattle.tree.specs.Skeleton.{IsSkeleton}
 use Rattle.skeleton.specs.Edges.{Edge, one, other, before}
@@ -48,7 +49,7 @@ pub record Summed (E : List ℕ) (v p b : ℕ) : Type 0 where
 pub summed-none : (E : List ℕ) (v : ℕ) → Summed E v 1 0
 summed-none E v = record { low = omega arith; high = omega arith; is = rw (lower-none E v) (sym bits-none); small = omega arith }
 
-pub power-small : {u : ℕ} → u ≤ 11 → 2 ^ (u - 1) ≤ 1024
+pub power-small : {u : ℕ} → u ≤ aSize → 2 ^ (u - 1) ≤ 1024
 power-small {u} h = pow-mono (let k : u - 1 ≤ 10 = omega arith in k)
 
 module _ {E : List ℕ} {v p b : ℕ} (s : Summed E v p b) (h : Edge E p) {u : ℕ} (d : Gives (one E p) (other E p) v u) where
@@ -61,13 +62,13 @@ module _ {E : List ℕ} {v p b : ℕ} (s : Summed E v p b) (h : Edge E p) {u : �
         small = omega (arith, s .small);
       }
 
-  pub summed-hit : 1 ≤ u → v ≤ 11 → Summed E v (p + 1) (b + 2 ^ (u - 1))
+  pub summed-hit : 1 ≤ u → v ≤ aSize → Summed E v (p + 1) (b + 2 ^ (u - 1))
   summed-hit k l =
       record {
         low = omega arith;
         high = omega (arith, h .1);
         is = rw (lower-next E p h d, found-some k, bits-append, bits-one u, ← s .is);
-        small = omega (arith, s .small, power-small (let j : u ≤ 11 = omega (arith, d .small) in j));
+        small = omega (arith, s .small, power-small (let j : u ≤ aSize = omega (arith, d .small) in j));
       }
 
 pub summed-all : {E : List ℕ} {v p b : ℕ} → Summed E v p b → length E / 2 < p → b ≡ bits (lower E v)
@@ -75,7 +76,7 @@ summed-all {E} {v} {p} s h = s .is ∙ ap bits (lower-all E p v (omega arith))
 
 -- ---- A0
 
-pub rows-few : {N : ℕ} → N ≤ 11 → N * (N - 1) ≤ 110
+pub rows-few : {N : ℕ} → N ≤ aSize → N * (N - 1) ≤ 110
 rows-few {N} h = mul-le-mul h (let k : N - 1 ≤ 10 = omega arith in k)
 
 -- x is what the columns before i make
@@ -93,7 +94,7 @@ rated-more {N} {E} {i} {x} r h =
     let e : N - i ≡ suc (N - (i + 1)) = omega arith in
     record { low = omega arith; is = rw (add-one i) (rw (e, add-one i) at (r .is)) }
 
-pub rated-fits : {R N : ℕ} {E : List ℕ} {i x : ℕ} → IsSkeleton 11 R N E → Rated N E i x → x < 2 ^ 55
+pub rated-fits : {R N : ℕ} {E : List ℕ} {i x : ℕ} → IsSkeleton aSize R N E → Rated N E i x → x < 2 ^ 55
 rated-fits {N = N} {E} {i} {x} s r =
     let a = mixed-le x (columns-below s i (N - i)) in
     let k : N * (N - 1) / 2 ≤ 55 = omega (arith, rows-few (s .few)) in
@@ -106,7 +107,7 @@ rated-all {N} {i = i} r h = let e : N - i ≡ 0 = omega arith in rw e at (r .is)
 
 -- one column more, as the machine has it
 pub rated-next :
-    {R N : ℕ} {E : List ℕ} {i x b : ℕ} → IsSkeleton 11 R N E → Rated N E i x → i < N → b ≡ bits (lower E (i + 1))
+    {R N : ℕ} {E : List ℕ} {i x b : ℕ} → IsSkeleton aSize R N E → Rated N E i x → i < N → b ≡ bits (lower E (i + 1))
     → Rated N E (i + 1) ((x * 2 ^ i) % 2 ^ 64 + b) × ((x * 2 ^ i) % 2 ^ 64 + b < 2 ^ 55)
 rated-next {N = N} {E} {i} {x} {b} s r h e =
     let f : bin E i ≡ b = rw (← add-one i) (sym e) in

@@ -1,14 +1,16 @@
 // CAM, 0A and A0: a skeleton by the neighbours that its vertices have among the lower numbers.
 //
 // What a call lends, and 15, are not looked at here. An edge list that is coded has been accepted by `skeleton::check`.
+use limits::A_ZERO;
+use limits::ENDS;
+use limits::SIZE;
+use limits::ZERO_A;
 use refusal::Check;
 
-// The vertices that a form takes at most: a CAM, a 0A and an A0.
-const SIZE: usize = 64;
+// The entries of a CAM that has a 0A, and the bytes of an edge list that has an A0.
+const ENTRIES: usize = ZERO_A - 1;
 
-const ZERO_SIZE: usize = 21;
-
-const A_SIZE: usize = 11;
+const A_ENDS: usize = 2 * (A_ZERO - 1);
 
 ghost use mathlib.Core.Path.{_≡_};
 ghost use mathlib.Core.List.{[], _∷_};
@@ -16,7 +18,7 @@ ghost use Prim.Native.Nat.{_+_, _-_, _*_, _/_, _^_, _≤_, _<_};
 ghost use lib.ListN.{length};
 ghost use Rattle.laws.specs.Laid.{laidOver};
 ghost use Rattle.refusal.specs.Table.{Answers, Clear, row3};
-ghost use Rattle.limits.specs.Limits.{size, valence, zeroSize, aSize};
+ghost use Rattle.limits.specs.Limits.{size, width, zeroSize, aSize};
 ghost use Rattle.tree.specs.Skeleton.{IsSkeleton};
 ghost use Rattle.skeleton.specs.Edges.{Edge, one, other};
 ghost use Rattle.adjacency.specs.Adjacency.{lower, Physical, row14, cam, camEdges, zeroA, factorial, zeroCam, row4, row5-cam, row6-cam, madeRows, camRows, zeroRows, bits, aZero, rows, aEdges, row5-ones, aRows};
@@ -145,19 +147,21 @@ pub fn cam_edges(cam: &[u8], out: &mut [u8])
 }
 
 // 7, 8 and 9 of the edges that a CAM makes, behind its 3, 5 and 6.
-fn made(n: usize, cam: &[u8]) -> Check
+fn made(limit: u8, n: usize, cam: &[u8]) -> Check
+    requires { ⌜ limit ≤ width ⌝ }
     requires { ⌜ Clear (camFront size n (now cam)) ⌝ }
-    ensures { λ r. ⌜ Answers (madeRows valence (camEdges (now (cam .entry)))) r ⌝ }
+    ensures { λ r. ⌜ Answers (madeRows limit (camEdges (now (cam .entry)))) r ⌝ }
 {
-    let mut edges = [0u8; 126];
+    let mut edges = [0u8; ENDS];
     let m = 2 * cam.len();
     cam_edges(cam, &mut edges[..m]);
-    skeleton::check(SIZE, n, &edges[..m], 1)
+    skeleton::check(SIZE, limit, n, &edges[..m], 1)
 }
 
 // Every refusal of a CAM.
-pub fn cam_check(n: usize, cam: &[u8]) -> Check
-    ensures { λ r. ⌜ Answers (camRows size valence n (now (cam .entry))) r ⌝ }
+pub fn cam_check(limit: u8, n: usize, cam: &[u8]) -> Check
+    requires { ⌜ limit ≤ width ⌝ }
+    ensures { λ r. ⌜ Answers (camRows size limit n (now (cam .entry))) r ⌝ }
 {
     if let Check::Refuse(k, p) = cam_sizes(n, cam) {
         return Check::Refuse(k, p);
@@ -165,7 +169,7 @@ pub fn cam_check(n: usize, cam: &[u8]) -> Check
     if let Check::Refuse(k, p) = cam_entries(cam) {
         return Check::Refuse(k, p);
     }
-    made(n, cam)
+    made(limit, n, cam)
 }
 
 // The 0A of a CAM.
@@ -215,7 +219,7 @@ pub fn zero_cam(n: usize, x: u64, out: &mut [u8])
 fn zero_sizes(n: usize, x: u64) -> Check
     ensures { λ r. ⌜ Answers (row3 zeroSize n ∷ row4 (factorial (n - 1)) x ∷ []) r ⌝ }
 {
-    if let Check::Refuse(k, p) = refusal::sized(n, ZERO_SIZE) {
+    if let Check::Refuse(k, p) = refusal::sized(n, ZERO_A) {
         return Check::Refuse(k, p);
     }
     if factorial(n - 1) <= x {
@@ -225,15 +229,16 @@ fn zero_sizes(n: usize, x: u64) -> Check
 }
 
 // Every refusal of a 0A.
-pub fn zero_check(n: usize, x: u64) -> Check
-    ensures { λ r. ⌜ Answers (zeroRows zeroSize valence n x) r ⌝ }
+pub fn zero_check(limit: u8, n: usize, x: u64) -> Check
+    requires { ⌜ limit ≤ width ⌝ }
+    ensures { λ r. ⌜ Answers (zeroRows zeroSize limit n x) r ⌝ }
 {
     if let Check::Refuse(k, p) = zero_sizes(n, x) {
         return Check::Refuse(k, p);
     }
-    let mut cam = [0u8; 20];
+    let mut cam = [0u8; ENTRIES];
     zero_cam(n, x, &mut cam[..n - 1]);
-    made(n, &cam[..n - 1])
+    made(limit, n, &cam[..n - 1])
 }
 
 // BIN of vertex v: bit r - 1 for each lower neighbour r.
@@ -256,7 +261,7 @@ fn bin(edges: &[u8], v: usize) -> u64
 
 // The A0 of a skeleton.
 pub fn a_zero(n: usize, edges: &[u8]) -> u64
-    requires { ⌜ IsSkeleton aSize valence n (now edges) ⌝ }
+    requires { ⌜ IsSkeleton aSize width n (now edges) ⌝ }
     ensures { λ r. ⌜ r ≡ aZero n (now (edges .entry)) ⌝ }
 {
     let mut x: u64 = 0;
@@ -308,7 +313,7 @@ pub fn a_edges(n: usize, x: u64, out: &mut [u8])
 fn a_sizes(n: usize, x: u64) -> Check
     ensures { λ r. ⌜ Answers (row3 aSize n ∷ row4 (2 ^ (n * (n - 1) / 2)) x ∷ row5-ones n x ∷ []) r ⌝ }
 {
-    if let Check::Refuse(k, p) = refusal::sized(n, A_SIZE) {
+    if let Check::Refuse(k, p) = refusal::sized(n, A_ZERO) {
         return Check::Refuse(k, p);
     }
     if (1u64 << (n * (n - 1) / 2)) <= x {
@@ -321,13 +326,14 @@ fn a_sizes(n: usize, x: u64) -> Check
 }
 
 // Every refusal of an A0.
-pub fn a_check(n: usize, x: u64) -> Check
-    ensures { λ r. ⌜ Answers (aRows aSize valence n x) r ⌝ }
+pub fn a_check(limit: u8, n: usize, x: u64) -> Check
+    requires { ⌜ limit ≤ width ⌝ }
+    ensures { λ r. ⌜ Answers (aRows aSize limit n x) r ⌝ }
 {
     if let Check::Refuse(k, p) = a_sizes(n, x) {
         return Check::Refuse(k, p);
     }
-    let mut edges = [0u8; 20];
+    let mut edges = [0u8; A_ENDS];
     a_edges(n, x, &mut edges[..2 * (n - 1)]);
-    skeleton::check(A_SIZE, n, &edges[..2 * (n - 1)], 1)
+    skeleton::check(A_ZERO, limit, n, &edges[..2 * (n - 1)], 1)
 }

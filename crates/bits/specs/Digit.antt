@@ -38,6 +38,10 @@ lead-stays (false ∷ xs) ys h = refl
 pub near-exact : (m : ℕ) {r : ℕ} {bs : List Bool} → r ≡ lead bs → Near m r bs
 near-exact m e = record { low = omega arith; exact = λ h. e }
 
+-- what m bits show, fewer show as far as they go
+pub near-fewer : {m r : ℕ} (n : ℕ) {bs : List Bool} → n ≤ m → Near m r bs → Near n r bs
+near-fewer n l h = record { low = h .low; exact = λ k. h .exact (omega arith) }
+
 -- a count over m bits or more
 near-part : (m : ℕ) (xs ys : List Bool) → m ≤ length xs → Near m (lead xs) (xs ++ ys)
 near-part m xs ys h = record { low = lead-part xs ys; exact = λ l. lead-stays xs ys (omega arith) }

@@ -4,7 +4,7 @@
 use mathlib.Core.Path.{_≡_, refl, sym, ap}
 use mathlib.Core.Bool.{Bool}
 use mathlib.Core.List.{List, [], _∷_, _++_}
-use Prim.Native.Nat.{ℕ, _+_, _*_, _≤_, _<_}
+use Prim.Native.Nat.{ℕ, suc, _+_, _*_, _≤_, _<_}
 use native.Mathlib.Numerals.{add-one}
 use native.Mathlib.Nat.{le-refl}
 use native.Mathlib.Omega.{arith}
@@ -57,7 +57,7 @@ Turns R bs out n b (Stop f) = Scanned R bs out f
 
 -- the same of any m bits in which k ones were seen from the bit b on
 abbrev pub Turned : ℕ → ℕ → ℕ → ℕ → ℕ → List ℕ → List ℕ → Turn → Type 0
-Turned R m k n b old new r = (bs : List Bool) → length bs ≡ m → Sofar R bs old n b → Near 9 k (drop b bs) → Turns R bs new n b r
+Turned R m k n b old new r = (bs : List Bool) → length bs ≡ m → Sofar R bs old n b → Near (suc R) k (drop b bs) → Turns R bs new n b r
 
 -- ---- what each way on tells
 

@@ -40,9 +40,9 @@ pub record Numbers (c : List ℕ) (x : ℕ) : Type 0 where
   pub carries : Carries Nothing (word (2 * length c - 1) x) c
   pub below : x < 2 ^ (2 * length c - 1)
 
--- a right digit code can be written
-pub right-coded : {R : ℕ} (most : ℕ) (c : List ℕ) → Clear (digitRows R c) → length c ≤ most → Coded R most c
-right-coded {R} most c r l = record { ends = right-ends c r; size = l; small = λ i. go i (decLt i (length c)) (decLe (getD c i 0) R) }
+-- a right digit code can be written where its digits are within what the writer takes
+pub right-coded : {R : ℕ} (S most : ℕ) (c : List ℕ) → R ≤ S → Clear (digitRows R c) → length c ≤ most → Coded S most c
+right-coded {R} S most c s r l = record { ends = right-ends c r; size = l; small = λ i. omega (arith, s, go i (decLt i (length c)) (decLe (getD c i 0) R)) }
   where
     go : (i : ℕ) → Dec (i < length c) → Dec (getD c i 0 ≤ R) → getD c i 0 ≤ R
     go i d (yes h) = h

@@ -3,7 +3,7 @@ ghost use mathlib.Core.Path.{_≡_};
 ghost use mathlib.Core.List.{[], _∷_};
 ghost use Prim.Native.Nat.{_+_, _-_, _*_, _/_, _^_, _<_, _≤_};
 ghost use lib.ListN.{length, getD, drop};
-ghost use Rattle.limits.specs.Limits.{size, valence, packedBytes, wholeSize};
+ghost use Rattle.limits.specs.Limits.{size, width, packedBytes, wholeSize};
 ghost use Rattle.bits.specs.Bits.{bytes, word, fractionBits, Fill, Nothing, Zeros, row4, packedRows, wholeRows};
 ghost use Rattle.bits.specs.Words.{lead};
 ghost use Rattle.bits.specs.Digit.{Near};
@@ -13,6 +13,8 @@ ghost use Rattle.bits.specs.Written.{Coded, Packs, Numbers};
 ghost use Rattle.bits.specs.Writing.{Room};
 ghost use Rattle.refusal.specs.Table.{Answers, Writes};
 ghost use Rattle.bits.specs.Decided.{Ended, Ordered, Decision};
+use limits::PACKED;
+use limits::WHOLE;
 use refusal::Answer;
 use refusal::Check;
 
@@ -63,11 +65,12 @@ fn digit_in(x: u64, len: usize, bit: usize) -> usize
 
 // One turn of a reader of m bits: the digit at the bit b has k ones and stands behind n others. The bits read are the digits and their
 // sum, so the code has ended as soon as they are fewer than two for each digit.
-fn step(k: usize, m: usize, n: usize, b: usize, out: &mut [u8]) -> Turn
+fn step(limit: u8, k: usize, m: usize, n: usize, b: usize, out: &mut [u8]) -> Turn
+    requires { ⌜ 1 ≤ limit ⌝ }
     requires { ⌜ Stands m n b (now out) ⌝ }
-    ensures { λ r. ⌜ Turned valence m k n b (now (out .entry)) (now (out .exit)) r ⌝ }
+    ensures { λ r. ⌜ Turned limit m k n b (now (out .entry)) (now (out .exit)) r ⌝ }
 {
-    if (code::top(n + 1) as usize) < k {
+    if (code::top(limit, n + 1) as usize) < k {
         return Turn::Stop(Found::Over(n + 1));
     }
     if m <= b + k {
@@ -81,16 +84,17 @@ fn step(k: usize, m: usize, n: usize, b: usize, out: &mut [u8]) -> Turn
     Turn::On(e)
 }
 
-// The digits of a packed code, up to its end.
-pub fn digits(s: &[u8], out: &mut [u8]) -> Found
+// The digits of a packed code, up to its end. No digit may be more than the nine bits tell that are looked at.
+pub fn digits(limit: u8, s: &[u8], out: &mut [u8]) -> Found
+    requires { ⌜ (1 ≤ limit) × (limit < 9) ⌝ }
     requires { ⌜ (length (now s) ≤ packedBytes) × (length (now out) ≡ size) ⌝ }
-    ensures { λ r. ⌜ Scanned valence (bytes (now (s .entry))) (now (out .exit)) r ⌝ }
+    ensures { λ r. ⌜ Scanned limit (bytes (now (s .entry))) (now (out .exit)) r ⌝ }
 {
     let m = 8 * s.len();
     let mut n: usize = 0;
     let mut b: usize = 0;
     while b < m {
-        match step(digit_at(s, b), m, n, b, out) {
+        match step(limit, digit_at(s, b), m, n, b, out) {
             Turn::Stop(found) => return found,
             Turn::On(e) => b = e,
         }
@@ -100,14 +104,15 @@ pub fn digits(s: &[u8], out: &mut [u8]) -> Found
 }
 
 // The digits of the len lowest bits of x, up to the code's end.
-pub fn word_digits(x: u64, len: usize, out: &mut [u8]) -> Found
+pub fn word_digits(limit: u8, x: u64, len: usize, out: &mut [u8]) -> Found
+    requires { ⌜ 1 ≤ limit ⌝ }
     requires { ⌜ (len ≤ 64) × (length (now out) ≡ size) ⌝ }
-    ensures { λ r. ⌜ Scanned valence (word len x) (now (out .exit)) r ⌝ }
+    ensures { λ r. ⌜ Scanned limit (word len x) (now (out .exit)) r ⌝ }
 {
     let mut n: usize = 0;
     let mut b: usize = 0;
     while b < len {
-        match step(digit_in(x, len, b), len, n, b, out) {
+        match step(limit, digit_in(x, len, b), len, n, b, out) {
             Turn::Stop(found) => return found,
             Turn::On(e) => b = e,
         }
@@ -117,11 +122,12 @@ pub fn word_digits(x: u64, len: usize, out: &mut [u8]) -> Found
 }
 
 // The digits of a packed code, with rows 10 to 12.
-pub fn packed(s: &[u8], out: &mut [u8]) -> Answer
+pub fn packed(limit: u8, s: &[u8], out: &mut [u8]) -> Answer
+    requires { ⌜ (1 ≤ limit) × (limit < 9) ⌝ }
     requires { ⌜ (length (now s) ≤ packedBytes) × (length (now out) ≡ size) ⌝ }
-    ensures { λ r. ⌜ Reading valence Fill (bytes (now (s .entry))) (now (out .exit)) r ⌝ }
+    ensures { λ r. ⌜ Reading limit Fill (bytes (now (s .entry))) (now (out .exit)) r ⌝ }
 {
-    match digits(s, out) {
+    match digits(limit, s, out) {
         Found::Over(p) => Answer::Refused(10, p),
         Found::Short(n) => Answer::Refused(12, n),
         Found::Ended(n) => {
@@ -138,11 +144,12 @@ pub fn packed(s: &[u8], out: &mut [u8]) -> Answer
 }
 
 // The digits of a whole number with N = n beside it, with rows 10 to 12.
-pub fn number(n: usize, x: u64, out: &mut [u8]) -> Answer
+pub fn number(limit: u8, n: usize, x: u64, out: &mut [u8]) -> Answer
+    requires { ⌜ 1 ≤ limit ⌝ }
     requires { ⌜ (1 ≤ n) × ((n ≤ wholeSize) × (length (now out) ≡ size)) ⌝ }
-    ensures { λ r. ⌜ Reading valence Nothing (word (2 * n - 1) x) (now (out .exit)) r ⌝ }
+    ensures { λ r. ⌜ Reading limit Nothing (word (2 * n - 1) x) (now (out .exit)) r ⌝ }
 {
-    match word_digits(x, 2 * n - 1, out) {
+    match word_digits(limit, x, 2 * n - 1, out) {
         Found::Over(p) => Answer::Refused(10, p),
         Found::Short(e) => Answer::Refused(12, e),
         Found::Ended(e) => {
@@ -155,11 +162,12 @@ pub fn number(n: usize, x: u64, out: &mut [u8]) -> Answer
 }
 
 // The digits of the len lowest bits of x, behind which only zeros may follow, with rows 10 to 12.
-fn zeros_behind(x: u64, len: usize, out: &mut [u8]) -> Answer
+fn zeros_behind(limit: u8, x: u64, len: usize, out: &mut [u8]) -> Answer
+    requires { ⌜ 1 ≤ limit ⌝ }
     requires { ⌜ (len ≤ 64) × (length (now out) ≡ size) ⌝ }
-    ensures { λ r. ⌜ Reading valence Zeros (word len x) (now (out .exit)) r ⌝ }
+    ensures { λ r. ⌜ Reading limit Zeros (word len x) (now (out .exit)) r ⌝ }
 {
-    match word_digits(x, len, out) {
+    match word_digits(limit, x, len, out) {
         Found::Over(p) => Answer::Refused(10, p),
         Found::Short(n) => Answer::Refused(12, n),
         Found::Ended(n) => {
@@ -175,14 +183,15 @@ fn zeros_behind(x: u64, len: usize, out: &mut [u8]) -> Answer
 }
 
 // The digits of the 53 bits of a fraction, with rows 10 to 12; `rest`: there is a rest other than zero behind them.
-pub fn fraction(x: u64, rest: bool, out: &mut [u8]) -> Answer
+pub fn fraction(limit: u8, x: u64, rest: bool, out: &mut [u8]) -> Answer
+    requires { ⌜ 1 ≤ limit ⌝ }
     requires { ⌜ (x < 2 ^ 53) × (length (now out) ≡ size) ⌝ }
-    ensures { λ r. ⌜ Reading valence Zeros (fractionBits x rest) (now (out .exit)) r ⌝ }
+    ensures { λ r. ⌜ Reading limit Zeros (fractionBits x rest) (now (out .exit)) r ⌝ }
 {
     if rest {
-        return zeros_behind(2 * x + 1, 54, out);
+        return zeros_behind(limit, 2 * x + 1, 54, out);
     }
-    zeros_behind(x, 53, out)
+    zeros_behind(limit, x, 53, out)
 }
 
 // Behind rows 10 to 12: a refusal stays, and of a code that was read 13 is judged.
@@ -201,14 +210,15 @@ pub fn siblings(read: Answer, digits: &[u8]) -> Answer
 }
 
 // The right code in a packed code: rows 3 and 10 to 13.
-pub fn packed_code(s: &[u8], out: &mut [u8]) -> Answer
+pub fn packed_code(limit: u8, s: &[u8], out: &mut [u8]) -> Answer
+    requires { ⌜ (1 ≤ limit) × (limit < 9) ⌝ }
     requires { ⌜ length (now out) ≡ size ⌝ }
-    ensures { λ r. ⌜ Decision (packedRows packedBytes valence (now (s .entry))) valence Fill (bytes (now (s .entry))) (now (out .exit)) r ⌝ }
+    ensures { λ r. ⌜ Decision (packedRows packedBytes limit (now (s .entry))) limit Fill (bytes (now (s .entry))) (now (out .exit)) r ⌝ }
 {
-    if let Check::Refuse(k, p) = refusal::sized(s.len(), 16) {
+    if let Check::Refuse(k, p) = refusal::sized(s.len(), PACKED) {
         return Answer::Refused(k, p);
     }
-    let read = packed(s, out);
+    let read = packed(limit, s, out);
     siblings(read, out)
 }
 
@@ -224,17 +234,18 @@ fn ranged(n: usize, x: u64) -> Check
 }
 
 // The right code in a whole number with N = n beside it: rows 3, 4 and 10 to 13.
-pub fn number_code(n: usize, x: u64, out: &mut [u8]) -> Answer
+pub fn number_code(limit: u8, n: usize, x: u64, out: &mut [u8]) -> Answer
+    requires { ⌜ 1 ≤ limit ⌝ }
     requires { ⌜ length (now out) ≡ size ⌝ }
-    ensures { λ r. ⌜ Decision (wholeRows wholeSize valence n x) valence Nothing (word (2 * n - 1) x) (now (out .exit)) r ⌝ }
+    ensures { λ r. ⌜ Decision (wholeRows wholeSize limit n x) limit Nothing (word (2 * n - 1) x) (now (out .exit)) r ⌝ }
 {
-    if let Check::Refuse(k, p) = refusal::sized(n, 32) {
+    if let Check::Refuse(k, p) = refusal::sized(n, WHOLE) {
         return Answer::Refused(k, p);
     }
     if let Check::Refuse(k, p) = ranged(n, x) {
         return Answer::Refused(k, p);
     }
-    let read = number(n, x, out);
+    let read = number(limit, n, x, out);
     siblings(read, out)
 }
 
@@ -256,7 +267,7 @@ fn digit(code: &[u8], i: usize) -> u64
 
 // The whole number of a code.
 pub fn number_of(code: &[u8]) -> u64
-    requires { ⌜ Coded valence wholeSize (now code) ⌝ }
+    requires { ⌜ Coded width wholeSize (now code) ⌝ }
     ensures { λ r. ⌜ Numbers (now (code .entry)) r ⌝ }
 {
     let mut x: u64 = 0;
@@ -269,8 +280,9 @@ pub fn number_of(code: &[u8]) -> u64
 }
 
 // The packed form of a code, at the start of out; how many bytes it has. The c lowest bits of a are still to be written.
+// With digits up to six, one digit fills at most one byte.
 pub fn pack(code: &[u8], out: &mut [u8]) -> usize
-    requires { ⌜ Coded valence size (now code) × ((2 * length (now code) + 6) / 8 ≤ length (now out)) ⌝ }
+    requires { ⌜ Coded 6 size (now code) × ((2 * length (now code) + 6) / 8 ≤ length (now out)) ⌝ }
     ensures { λ r. ⌜ Writes (Packs (now (code .entry))) (now (out .entry)) r (now (out .exit)) ⌝ }
 {
     let mut a: u64 = 0;

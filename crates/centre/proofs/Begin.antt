@@ -7,7 +7,7 @@ use Prim.Native.Nat.{ℕ, _-_, _≤_}
 use native.Mathlib.Omega.{arith}
 use lib.ListN.{length, getD}
 use lib.Seq.{ext-getD, length-take-le, getD-take}
-use Rattle.limits.specs.Limits.{size, valence}
+use Rattle.limits.specs.Limits.{size, width}
 use Rattle.tree.specs.Skeleton.{arcs, neighbours, degree, Degrees}
 use Rattle.tree.specs.Walks.{turn, arc-end}
 use Rattle.tree.specs.Arcs.{near-arc, arc-near, neighbours-once}
@@ -16,7 +16,7 @@ use Rattle.centre.specs.Peeling.{deg, row, Stays, Copy, Leaves}
 
 -- ---- a row and its neighbours
 
-module _ {N : ℕ} {E : List ℕ} {t : List (List ℕ)} {d : List ℕ} (s : IsTable N E t d) (small : N ≤ size) (v : ℕ) (low : 1 ≤ v) (high : v ≤ N) (few : deg d v ≤ valence) where
+module _ {N : ℕ} {E : List ℕ} {t : List (List ℕ)} {d : List ℕ} (s : IsTable N E t d) (small : N ≤ size) (v : ℕ) (low : 1 ≤ v) (high : v ≤ N) (few : deg d v ≤ width) where
   pub row-neighbours : row t d v ≡ neighbours (arcs E) v
   unfolding degree
   row-neighbours =
@@ -33,7 +33,7 @@ module _ {N : ℕ} {E : List ℕ} {t : List (List ℕ)} {d : List ℕ} (s : IsTa
 -- ---- the copy
 
 module _ {N : ℕ} {t : List (List ℕ)} {d : List ℕ} (h : Held N t d) where
-  pub few : (v : ℕ) → 1 ≤ v → v ≤ N → deg d v ≤ valence
+  pub few : (v : ℕ) → 1 ≤ v → v ≤ N → deg d v ≤ width
   unfolding Degrees
   few v l k = omega (arith, h .table .degs v l k, h .skeleton .degrees v l k)
 

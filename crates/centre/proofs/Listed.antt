@@ -7,6 +7,7 @@ use native.Mathlib.Decide.{ℕ-discrete}
 use native.Mathlib.Omega.{arith}
 use lib.ListN.{length, getD, take, set, length-set}
 use lib.Seq.{take-suc-set, length-take-le}
+use Rattle.limits.specs.Limits.{size}
 use Rattle.laws.specs.Once.{Once, once-perm, fits, upTo, upTo-length, upTo-in}
 use Rattle.centre.specs.Peeling.{deg, Queue, Leaves}
 use Rattle.centre.proofs.Rows.{last-first}
@@ -26,7 +27,7 @@ module _ (q : List ℕ) (b w : ℕ) (h : b < length q) where
   once-pushed o n = rw (take-suc-set q b w h) (once-perm (Permᴰ·symm (last-first (take b q) w)) (n, o))
 
 -- a further leaf w
-module _ {N M : ℕ} {d q : List ℕ} {b : ℕ} (s : Queue N d q b) (w : ℕ) (more : N ≤ M) (small : M ≤ 64) (low : 1 ≤ w) (high : w ≤ M) (n : List·Memᴰ w (take b q) → ⊥) where
+module _ {N M : ℕ} {d q : List ℕ} {b : ℕ} (s : Queue N d q b) (w : ℕ) (more : N ≤ M) (small : M ≤ size) (low : 1 ≤ w) (high : w ≤ M) (n : List·Memᴰ w (take b q) → ⊥) where
   -- has room in the list
   pub room : b < M
   room =
@@ -46,7 +47,7 @@ module _ {N M : ℕ} {d q : List ℕ} {b : ℕ} (s : Queue N d q b) (w : ℕ) (m
 
 -- ---- the leaves of a table, found from the front
 
-pub leaves-none : {d q : List ℕ} → length q ≡ 64 → Leaves 0 d q 0
+pub leaves-none : {d q : List ℕ} → length q ≡ size → Leaves 0 d q 0
 leaves-none e = record {
   queue = record { long = e; end = omega arith; once = tt; inside = λ v m. absurd (List·Memᴰ·not-nil m); leaf = λ v m. absurd (List·Memᴰ·not-nil m) };
   all = λ v h k l. let z : ⊥ = omega arith in absurd z;
@@ -71,7 +72,7 @@ module _ {d q : List ℕ} {b i : ℕ} (s : Leaves i d q b) where
       step v l k f (no n) = s .all v l (omega arith) f
 
   -- vertex i + 1 is one
-  module _ (small : i < 64) (h : getD d i 0 < 2) where
+  module _ (small : i < size) (h : getD d i 0 < 2) where
     absent : List·Memᴰ (suc i) (take b q) → ⊥
     absent m = let z : ⊥ = omega (arith, s .queue .inside (suc i) m) in z
 

@@ -8,6 +8,7 @@ use native.Mathlib.Numerals.{add-one}
 use native.Mathlib.Omega.{arith}
 use lib.ListN.{length, getD, take, drop, set, length-set}
 use lib.Seq.{take-suc, split-at, set-split, getD-set-same, getD-set-other, take-set-le, take-set-lt, length-take-le, getD-take}
+use Rattle.limits.specs.Limits.{size, width}
 use Rattle.laws.specs.Part.{part, part-cons}
 use Rattle.skeleton.specs.Table.{Shaped}
 use Rattle.centre.specs.Peeling.{deg, Without, Linked, Unlinked}
@@ -73,7 +74,7 @@ module _ {v w : ℕ} {t : List (List ℕ)} {d : List ℕ} (s : Shaped t d) (k : 
   at-deg : deg degs w ≡ deg d w - 1
   at-deg = getD-set-same d (w - 1) (deg d w - 1) 0 (omega (arith, s .degs))
 
-  wide : (i : ℕ) → i < 64 → Dec (i ≡ w - 1) → length (getD rows i []) ≡ 4
+  wide : (i : ℕ) → i < size → Dec (i ≡ w - 1) → length (getD rows i []) ≡ width
   wide i h (yes e) = rw (e, at-row) (p .long ∙ s .wide (w - 1) (omega arith))
   wide i h (no n) = rw (getD-set-other t (w - 1) i r [] n) (s .wide i h)
 

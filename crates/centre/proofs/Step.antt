@@ -9,6 +9,7 @@ use native.Mathlib.Decide.{ℕ-discrete}
 use native.Mathlib.Omega.{arith}
 use lib.ListN.{length, getD, take, drop}
 use lib.Seq.{take-suc, take-set-le}
+use Rattle.limits.specs.Limits.{size}
 use Rattle.laws.specs.Perms.{perm-in}
 use Rattle.laws.specs.Once.{Once, once-perm}
 use Rattle.centre.specs.Peeling.{deg, row, Stays, Queue, Copy, Ready, Round, Linked, Unlinked, Pushed}
@@ -99,7 +100,7 @@ module _ {N : ℕ} {t₀ : List (List ℕ)} {d₀ q₀ : List ℕ} {e : ℕ} {t 
     fresh : deg d′ w ≡ 1 → List·Memᴰ w (take b q) → ⊥
     fresh f k = let z : ⊥ = omega (arith, copy .queue .leaf w k, u .less) in z
 
-    pub there-is-room : deg d′ w ≡ 1 → b < 64
+    pub there-is-room : deg d′ w ≡ 1 → b < size
     there-is-room f = omega (arith, copy .small, room (copy .queue) w (omega arith) (copy .small) (w-stays .low) (w-stays .high) (fresh f))
 
     queue : Queue N d′ q b

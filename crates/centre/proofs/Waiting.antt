@@ -5,6 +5,7 @@ use Prim.Native.Nat.{ℕ, suc, _-_, _≤_, _<_}
 use native.Mathlib.Omega.{arith}
 use lib.ListN.{length, getD, take, drop, take-append-drop}
 use lib.Seq.{take-suc, take-take, length-take-le, drop-cons, getD-take}
+use Rattle.limits.specs.Limits.{size}
 use Rattle.laws.specs.Once.{Once, once-left, once-apart}
 use Rattle.centre.specs.Peeling.{deg, row, Stays, Copy}
 
@@ -46,5 +47,5 @@ module _ {N : ℕ} {t : List (List ℕ)} {d q : List ℕ} {i b : ℕ} (c : Copy 
   -- the row of a vertex with one neighbour
   pub single : (v : ℕ) → Stays N q i v → deg d v ≡ 1 → row t d v ≡ getD (getD t (v - 1) []) 0 0 ∷ []
   single v s h =
-      let k : v - 1 < 64 = omega (arith, s .low, s .high, c .small) in
+      let k : v - 1 < size = omega (arith, s .low, s .high, c .small) in
       rw h (take-suc (getD t (v - 1) []) 0 0 (omega (arith, c .shaped .wide (v - 1) k)))

@@ -7,7 +7,7 @@ use mathlib.Core.List.{List, [], _∷_, List·Memᴰ, List·Permᴰ}
 use Prim.Native.Nat.{ℕ, suc, _-_, _≤_, _<_}
 use lib.ListN.{length, getD, take, drop, set}
 use Rattle.laws.specs.Once.{Once}
-use Rattle.limits.specs.Limits.{size, valence}
+use Rattle.limits.specs.Limits.{size, width}
 use Rattle.skeleton.specs.Table.{Shaped}
 
 -- the degree of v in a table, and its neighbours
@@ -37,7 +37,7 @@ pub record Copy (N : ℕ) (t : List (List ℕ)) (d q : List ℕ) (a b : ℕ) : T
   pub shaped : Shaped t d
   pub queue : Queue N d q b
   pub all : (v : ℕ) → Stays N q a v → deg d v < 2 → List·Memᴰ v (take b q)
-  pub few : (v : ℕ) → Stays N q a v → deg d v ≤ valence
+  pub few : (v : ℕ) → Stays N q a v → deg d v ≤ width
   pub once : (v : ℕ) → Stays N q a v → Once (row t d v)
   pub stay : (v w : ℕ) → Stays N q a v → List·Memᴰ w (row t d v) → Stays N q a w
   pub back : (v w : ℕ) → Stays N q a v → List·Memᴰ w (row t d v) → List·Memᴰ v (row t d w)
@@ -75,7 +75,7 @@ pub record Without (l : List ℕ) (m v : ℕ) (r : List ℕ) : Type 0 where
 pub record Linked (v w : ℕ) (t : List (List ℕ)) (d : List ℕ) : Type 0 where
   pub low : 1 ≤ w
   pub high : w ≤ size
-  pub few : deg d w ≤ valence
+  pub few : deg d w ≤ width
   pub there : List·Memᴰ v (row t d w)
 
 -- v is off the row of w

@@ -2,11 +2,13 @@
 //
 // The copy holds what is left. A list of vertices has those that are off, in front, and behind them the leaves of what is left: a round
 // takes off just these, and each vertex that it makes a leaf goes to the end of the list. So no vertex is looked at twice as a leaf.
+use limits::SIZE;
+use limits::WIDTH;
 ghost use mathlib.Core.Path.{_≡_};
 ghost use mathlib.Core.List.{List, List·Memᴰ};
 ghost use Prim.Native.Nat.{ℕ, _≤_, _<_};
 ghost use lib.ListN.{length, take};
-ghost use Rattle.limits.specs.Limits.{size, valence};
+ghost use Rattle.limits.specs.Limits.{size, width};
 ghost use Rattle.tree.specs.Skeleton.{IsTree};
 ghost use Rattle.path.specs.Path.{IsCentre};
 ghost use Rattle.skeleton.specs.Table.{Shaped, IsTable, Held};
@@ -25,8 +27,8 @@ fn wide(x: u8) -> usize
 }
 
 // The row without v, which is one of its first m: the last of these takes its place.
-fn without(row: [u8; 4], m: usize, v: u8) -> [u8; 4]
-    requires { ⌜ m ≤ valence ⌝ }
+fn without(row: [u8; WIDTH], m: usize, v: u8) -> [u8; WIDTH]
+    requires { ⌜ m ≤ width ⌝ }
     requires { ⌜ List·Memᴰ v (take m row) ⌝ }
     ensures { λ r. ⌜ Without row m v r ⌝ }
 {
@@ -40,7 +42,7 @@ fn without(row: [u8; 4], m: usize, v: u8) -> [u8; 4]
 }
 
 // v goes off the row of w.
-fn unlink(t: &mut [[u8; 4]; 64], d: &mut [u8; 64], w: usize, v: u8)
+fn unlink(t: &mut [[u8; WIDTH]; SIZE], d: &mut [u8; SIZE], w: usize, v: u8)
     requires { ⌜ Shaped (now t) (now d) ⌝ }
     requires { ⌜ Linked v w (now t) (now d) ⌝ }
     ensures { λ _. ⌜ Unlinked v w (now (t .entry)) (now (d .entry)) (now (t .exit)) (now (d .exit)) ⌝ }
@@ -53,7 +55,7 @@ fn unlink(t: &mut [[u8; 4]; 64], d: &mut [u8; 64], w: usize, v: u8)
 }
 
 // w goes to the end of the list where it has one neighbour left.
-fn push(q: &mut [u8; 64], b: usize, w: u8, left: u8) -> usize
+fn push(q: &mut [u8; SIZE], b: usize, w: u8, left: u8) -> usize
     requires { ⌜ length (now q) ≡ size ⌝ }
     requires { ⌜ (left ≡ 1 → b < size) ⌝ }
     ensures { λ r. ⌜ Pushed w left b (now (q .entry)) (now (q .exit)) r ⌝ }
@@ -66,7 +68,7 @@ fn push(q: &mut [u8; 64], b: usize, w: u8, left: u8) -> usize
 }
 
 // The leaves of a table, listed; the number of them.
-fn leaves(d: &[u8; 64], n: usize, q: &mut [u8; 64]) -> usize
+fn leaves(d: &[u8; SIZE], n: usize, q: &mut [u8; SIZE]) -> usize
     requires { ⌜ (length (now d) ≡ size) × (length (now q) ≡ size) × (n ≤ size) ⌝ }
     ensures { λ r. ⌜ Leaves n (now (d .entry)) (now (q .exit)) r ⌝ }
 {
@@ -84,7 +86,7 @@ fn leaves(d: &[u8; 64], n: usize, q: &mut [u8; 64]) -> usize
 }
 
 // The leaves of the list from a to e go off the copy; those that the round makes stand behind them, to the end that is the result.
-fn round(t: &mut [[u8; 4]; 64], d: &mut [u8; 64], q: &mut [u8; 64], a: usize, e: usize) -> usize
+fn round(t: &mut [[u8; WIDTH]; SIZE], d: &mut [u8; SIZE], q: &mut [u8; SIZE], a: usize, e: usize) -> usize
     requires { ⌜ Peelable (now t) (now d) (now q) a e ⌝ }
     ensures { λ r. ⌜ ((N : ℕ) → Copy N (now (t .entry)) (now (d .entry)) (now (q .entry)) a e → Round N (now (t .entry)) (now (d .entry)) (now (q .entry)) e (now (t .exit)) (now (d .exit)) (now (q .exit)) e r) ⌝ }
 {
@@ -103,13 +105,13 @@ fn round(t: &mut [[u8; 4]; 64], d: &mut [u8; 64], q: &mut [u8; 64], a: usize, e:
 }
 
 // The centre of the skeleton whose table this is. Its rows and degrees are copied, and leaves are peeled off the copy.
-pub fn centre(rows: &[[u8; 4]; 64], degs: &[u8; 64], n: usize) -> Middles
+pub fn centre(rows: &[[u8; WIDTH]; SIZE], degs: &[u8; SIZE], n: usize) -> Middles
     requires { ⌜ Held n (now rows) (now degs) ⌝ }
     ensures { λ r. ⌜ ((E : List ℕ) → IsTree n E → IsTable n E (now (rows .entry)) (now (degs .entry)) → IsCentre n E (r .first) (r .second)) ⌝ }
 {
     let mut t = *rows;
     let mut d = *degs;
-    let mut q = [0u8; 64];
+    let mut q = [0u8; SIZE];
     let mut a: usize = 0;
     let mut e = leaves(&d, n, &mut q);
     loop {

@@ -6,7 +6,7 @@ use Prim.Native.Nat.{ℕ, suc, _+_, _-_, _≤_, _<_}
 use native.Mathlib.Decide.{ℕ-discrete}
 use native.Mathlib.Omega.{arith}
 use lib.ListN.{length, getD, drop, set, replicate}
-use Rattle.limits.specs.Limits.{size, valence}
+use Rattle.limits.specs.Limits.{size, width}
 use Rattle.tree.specs.Skeleton.{join}
 use Rattle.coder.specs.Coded.{put, cells, but, kids, coded, deg, cell, Rows, Blank}
 use Rattle.coder.proofs.Depth.{join-length, whole, some-digit, no-child}
@@ -49,7 +49,7 @@ call t d p v left n xs r h k e =
     record { rows = r; blank = h; degree = e; is = is; room = omega arith }
 
 module _ {t : List (List ℕ)} {d : List ℕ} {p v left n : ℕ} {xs : List ℕ} (c : Call t d p v left n xs) where
-  few-neighbours : n ≤ valence
+  few-neighbours : n ≤ width
   few-neighbours = omega (arith, c .rows .degs v (c .rows .some) (c .rows .inside), c .degree)
 
   -- a neighbour with one neighbour is a leaf
@@ -64,7 +64,7 @@ module _ {t : List (List ℕ)} {d : List ℕ} {p v left n : ℕ} {xs : List ℕ}
       let r = c .rows .row v j (c .rows .some) (c .rows .inside) (omega (arith, c .degree)) in
       record { number = c .rows .number; few = c .rows .few; some = omega (arith, r .0); inside = omega (arith, r .1); degs = c .rows .degs; row = c .rows .row; back = c .rows .back }
 
-  pub begin : (at rest : ℕ) (lens : List ℕ) → at ≡ length xs - left → rest ≡ left - 1 → length lens ≡ valence
+  pub begin : (at rest : ℕ) (lens : List ℕ) → at ≡ length xs - left → rest ≡ left - 1 → length lens ≡ width
       → Sofar (coded t d v) p (getD t (v - 1) []) n (at + 1) xs xs lens rest 0 0 0
   begin at rest lens h k l =
       start (coded t d v) p (getD t (v - 1) []) n (at + 1) xs lens rest few-neighbours l (omega (arith, c .blank .within, c .room)) (omega (arith, c .blank .within, c .room))

@@ -14,7 +14,7 @@ use Rattle.laws.specs.Order.{_≽_, insert, Falling}
 use Rattle.laws.specs.Sorting.{below≽, refl≽}
 use Rattle.code.specs.Code.{sum}
 use Rattle.code.specs.Counting.{sum-more}
-use Rattle.limits.specs.Limits.{valence}
+use Rattle.limits.specs.Limits.{width}
 use Rattle.code.specs.Parts.{flatten-append}
 use Rattle.code.specs.Compare.{lex, lex-says, Compares, less, equal, greater}
 use Rattle.code.specs.declared.Order.{Order}
@@ -169,13 +169,13 @@ behind lens lens' i n h e =
 -- the place of c among the k codes that end at m is looked for among the first i of them, which end at a; the lengths behind them have
 -- moved up by one
 pub record Looking (s lens₀ : List ℕ) (k m : ℕ) (c lens : List ℕ) (i a : ℕ) : Type 0 where
-  pub small : i < valence
-  pub long : length lens ≡ valence
+  pub small : i < width
+  pub long : length lens ≡ width
   pub sums : sum (take i lens) ≤ a
   pub before : a ≤ m
   pub then : (r : ℕ) (lens' : List ℕ) → drop (i + 1) lens' ≡ drop (i + 1) lens → Found s lens i a c r lens' → Found s lens₀ k m c r lens'
 
-pub look : (s lens : List ℕ) (k m : ℕ) (c : List ℕ) → k < valence → length lens ≡ valence → sum (take k lens) ≤ m → Looking s lens k m c lens k m
+pub look : (s lens : List ℕ) (k m : ℕ) (c : List ℕ) → k < width → length lens ≡ width → sum (take k lens) ≤ m → Looking s lens k m c lens k m
 look s lens k m c h l e = record { small = h; long = l; sums = e; before = omega arith; then = λ r lens' d f. f }
 
 module _ {s lens₀ : List ℕ} {k m : ℕ} {c lens : List ℕ} {i a : ℕ} (g : Looking s lens₀ k m c lens i a) where

@@ -10,7 +10,7 @@ use lib.ListN.{length, getD, take, drop}
 use lib.Seq.{take-suc, take-length}
 use Rattle.laws.specs.Places.{at-in}
 use Rattle.laws.specs.Laid.{laidOver}
-use Rattle.limits.specs.Limits.{size, valence}
+use Rattle.limits.specs.Limits.{size, width}
 use Rattle.tree.specs.Skeleton.{arcs, neighbours, degree, Degrees, IsTree, children, join, codeAt, rooted}
 use Rattle.tree.specs.Label.{rootedₗ}
 use Rattle.tree.specs.Base.{base, rooted-base}
@@ -78,7 +78,7 @@ module _ {N : ℕ} {E : List ℕ} {t : List (List ℕ)} {d : List ℕ} (tree : I
   unfolding coded
   coded-is r l h k = codes-are (suc size) 0 r h k ∙ deeper (suc size) r h k (omega arith)
 
-  pub rows-are : (v : ℕ) → Degrees valence N E → N ≤ size → 1 ≤ v → v ≤ N → Rows t d v
+  pub rows-are : (v : ℕ) → Degrees width N E → N ≤ size → 1 ≤ v → v ≤ N → Rows t d v
   unfolding Degrees degree
   rows-are v g l h k = record {
     number = N;

@@ -13,7 +13,7 @@ use Rattle.laws.specs.Order.{sort, insert}
 use Rattle.laws.specs.Sorting.{sort-perm}
 use Rattle.laws.specs.Perms.{perm-in, perm-length}
 use Rattle.code.specs.Code.{sum}
-use Rattle.limits.specs.Limits.{valence}
+use Rattle.limits.specs.Limits.{width}
 use Rattle.code.specs.Parts.{flatten-append}
 use Rattle.tree.specs.Skeleton.{join}
 use Rattle.coder.specs.Coded.{put, cells, Stand}
@@ -36,17 +36,17 @@ flatten-more cs c = ap length (flatten-append cs (c ∷ []) ∙ ap (λ l. flatte
 -- their lengths begin lens, and `rest` places are left.
 pub record Sofar (f : ℕ → List ℕ) (p : ℕ) (row : List ℕ) (n b : ℕ) (xs : List ℕ) (out lens : List ℕ) (rest k z j : ℕ) : Type 0 where
   pub turns : j ≤ n
-  pub small : n ≤ valence
+  pub small : n ≤ width
   pub cs : List (List ℕ)
   pub all : List·Permᴰ (upTo f p row j) (cs ++ leaves z)
   pub count : k ≡ length cs
-  pub long : length lens ≡ valence
+  pub long : length lens ≡ width
   pub left : rest + (b + length (flatten cs)) ≡ length xs
   pub same : length out ≡ length xs
   pub room : b + length (flatten (upTo f p row n)) ≤ length xs
   pub stand : Stand out lens k (b + length (flatten cs)) (take b xs) (sort cs) (drop (b + length (flatten cs)) xs)
 
-pub start : (f : ℕ → List ℕ) (p : ℕ) (row : List ℕ) (n b : ℕ) (xs lens : List ℕ) (rest : ℕ) → n ≤ valence → length lens ≡ valence → rest + b ≡ length xs
+pub start : (f : ℕ → List ℕ) (p : ℕ) (row : List ℕ) (n b : ℕ) (xs lens : List ℕ) (rest : ℕ) → n ≤ width → length lens ≡ width → rest + b ≡ length xs
     → b + length (flatten (upTo f p row n)) ≤ length xs → Sofar f p row n b xs xs lens rest 0 0 0
 unfolding cells sort flatten
 start f p row n b xs lens rest h l e r = record {
@@ -79,7 +79,7 @@ module _ {f : ℕ → List ℕ} {p : ℕ} {row : List ℕ} {n b : ℕ} {xs out l
   codes = perm-length (s .all) ∙ length-append (s .cs) (leaves z) ∙ ap₂ (λ x y. x + y) (sym (s .count)) (length-replicate z (0 ∷ []))
 
   -- a digit is small
-  pub digit-small : k + z ≤ valence
+  pub digit-small : k + z ≤ width
   digit-small = omega (arith, codes, few f p row j, s .turns, s .small)
 
   -- the leaves have their places
@@ -135,7 +135,7 @@ module _ {f : ℕ → List ℕ} {p : ℕ} {row : List ℕ} {n b : ℕ} {xs out l
   pub fits : length (f w) ≤ rest
   fits = omega (arith, grown, within f p row (j + 1) n (omega (arith, i .more)), i .sofar .room, i .sofar .left, digits (i .sofar))
 
-  pub one-more : k + z < valence
+  pub one-more : k + z < width
   one-more = omega (arith, codes (i .sofar), few f p row j, i .more, i .sofar .small)
 
   pub sums : sum (take k lens) ≤ length out - rest
@@ -160,7 +160,7 @@ module _ {f : ℕ → List ℕ} {p : ℕ} {row : List ℕ} {n b : ℕ} {xs out l
 
   -- its code, written behind the others and then moved to its place
   pub settles : (out1 out2 lens2 : List ℕ) (after : ℕ) → out1 ≡ put (length out - rest) (f w) out → after ≡ rest - length (f w)
-      → length out1 ≡ length out → length out2 ≡ length out1 → length lens2 ≡ valence
+      → length out1 ≡ length out → length out2 ≡ length out1 → length lens2 ≡ width
       → ((y : List ℕ) → Stand out1 lens k (length out1 - rest) (take b xs) (sort (i .sofar .cs)) (f w ++ y) → length out1 - rest + length (f w) ≡ length out1 - after
       → Stand out2 lens2 (k + 1) (length out1 - after) (take b xs) (insert (f w) (sort (i .sofar .cs))) y)
       → Sofar f p row n b xs out2 lens2 after (k + 1) z (j + 1)

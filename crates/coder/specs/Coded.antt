@@ -8,7 +8,7 @@ use Prim.Native.Nat.{ℕ, zero, suc, _+_, _-_, _≤_, _<_}
 use native.Mathlib.Decide.{ℕ-discrete}
 use lib.ListN.{length, getD, take, drop, replicate}
 use Rattle.laws.specs.Order.{insert}
-use Rattle.limits.specs.Limits.{size, valence}
+use Rattle.limits.specs.Limits.{size, width}
 use Rattle.code.specs.declared.Order.{Order}
 use Rattle.code.specs.declared.Order.the-variants.{Less, Equal, Greater}
 use Rattle.tree.specs.Skeleton.{join}
@@ -59,7 +59,7 @@ pub record Rows (t : List (List ℕ)) (d : List ℕ) (v : ℕ) : Type 0 where
   pub few : number ≤ size
   pub some : 1 ≤ v
   pub inside : v ≤ number
-  pub degs : (u : ℕ) → 1 ≤ u → u ≤ number → deg d u ≤ valence
+  pub degs : (u : ℕ) → 1 ≤ u → u ≤ number → deg d u ≤ width
   pub row : (u j : ℕ) → 1 ≤ u → u ≤ number → j < deg d u → (1 ≤ cell t u j) × (cell t u j ≤ number)
   pub back : (u j : ℕ) → 1 ≤ u → u ≤ number → j < deg d u → deg d (cell t u j) ≡ 1 → cell t (cell t u j) 0 ≡ u
 

@@ -1,5 +1,7 @@
 // The rooted code at a vertex, written into a lent buffer by recursion over rooted subtrees.
 use code::Order;
+use limits::SIZE;
+use limits::WIDTH;
 ghost use mathlib.Core.Path.{_≡_};
 ghost use mathlib.Core.List.{List, _++_};
 ghost use Prim.Native.Nat.{ℕ, _+_, _-_, _≤_, _<_};
@@ -8,7 +10,7 @@ ghost use Rattle.laws.specs.Part.{part};
 ghost use Rattle.laws.specs.Order.{Falling, insert};
 ghost use Rattle.code.specs.Compare.{lex};
 ghost use Rattle.code.specs.Code.{sum};
-ghost use Rattle.limits.specs.Limits.{size, valence};
+ghost use Rattle.limits.specs.Limits.{size, width};
 ghost use Rattle.laws.specs.Laid.{laidOver};
 ghost use Rattle.tree.specs.Skeleton as tree;
 ghost use Rattle.skeleton.specs.Table.{IsTable, Held};
@@ -40,10 +42,10 @@ fn exchange(s: &mut [u8], a: usize, m: usize, b: usize)
 
 // Where the code from `m` up to `b` belongs among the `k` codes that end at `m`: before the last ones that are smaller. `lens` has their
 // lengths, and then the new code's among them.
-fn spot(s: &[u8], lens: &mut [usize; 4], k: usize, m: usize, b: usize) -> usize
-    requires { ⌜ (k < valence) × (length (now lens) ≡ valence) × (sum (take k (now lens)) ≤ m) ⌝ }
+fn spot(s: &[u8], lens: &mut [usize; WIDTH], k: usize, m: usize, b: usize) -> usize
+    requires { ⌜ (k < width) × (length (now lens) ≡ width) × (sum (take k (now lens)) ≤ m) ⌝ }
     requires { ⌜ (m ≤ b) × (b ≤ length (now s)) ⌝ }
-    ensures { λ r. ⌜ (r ≤ m) × (length (now (lens .exit)) ≡ valence) ⌝ }
+    ensures { λ r. ⌜ (r ≤ m) × (length (now (lens .exit)) ≡ width) ⌝ }
     ensures { λ r. ⌜ ((p q : List ℕ) (L : List (List ℕ)) → Stand (now (s .entry)) (now (lens .entry)) k m p L q → Falling L
         → Spot p L (part m b (now (s .entry))) r (now (lens .exit)) k) ⌝ }
 {
@@ -64,10 +66,10 @@ fn spot(s: &[u8], lens: &mut [usize; 4], k: usize, m: usize, b: usize) -> usize
 }
 
 // Moves the code from `m` up to `b` to its place among the `k` codes that end at `m`.
-fn settle(out: &mut [u8], lens: &mut [usize; 4], k: usize, m: usize, b: usize)
-    requires { ⌜ (k < valence) × (length (now lens) ≡ valence) × (sum (take k (now lens)) ≤ m) ⌝ }
+fn settle(out: &mut [u8], lens: &mut [usize; WIDTH], k: usize, m: usize, b: usize)
+    requires { ⌜ (k < width) × (length (now lens) ≡ width) × (sum (take k (now lens)) ≤ m) ⌝ }
     requires { ⌜ (m ≤ b) × (b ≤ length (now out)) ⌝ }
-    ensures { λ _. ⌜ length (now (lens .exit)) ≡ valence ⌝ }
+    ensures { λ _. ⌜ length (now (lens .exit)) ≡ width ⌝ }
     ensures { λ _. ⌜ ((p c z : List ℕ) (L : List (List ℕ)) → Stand (now (out .entry)) (now (lens .entry)) k m p L (c ++ z) → m + length c ≡ b
         → Falling L → Stand (now (out .exit)) (now (lens .exit)) (k + 1) b p (insert c L) z) ⌝ }
 {
@@ -84,7 +86,7 @@ fn wide(x: u8) -> usize
 }
 
 // The number of neighbours of v.
-fn degree(degs: &[u8; 64], v: usize) -> usize
+fn degree(degs: &[u8; SIZE], v: usize) -> usize
     requires { ⌜ (1 ≤ v) × (v ≤ size) ⌝ }
     ensures { λ r. ⌜ r ≡ deg (now (degs .entry)) v ⌝ }
 {
@@ -92,8 +94,8 @@ fn degree(degs: &[u8; 64], v: usize) -> usize
 }
 
 // The neighbour of v in column j.
-fn neighbour(rows: &[[u8; 4]; 64], v: usize, j: usize) -> usize
-    requires { ⌜ (1 ≤ v) × (v ≤ size) × (j < valence) ⌝ }
+fn neighbour(rows: &[[u8; WIDTH]; SIZE], v: usize, j: usize) -> usize
+    requires { ⌜ (1 ≤ v) × (v ≤ size) × (j < width) ⌝ }
     ensures { λ r. ⌜ r ≡ cell (now (rows .entry)) v j ⌝ }
 {
     wide(rows[v - 1][j])
@@ -104,8 +106,8 @@ fn neighbour(rows: &[[u8; 4]; 64], v: usize, j: usize) -> usize
 // places are left. The children are asked for first, so at each call `left` is less. A leaf's code, 0, is the smallest of all: the
 // leaves come last, where their digits stand already.
 fn code(
-    rows: &[[u8; 4]; 64],
-    degs: &[u8; 64],
+    rows: &[[u8; WIDTH]; SIZE],
+    degs: &[u8; SIZE],
     parent: usize,
     v: usize,
     left: usize,
@@ -119,7 +121,7 @@ fn code(
 {
     let at = out.len() - left;
     let n = degree(degs, v);
-    let mut lens = [0usize; 4];
+    let mut lens = [0usize; WIDTH];
     let mut rest = left - 1;
     let mut k = 0;
     let mut leaves = 0;
@@ -154,7 +156,7 @@ fn clear(s: &mut [u8])
 }
 
 // Writes the code at `root` over all of `out`, which has one place for each vertex.
-fn cover(rows: &[[u8; 4]; 64], degs: &[u8; 64], root: usize, out: &mut [u8])
+fn cover(rows: &[[u8; WIDTH]; SIZE], degs: &[u8; SIZE], root: usize, out: &mut [u8])
     requires { ⌜ Rows (now rows) (now degs) root ⌝ }
     requires { ⌜ (length (now out) ≤ size) × (length (coded (now rows) (now degs) 0 root) ≡ length (now out)) ⌝ }
     ensures { λ _. ⌜ now (out .exit) ≡ coded (now (rows .entry)) (now (degs .entry)) 0 root ⌝ }
@@ -165,7 +167,7 @@ fn cover(rows: &[[u8; 4]; 64], degs: &[u8; 64], root: usize, out: &mut [u8])
 }
 
 // Writes the rooted code at `root` of the skeleton of n vertices whose table is given.
-pub fn rooted(rows: &[[u8; 4]; 64], degs: &[u8; 64], n: usize, root: usize, out: &mut [u8])
+pub fn rooted(rows: &[[u8; WIDTH]; SIZE], degs: &[u8; SIZE], n: usize, root: usize, out: &mut [u8])
     requires { ⌜ Held n (now rows) (now degs) ⌝ }
     requires { ⌜ (1 ≤ root) × (root ≤ n) × (n ≤ length (now out)) ⌝ }
     ensures { λ _. ⌜ ((E : List ℕ) → tree.IsTree n E → IsTable n E (now (rows .entry)) (now (degs .entry))

@@ -2,30 +2,25 @@
 -- Assumes nothing.
 use mathlib.Core.Path.{_≡_, refl, sym, _∙_, subst}
 use mathlib.Core.List.{List, [], _∷_}
-use Prim.Native.Nat.{ℕ, _≤_}
+use Prim.Native.Nat.{ℕ, _-_, _*_, _≤_}
 use native.Mathlib.Omega.{arith}
 use lib.ListN.{length, take}
 use Rattle.laws.specs.Laid.{Laid}
-use Rattle.refusal.specs.Table.{Clear, Answers, passes, fails, Writes}
+use Rattle.refusal.specs.Table.{Answers, passes, fails, Writes}
 use Rattle.refusal.specs.Laws.{clear-one, first-place}
 use Rattle.refusal.specs.Giving.{laid-writes, written, written-room, written-length}
 use Rattle.refusal.specs.declared.Check.the-variants.{Passed, Refuse}
-use Rattle.limits.specs.Limits.{size, valence}
-use Rattle.code.specs.Code.{codeRows, decode}
-use Rattle.code.specs.Right.{Right, clear-right}
+use Rattle.limits.specs.Limits.{size, width}
+use Rattle.code.specs.Code.{decode}
+use Rattle.code.specs.Ends.{Ends}
 use Rattle.tree.specs.Skeleton.{IsSkeleton}
-use Rattle.tree.specs.Theorems.{decoded-tree}
 use Rattle.form.specs.Form.{row14}
 use Rattle.form.specs.Forms.{IsForm}
-use Rattle.form.specs.Accepted.{right-decoded}
 
-module _ {c : List ℕ} (k : Clear (codeRows size valence c)) where
-  right : Right size valence c
-  right = clear-right size valence c k
-
+module _ (c : List ℕ) (k : Ends 1 c × IsSkeleton size width (length c) (decode c)) where
   -- what is written has room
-  pub edges-fit : length (decode c) ≤ 126
-  edges-fit = omega (arith, decoded-tree c (right .ends) .edges, right .few)
+  pub edges-fit : length (decode c) ≤ 2 * (size - 1)
+  edges-fit = omega (arith, k .1 .tree .edges, k .1 .few)
 
   module _ {old E : List ℕ} {m : ℕ} (l : Laid (decode c) old E m) where
     -- the edges as they are handed on
@@ -38,8 +33,8 @@ module _ {c : List ℕ} (k : Clear (codeRows size valence c)) where
     pub front-length : m ≡ length (take m E)
     front-length = written-length (laid-writes l)
 
-    pub skeleton-again : IsSkeleton size valence (length c) (take m E)
-    skeleton-again = rw front (right-decoded size valence c right)
+    pub skeleton-again : IsSkeleton size width (length c) (take m E)
+    skeleton-again = rw front (k .1)
 
     module _ (form : ℕ → List ℕ → List ℕ → Type 0) (f : IsForm form) {rest own : List ℕ} (w : Writes (form (length c) (take m E)) rest (length c) own) where
       own-form : form (length c) (decode c) (take (length c) own)
@@ -50,4 +45,4 @@ module _ {c : List ℕ} (k : Clear (codeRows size valence c)) where
 
       pub judged-other : (c ≡ take (length c) own → ⊥) → Answers (row14 form c ∷ []) (Refuse 14 0)
       judged-other n =
-          fails (first-place {r = row14 form c} (refl, λ x. n (f .one (decoded-tree c (right .ends)) x own-form)) (λ q h a. let z : ⊥ = omega arith in z))
+          fails (first-place {r = row14 form c} (refl, λ x. n (f .one (k .1 .tree) x own-form)) (λ q h a. let z : ⊥ = omega arith in z))

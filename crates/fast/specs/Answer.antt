@@ -11,6 +11,8 @@ use Rattle.refusal.specs.Laws.{clear-one, clear-both, first-place, refusal-fron
 use Rattle.refusal.specs.declared.Check.{Check}
 use Rattle.refusal.specs.declared.Check.the-variants.{Passed, Refuse}
 use Rattle.code.specs.Code.{decode, codeRows}
+use Rattle.code.specs.Ends.{Ends}
+use Rattle.code.specs.Ordered.{Ordered}
 use Rattle.code.specs.Right.{Right, right-clear, clear-right}
 use Rattle.tree.specs.Ordered.{code-ordered}
 use Rattle.form.specs.Form.{centred, row14, formRows}
@@ -19,15 +21,15 @@ use Rattle.fast.specs.Race.{Tells, was-held, was-denied}
 use Rattle.fast.specs.Theorems.{rooted-centred}
 
 -- by what the test told of a right code
-module _ {most R : ℕ} {c : List ℕ} (k : Right most R c) where
+module _ {c : List ℕ} (e : Ends 1 c) (o : Ordered c) where
   by-test : Middle c ↔ centred (length c) (decode c) c
-  by-test = rooted-centred c (code-ordered c .1 (k .ends, k .ordered))
+  by-test = rooted-centred c (code-ordered c .1 (e, o))
 
   pub when-so : {r : Bool} → Tells (Middle c) r → r ≡ true → Answers (row14 centred c ∷ []) Passed
-  when-so t e = passes (clear-one {r = row14 centred c} (λ p a. a .1 (by-test .0 (was-held t e))))
+  when-so t h = passes (clear-one {r = row14 centred c} (λ p a. a .1 (by-test .0 (was-held t h))))
 
   pub when-not : {r : Bool} → Tells (Middle c) r → r ≡ false → Answers (row14 centred c ∷ []) (Refuse 14 0)
-  when-not t e = fails (first-place {r = row14 centred c} (refl, λ m. was-denied t e (by-test .1 m)) (λ q l a. let z : ⊥ = omega arith in z))
+  when-not t h = fails (first-place {r = row14 centred c} (refl, λ m. was-denied t h (by-test .1 m)) (λ q l a. let z : ⊥ = omega arith in z))
 
 -- the rows in front of 14: one of them applies to what is no right code, none to a right one
 module _ {most R : ℕ} {c : List ℕ} where

@@ -2,6 +2,7 @@
 // specs/Middle.antt, and specs/Theorems.antt proves that it is document 01's definition.
 use code::Order;
 use code::compare;
+use limits::SIZE;
 use refusal::Check;
 ghost use mathlib.Core.Path.{_≡_};
 ghost use mathlib.Core.List.{[], _∷_, _++_};
@@ -9,9 +10,10 @@ ghost use Prim.Native.Nat.{suc, _-_, _≤_, _<_};
 ghost use lib.ListN.{length, getD, drop};
 ghost use Rattle.laws.specs.Part.{part};
 ghost use Rattle.refusal.specs.Table.{Clear, Answers};
-ghost use Rattle.limits.specs.Limits.{size, valence};
+ghost use Rattle.limits.specs.Limits.{size};
 ghost use Rattle.code.specs.Code.{codes, codeRows};
 ghost use Rattle.code.specs.Ends.{Ends};
+ghost use Rattle.code.specs.Ordered.{Ordered};
 ghost use Rattle.code.specs.Right.{Right};
 ghost use Rattle.code.specs.Compare.{lex, Falls};
 ghost use Rattle.form.specs.Form.{centred, row14, formRows};
@@ -22,6 +24,9 @@ ghost use Rattle.fast.specs.Placed.{Placed, Joins};
 ghost use Rattle.fast.specs.Scan.{Scan, Scanned};
 ghost use Rattle.fast.specs.Race.{Tells};
 ghost use Rattle.fast.specs.Spot.{Spot};
+
+// Places for where the trees on a stack begin, and where the digits end; above each place of the stack.
+const STARTS: usize = SIZE + 1;
 
 // Where the codes that begin at digit `from` end, so many of them. `open` counts the places that are still to be filled.
 fn skip(code: &[u8], from: usize, many: usize) -> usize
@@ -88,61 +93,62 @@ fn joined(code: &[u8], hs: &[u8], starts: &[u8], at: usize, end: usize) -> u8
 }
 
 // Whether the digits are a right code, where all but the root's are read.
-fn rooted(code: &[u8], hs: &[u8], starts: &[u8], at: usize) -> bool
-    requires { ⌜ Scan (now code) (now hs) (now starts) 1 at ⌝ }
+fn rooted(limit: u8, code: &[u8], hs: &[u8], starts: &[u8], at: usize) -> bool
+    requires { ⌜ Scan limit (now code) (now hs) (now starts) 1 at ⌝ }
     requires { ⌜ length (now code) ≤ size ⌝ }
-    ensures { λ r. ⌜ Tells (Right size valence (now (code .entry))) r ⌝ }
+    ensures { λ r. ⌜ Tells (Right size limit (now (code .entry))) r ⌝ }
 {
     let k = code[0];
-    if 4 < k {
+    if limit < k {
         return false;
     }
-    if at + k as usize != 64 {
+    if at + k as usize != SIZE {
         return false;
     }
-    if joined(code, hs, starts, at, 64) == 0 {
+    if joined(code, hs, starts, at, SIZE) == 0 {
         return false;
     }
     true
 }
 
 // Reads the digits from the last to the first. The trees behind a digit stand on a stack that grows down from the end of `hs` and `starts`:
-// how tall each is, and where it begins. The result is where the root's branches stand, 65 where the digits are no right code.
-fn scan(code: &[u8], hs: &mut [u8], starts: &mut [u8]) -> usize
+// how tall each is, and where it begins. The result is where the root's branches stand, above SIZE where the digits are no right code.
+fn scan(limit: u8, code: &[u8], hs: &mut [u8], starts: &mut [u8]) -> usize
+    requires { ⌜ 1 ≤ limit ⌝ }
     requires { ⌜ length (now hs) ≡ size ⌝ }
     requires { ⌜ length (now starts) ≡ suc size ⌝ }
-    ensures { λ r. ⌜ Scanned (now (code .entry)) (now (hs .exit)) r ⌝ }
+    ensures { λ r. ⌜ Scanned limit (now (code .entry)) (now (hs .exit)) r ⌝ }
 {
     let n = code.len();
     if n == 0 {
-        return 65;
+        return STARTS;
     }
-    if 64 < n {
-        return 65;
+    if SIZE < n {
+        return STARTS;
     }
-    starts[64] = n as u8;
+    starts[SIZE] = n as u8;
     let mut i = n;
-    let mut at = 64;
+    let mut at = SIZE;
     while 1 < i {
         i -= 1;
         let k = code[i];
-        if 3 < k {
-            return 65;
+        if limit <= k {
+            return STARTS;
         }
         let end = at + k as usize;
-        if 64 < end {
-            return 65;
+        if SIZE < end {
+            return STARTS;
         }
         let h = joined(code, hs, starts, at, end);
         if h == 0 {
-            return 65;
+            return STARTS;
         }
         at = end - 1;
         hs[at] = h;
         starts[at] = i as u8;
     }
-    if !rooted(code, hs, starts, at) {
-        return 65;
+    if !rooted(limit, code, hs, starts, at) {
+        return STARTS;
     }
     at
 }
@@ -319,7 +325,8 @@ fn middle(code: &[u8], hs: &[u8], from: usize) -> bool
 
 // 14: a right code, whose branches' heights stand from `from` on, that is not the centred one.
 fn judged(code: &[u8], hs: &[u8], from: usize) -> Check
-    requires { ⌜ Right size valence (now code) ⌝ }
+    requires { ⌜ Ends 1 (now code) ⌝ }
+    requires { ⌜ Ordered (now code) ⌝ }
     requires { ⌜ Branches (now code) (now hs) from ⌝ }
     ensures { λ r. ⌜ Answers (row14 centred (now (code .entry)) ∷ []) r ⌝ }
 {
@@ -330,25 +337,27 @@ fn judged(code: &[u8], hs: &[u8], from: usize) -> Check
 }
 
 // 14: a right rooted code that is not the centred one.
-pub fn centred(code: &[u8]) -> Check
-    requires { ⌜ Clear (codeRows size valence (now code)) ⌝ }
+pub fn centred(limit: u8, code: &[u8]) -> Check
+    requires { ⌜ 1 ≤ limit ⌝ }
+    requires { ⌜ Clear (codeRows size limit (now code)) ⌝ }
     ensures { λ r. ⌜ Answers (row14 centred (now (code .entry)) ∷ []) r ⌝ }
 {
-    let mut hs = [0u8; 64];
-    let mut starts = [0u8; 65];
-    let from = scan(code, &mut hs, &mut starts);
+    let mut hs = [0u8; SIZE];
+    let mut starts = [0u8; STARTS];
+    let from = scan(limit, code, &mut hs, &mut starts);
     judged(code, &hs, from)
 }
 
 // Digits lent by themselves that are to be a centred code: 3, 10 to 13, and 14. Which of 3 to 13 a wrong code has is looked for again.
-pub fn check(code: &[u8]) -> Check
-    ensures { λ r. ⌜ Answers (formRows centred size valence (now (code .entry))) r ⌝ }
+pub fn check(limit: u8, code: &[u8]) -> Check
+    requires { ⌜ 1 ≤ limit ⌝ }
+    ensures { λ r. ⌜ Answers (formRows centred size limit (now (code .entry))) r ⌝ }
 {
-    let mut hs = [0u8; 64];
-    let mut starts = [0u8; 65];
-    let from = scan(code, &mut hs, &mut starts);
-    if 64 < from {
-        return code::check(code);
+    let mut hs = [0u8; SIZE];
+    let mut starts = [0u8; STARTS];
+    let from = scan(limit, code, &mut hs, &mut starts);
+    if SIZE < from {
+        return code::check(limit, code);
     }
     judged(code, &hs, from)
 }

@@ -3,8 +3,9 @@ use refusal::Answer;
 use refusal::Check;
 ghost use mathlib.Core.Path.{_≡_};
 ghost use mathlib.Core.List.{[], _∷_};
+ghost use Prim.Native.Nat.{_≤_};
 ghost use lib.ListN.{length};
-ghost use Rattle.limits.specs.Limits.{size, valence, fractionSize};
+ghost use Rattle.limits.specs.Limits.{size, width, fractionSize};
 ghost use Rattle.refusal.specs.Table.{Answers};
 ghost use Rattle.bits.specs.Bits.{Zeros};
 ghost use Rattle.bits.specs.Answered.{Reading};
@@ -35,7 +36,7 @@ pub struct Drawn {
 
 // The fraction of a code.
 pub fn fraction_of(code: &[u8]) -> f64
-    requires { ⌜ Coded valence fractionSize (now code) ⌝ }
+    requires { ⌜ Coded width fractionSize (now code) ⌝ }
     ensures { λ r. ⌜ IsFraction (now (code .entry)) r ⌝ }
 {
     let x = bits::number_of(code);
@@ -95,23 +96,25 @@ fn draw(x: f64) -> Drawn
 }
 
 // The digits of a fraction that is in range, with rows 10 to 12.
-pub fn read(x: f64, out: &mut [u8]) -> Answer
+pub fn read(limit: u8, x: f64, out: &mut [u8]) -> Answer
+    requires { ⌜ 1 ≤ limit ⌝ }
     requires { ⌜ (Outside x → ⊥) ⌝ }
     requires { ⌜ length (now out) ≡ size ⌝ }
-    ensures { λ r. ⌜ Reading valence Zeros (bitsOf x) (now (out .exit)) r ⌝ }
+    ensures { λ r. ⌜ Reading limit Zeros (bitsOf x) (now (out .exit)) r ⌝ }
 {
     let d = draw(x);
-    bits::fraction(d.bits, d.rest, out)
+    bits::fraction(limit, d.bits, d.rest, out)
 }
 
 // The right code in a fraction: rows 4 and 10 to 13.
-pub fn fraction_code(x: f64, out: &mut [u8]) -> Answer
+pub fn fraction_code(limit: u8, x: f64, out: &mut [u8]) -> Answer
+    requires { ⌜ 1 ≤ limit ⌝ }
     requires { ⌜ length (now out) ≡ size ⌝ }
-    ensures { λ r. ⌜ Decision (fractionRows valence x) valence Zeros (bitsOf x) (now (out .exit)) r ⌝ }
+    ensures { λ r. ⌜ Decision (fractionRows limit x) limit Zeros (bitsOf x) (now (out .exit)) r ⌝ }
 {
     if let Check::Refuse(k, p) = ranged(x) {
         return Answer::Refused(k, p);
     }
-    let answer = read(x, out);
+    let answer = read(limit, x, out);
     bits::siblings(answer, out)
 }

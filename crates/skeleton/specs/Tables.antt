@@ -1,14 +1,19 @@
--- A list has one table of neighbours. Assumes nothing.
+-- A list has one table of neighbours, and a skeleton has one where the rows are wide enough. Assumes nothing.
 use mathlib.Core.Path.{_≡_, sym, _∙_}
 use mathlib.Core.List.{List, []}
-use Prim.Native.Nat.{ℕ, _+_, _-_, _<_}
+use Prim.Native.Nat.{ℕ, _+_, _-_, _≤_, _<_}
 use native.Mathlib.Decide.{decLt}
 use native.Mathlib.Omega.{arith}
 use lib.ListN.{getD}
 use lib.Seq.{ext-getD}
 use Rattle.limits.specs.Limits.{size, width}
-use Rattle.tree.specs.Skeleton.{degree}
+use Rattle.tree.specs.Skeleton.{Degrees, degree, IsSkeleton}
 use Rattle.skeleton.specs.Table.{IsTable}
+
+-- where a vertex has no more neighbours than a row has places, the skeleton has a table
+pub in-rows : {most R N : ℕ} {E : List ℕ} → R ≤ width → IsSkeleton most R N E → IsSkeleton most width N E
+unfolding Degrees
+in-rows r s = record { tree = s .tree; few = s .few; degrees = λ v a b. omega (arith, r, s .degrees v a b) }
 
 module _ {N : ℕ} {E : List ℕ} {t u : List (List ℕ)} {d e : List ℕ} (h : IsTable N E t d) (k : IsTable N E u e) where
   one-degree : (i : ℕ) → i < size → getD d i 0 ≡ getD e i 0

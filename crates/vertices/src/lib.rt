@@ -3,13 +3,12 @@ use code::Order;
 use code::compare;
 use code::ends_of;
 use code::push;
+use limits::SIZE;
 ghost use mathlib.Core.Path.{_≡_};
 ghost use Prim.Native.Nat.{suc, _≤_, _<_};
 ghost use lib.ListN.{length, take};
 ghost use Rattle.laws.specs.Laid.{Laid};
-ghost use Rattle.refusal.specs.Table.{Clear};
-ghost use Rattle.limits.specs.Limits.{size, valence};
-ghost use Rattle.code.specs.Code.{codeRows};
+ghost use Rattle.limits.specs.Limits.{size};
 ghost use Rattle.code.specs.Ends.{Ends};
 ghost use Rattle.code.specs.Search.{Known};
 ghost use Rattle.vertices.specs.Classes.{classOf, alike?, classes};
@@ -22,7 +21,7 @@ fn depths_of(code: &[u8], deep: &mut [u8])
     requires { ⌜ length (now deep) ≡ size ⌝ }
     ensures { λ _. ⌜ Deep (now (code .entry)) (now (deep .exit)) ⌝ }
 {
-    let mut places = [0u8; 64];
+    let mut places = [0u8; SIZE];
     let mut t = 1;
     let mut i = 0;
     while i < code.len() {
@@ -77,15 +76,16 @@ fn class_of(code: &[u8], ends: &[u8], deep: &[u8], known: &[u8], v: usize, new: 
     new
 }
 
-// The class of each vertex of a right code, from the start of the output; how many there are.
+// The class of each vertex of a code, from the start of the output; how many there are.
 pub fn write_classes(code: &[u8], out: &mut [u8]) -> usize
-    requires { ⌜ Clear (codeRows size valence (now code)) ⌝ }
+    requires { ⌜ Ends 1 (now code) ⌝ }
+    requires { ⌜ length (now code) ≤ size ⌝ }
     requires { ⌜ length (now code) ≤ length (now out) ⌝ }
     ensures { λ r. ⌜ Laid (classes (now (code .entry))) (now (out .entry)) (now (out .exit)) r ⌝ }
 {
-    let mut ends = [0u8; 64];
+    let mut ends = [0u8; SIZE];
     ends_of(code, &mut ends);
-    let mut deep = [0u8; 64];
+    let mut deep = [0u8; SIZE];
     depths_of(code, &mut deep);
     let mut top = 0;
     let mut i = 0;

@@ -1,6 +1,7 @@
 -- `adjacency::bin` meets its contract. The loop's invariant: b is what the edges before p give. Assumes nothing.
 use Prim.Native.Nat.{_+_, _-_, _/_, _≤_, _<_}
 use lib.ListN.{length}
+use Rattle.limits.specs.Limits.{aSize}
 use Rattle.adjacency.proofs.Summing.{Summed, summed-none, summed-miss, summed-hit, summed-all, shift-one, power-small}
 use native.Mathlib.Omega.{arith}
 use Rattle.adjacency.proofs.bin.Statement.{statement}
@@ -25,7 +26,7 @@ bin-spec =
     (λ c. omega (arith, c .before .lower-at .ensures .small))
     (λ c. let d = c .before in
     let k : d .lower-at .result - 1 < 64 = omega (arith, d .lower-at .ensures .small) in
-    let u : d .lower-at .result ≤ 11 = omega (arith, d .lower-at .ensures .small) in
+    let u : d .lower-at .result ≤ aSize = omega (arith, d .lower-at .ensures .small) in
     omega (arith, d .before .before .loop .inv .small, shift-one k, power-small u))
     (λ c. omega arith)
     (λ c. let d = c .before in

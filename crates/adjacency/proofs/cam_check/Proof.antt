@@ -36,7 +36,7 @@ made-requires : tie.Need-made-requires
 made-requires c κs =
     let v = c .before .before in
     let s = v .before .before .before in
-    clear-both (was-clear (s .cam-sizes .ensures) (v .before .enum-told .given .1)) (was-clear (v .cam-entries .ensures) (c .enum-told2 .given .1))
+    (s .before .before .pre, clear-both (was-clear (s .cam-sizes .ensures) (v .before .enum-told .given .1)) (was-clear (v .cam-entries .ensures) (c .enum-told2 .given .1)))
 
 returns-3 : tie.Need-returns-3
 returns-3 c =

@@ -1,6 +1,7 @@
 -- `adjacency::factorial` meets its contract. The loop's invariant: f is the factorial of i. Assumes nothing.
 use mathlib.Core.Path.{_≡_, refl}
 use Prim.Native.Nat.{_+_, _-_, _≤_, _<_}
+use Rattle.limits.specs.Limits.{zeroSize}
 use Rattle.adjacency.specs.Adjacency.{factorial}
 use Rattle.adjacency.proofs.Mixing.{factorial-fits, factorial-more}
 use native.Mathlib.Omega.{arith}
@@ -23,7 +24,7 @@ add-i c = omega arith
 mul-f : tie.Need-mul-f Inv-loop μ-loop
 mul-f c =
     let l = c .before .loop in
-    let h : l .i + 1 < 21 = omega arith in
+    let h : l .i + 1 < zeroSize = omega arith in
     rw (l .inv .1, factorial-more (l .i)) (omega (arith, factorial-fits h))
 
 loop-less : tie.Need-loop-less Inv-loop μ-loop

@@ -3,23 +3,23 @@ use mathlib.Core.Path.{sym, _∙_}
 use Prim.Native.Nat.{_-_, _*_}
 use native.Mathlib.Omega.{arith}
 use lib.ListN.{length}
-use Rattle.limits.specs.Limits.{valence}
 use Rattle.bits.specs.Bits.{bytes}
 use Rattle.bits.specs.Words.{length-bytes}
+use Rattle.bits.specs.Digit.{near-fewer}
 use Rattle.bits.specs.Found.{Sofar, Turns, sofar-none, twice, sofar-out}
 use borrow.Author.Needs.{needs}
 use Rattle.bits.proofs.digits.Statement.{statement}
 use Rattle.bits.proofs.digits.Tie as tie
 
 abbrev Inv-loop : tie.InvT-loop
-Inv-loop s out₀ m n₀ b₀ out n b = Sofar valence (bytes s) out n b
+Inv-loop limit s out₀ m n₀ b₀ out n b = Sofar limit (bytes s) out n b
 
 abbrev μ-loop : tie.MeasureT-loop
-μ-loop s out₀ m n₀ b₀ out n b = 8 * length s - b
+μ-loop limit s out₀ m n₀ b₀ out n b = 8 * length s - b
 
 -- what the turn came to
-turn : (c : tie.After-step Inv-loop μ-loop) → let a = c .before .before .before .before .before .before .before .args in let l = c .before .before .before .before .loop in Turns valence (bytes (a .s .now)) (c .step .last .1 .1 .1 .1 .0) (l .n) (l .b) (c .step .result)
-turn c = let a = c .before .before .before .before .before .before .before .args in c .step .ensures (bytes (a .s .now)) (length-bytes (a .s .now)) (c .before .before .before .before .loop .inv) (c .before .before .digit-at .ensures)
+turn : (c : tie.After-step Inv-loop μ-loop) → let a = c .before .before .before .before .before .before .before .args in let l = c .before .before .before .before .loop in Turns (a .limit) (bytes (a .s .now)) (c .step .last .1 .1 .1 .1 .1 .0) (l .n) (l .b) (c .step .result)
+turn c = let a = c .before .before .before .before .before .before .before .args in c .step .ensures (bytes (a .s .now)) (length-bytes (a .s .now)) (c .before .before .before .before .loop .inv) (near-fewer _ (c .before .before .before .before .before .before .before .pre .0 .1) (c .before .before .digit-at .ensures))
 
 pub digits-spec : {M : Type 1} → statement M
 digits-spec =
@@ -28,15 +28,15 @@ digits-spec =
     Inv-loop
     μ-loop
     (λ c. omega arith)
-    (λ c. sofar-none _ _ _ (c .before .before .pre .1))
+    (λ c. sofar-none _ _ _ (c .before .before .pre .1 .1))
     (λ c κs. omega arith)
-    (λ c κs. let l = c .before .before .before .loop in record { few = omega arith; within = omega arith; twice = twice (l .inv); long = l .inv .long })
+    (λ c κs. (c .before .before .before .before .before .before .pre .0 .0, let l = c .before .before .before .loop in record { few = omega arith; within = omega arith; twice = twice (l .inv); long = l .inv .long }))
     (λ c. search needs)
-    (λ c. (rw (c .before .found .given .1) at (turn (c .before .before .before .before .before))) .long ∙ sym (c .before .before .before .before .before .before .before .before .before .before .before .before .pre .1))
+    (λ c. (rw (c .before .found .given .1) at (turn (c .before .before .before .before .before))) .long ∙ sym (c .before .before .before .before .before .before .before .before .before .before .before .before .pre .1 .1))
     (λ c. rw (c .before .found .given .1) at (turn (c .before .before .before .before .before)))
     (λ c. search needs)
     (λ c. omega (arith, twice (c .before .before .before .before .before .before .before .before .before .loop .inv)))
     (λ c. let t = rw (c .before .e .given .1) at (turn (c .before .before .before .before .before)) in omega (arith, t .0))
     (λ c. (rw (c .before .e .given .1) at (turn (c .before .before .before .before .before))) .1)
-    (λ c. c .before .loop .inv .long ∙ sym (c .before .before .before .before .pre .1))
+    (λ c. c .before .loop .inv .long ∙ sym (c .before .before .before .before .pre .1 .1))
     (λ c. let a = c .before .before .before .before .args in sofar-out (c .before .loop .inv) (omega (arith, length-bytes (a .s .now)))))

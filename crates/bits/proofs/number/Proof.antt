@@ -33,8 +33,8 @@ within c =
     let t = end-within (c .before .before .before .before .before .word-digits .ensures) (c .before .e2 .given .1) in
     omega (arith, t, length-word (2 * a .n - 1) (a .x))
 
-add-t14 : tie.Need-add-t14
-add-t14 c = search needs
+add-t15 : tie.Need-add-t15
+add-t15 c = search needs
 
 same-length : tie.Need-same-length
 same-length c = search needs
@@ -79,7 +79,7 @@ number-spec =
     enum-known-p
     enum-known-e
     enum-known-e-2
-    add-t14
+    add-t15
     same-length
     returns
     same-length-2

@@ -4,7 +4,7 @@ use mathlib.Core.List.{[], _∷_}
 use Prim.Native.Nat.{_-_, _*_}
 use Rattle.refusal.specs.Table.{Clear, row3}
 use Rattle.refusal.specs.Laws.{was-clear, was-refused, clear-both, refusal-back, at-least, at-most}
-use Rattle.limits.specs.Limits.{valence, wholeSize}
+use Rattle.limits.specs.Limits.{wholeSize}
 use Rattle.bits.specs.Bits.{Nothing, word, row4, bitRows}
 use Rattle.bits.specs.Decided.{reading-ended, decide-front, decide-ordered}
 use borrow.Author.Needs.{needs}
@@ -24,13 +24,13 @@ number-code-spec =
     (tie.spec
     (λ c κs. search needs)
     (λ c. search needs)
-    (λ c. let a = c .before .before .before .before .before .args in decide-front (row4 (a .n) (a .x) ∷ bitRows valence Nothing (word (2 * a .n - 1) (a .x))) (was-refused (c .before .before .before .sized .ensures) (c .before .k .given .1)) (c .before .before .before .before .before .pre))
+    (λ c. let a = c .before .before .before .before .before .args in decide-front (row4 (a .n) (a .x) ∷ bitRows (a .limit) Nothing (word (2 * a .n - 1) (a .x))) (was-refused (c .before .before .before .sized .ensures) (c .before .k .given .1)) (c .before .before .before .before .before .pre .1))
     (λ c. search needs)
     (λ c κs. (at-least (sizes c), at-most (sizes c)))
     (λ c. search needs)
-    (λ c. let a = c .before .before .before .before .before .before .before .before .args in decide-front (bitRows valence Nothing (word (2 * a .n - 1) (a .x))) (refusal-back (sizes (c .before .before .before .before)) (was-refused (c .before .before .before .ranged .ensures) (c .before .k2 .given .1))) (c .before .before .before .before .before .before .before .before .pre))
+    (λ c. let a = c .before .before .before .before .before .before .before .before .args in decide-front (bitRows (a .limit) Nothing (word (2 * a .n - 1) (a .x))) (refusal-back (sizes (c .before .before .before .before)) (was-refused (c .before .before .before .ranged .ensures) (c .before .k2 .given .1))) (c .before .before .before .before .before .before .before .before .pre .1))
     (λ c. search needs)
-    (λ c κs. let s = sizes (c .before .before .before .before) in (at-least s, (at-most s, c .before .before .before .before .before .before .before .before .pre)))
+    (λ c κs. let s = sizes (c .before .before .before .before) in let p = c .before .before .before .before .before .before .before .before .pre in (p .0, (at-least s, (at-most s, p .1))))
     (λ c κs. let s = c .before .before .before .number .ensures in (reading-ended s, s .long))
     (λ c. search needs)
     (λ c. decide-ordered (clear (c .before .before .before .before .before .before)) (c .before .before .before .before .number .ensures) (c .siblings .ensures)))

@@ -24,7 +24,7 @@ digit-requires c κs = c .loop-test .taken
 append-requires : tie.Need-append-requires Inv-loop μ-loop
 append-requires c κs = let p = c .before .before .before .before .before .pre in rw (c .digit .ensures) (pack-room (c .before .before .loop .inv) (p .0) (lit≤ tt) (p .1) (c .before .loop-test .taken))
 
-small : (c : tie.After-append Inv-loop μ-loop) → c .before .digit .result ≤ 4
+small : (c : tie.After-append Inv-loop μ-loop) → c .before .digit .result ≤ 6
 small c = omega (arith, c .before .digit .ensures, c .before .before .before .before .before .before .pre .0 .small (c .before .before .before .loop .i))
 
 add-c : tie.Need-add-c Inv-loop μ-loop

@@ -4,7 +4,7 @@ use mathlib.Core.List.{[], _∷_}
 use lib.ListN.{length}
 use Rattle.refusal.specs.Table.{Clear, row3}
 use Rattle.refusal.specs.Laws.{was-clear, was-refused, at-most}
-use Rattle.limits.specs.Limits.{valence, packedBytes}
+use Rattle.limits.specs.Limits.{packedBytes}
 use Rattle.bits.specs.Bits.{Fill, bytes, bitRows}
 use Rattle.bits.specs.Decided.{reading-ended, decide-front, decide-ordered}
 use borrow.Author.Needs.{needs}
@@ -21,9 +21,9 @@ packed-code-spec =
     (tie.spec
     (λ c κs. search needs)
     (λ c. search needs)
-    (λ c. decide-front (bitRows valence Fill (bytes (c .before .before .before .before .before .before .args .s .now))) (was-refused (c .before .before .before .sized .ensures) (c .before .k .given .1)) (c .before .before .before .before .before .before .pre))
+    (λ c. let a = c .before .before .before .before .before .before .args in decide-front (bitRows (a .limit) Fill (bytes (a .s .now))) (was-refused (c .before .before .before .sized .ensures) (c .before .k .given .1)) (c .before .before .before .before .before .before .pre .1))
     (λ c. search needs)
-    (λ c κs. (at-most (clear (c .before)), c .before .before .before .before .before .before .pre))
+    (λ c κs. let p = c .before .before .before .before .before .before .pre in (p .0, (at-most (clear (c .before)), p .1)))
     (λ c κs. let s = c .before .before .before .packed .ensures in (reading-ended s, s .long))
     (λ c. search needs)
     (λ c. decide-ordered (clear (c .before .before .before .before .before .before)) (c .before .before .before .before .packed .ensures) (c .siblings .ensures)))

@@ -2,7 +2,6 @@
 use mathlib.Core.Path.{sym, _∙_}
 use Prim.Native.Nat.{_-_}
 use native.Mathlib.Omega.{arith}
-use Rattle.limits.specs.Limits.{valence}
 use Rattle.bits.specs.Bits.{word}
 use Rattle.bits.specs.Words.{length-word}
 use Rattle.bits.specs.Digit.{near-exact}
@@ -12,14 +11,14 @@ use Rattle.bits.proofs.word_digits.Statement.{statement}
 use Rattle.bits.proofs.word_digits.Tie as tie
 
 abbrev Inv-loop : tie.InvT-loop
-Inv-loop x len out₀ n₀ b₀ out n b = Sofar valence (word len x) out n b
+Inv-loop limit x len out₀ n₀ b₀ out n b = Sofar limit (word len x) out n b
 
 abbrev μ-loop : tie.MeasureT-loop
-μ-loop x len out₀ n₀ b₀ out n b = len - b
+μ-loop limit x len out₀ n₀ b₀ out n b = len - b
 
 -- what the turn came to
-turn : (c : tie.After-step Inv-loop μ-loop) → let a = c .before .before .before .before .before .before .args in let l = c .before .before .before .before .loop in Turns valence (word (a .len) (a .x)) (c .step .last .1 .1 .1 .1 .0) (l .n) (l .b) (c .step .result)
-turn c = let a = c .before .before .before .before .before .before .args in c .step .ensures (word (a .len) (a .x)) (length-word (a .len) (a .x)) (c .before .before .before .before .loop .inv) (near-exact 9 (c .before .before .digit-in .ensures))
+turn : (c : tie.After-step Inv-loop μ-loop) → let a = c .before .before .before .before .before .before .args in let l = c .before .before .before .before .loop in Turns (a .limit) (word (a .len) (a .x)) (c .step .last .1 .1 .1 .1 .1 .0) (l .n) (l .b) (c .step .result)
+turn c = let a = c .before .before .before .before .before .before .args in c .step .ensures (word (a .len) (a .x)) (length-word (a .len) (a .x)) (c .before .before .before .before .loop .inv) (near-exact _ (c .before .before .digit-in .ensures))
 
 pub word-digits-spec : {M : Type 1} → statement M
 word-digits-spec =
@@ -27,15 +26,15 @@ word-digits-spec =
     (tie.spec
     Inv-loop
     μ-loop
-    (λ c. sofar-none _ _ _ (c .before .pre .1))
-    (λ c κs. (omega arith, c .before .before .before .pre .0))
-    (λ c κs. let l = c .before .before .before .loop in record { few = omega arith; within = omega arith; twice = twice (l .inv); long = l .inv .long })
+    (λ c. sofar-none _ _ _ (c .before .pre .1 .1))
+    (λ c κs. (omega arith, c .before .before .before .pre .1 .0))
+    (λ c κs. (c .before .before .before .before .before .pre .0, let l = c .before .before .before .loop in record { few = omega arith; within = omega arith; twice = twice (l .inv); long = l .inv .long }))
     (λ c. search needs)
-    (λ c. (rw (c .before .found .given .1) at (turn (c .before .before .before .before .before))) .long ∙ sym (c .before .before .before .before .before .before .before .before .before .before .before .pre .1))
+    (λ c. (rw (c .before .found .given .1) at (turn (c .before .before .before .before .before))) .long ∙ sym (c .before .before .before .before .before .before .before .before .before .before .before .pre .1 .1))
     (λ c. rw (c .before .found .given .1) at (turn (c .before .before .before .before .before)))
     (λ c. search needs)
     (λ c. omega (arith, twice (c .before .before .before .before .before .before .before .before .before .loop .inv)))
     (λ c. let t = rw (c .before .e .given .1) at (turn (c .before .before .before .before .before)) in omega (arith, t .0))
     (λ c. (rw (c .before .e .given .1) at (turn (c .before .before .before .before .before))) .1)
-    (λ c. c .before .loop .inv .long ∙ sym (c .before .before .before .pre .1))
+    (λ c. c .before .loop .inv .long ∙ sym (c .before .before .before .pre .1 .1))
     (λ c. let a = c .before .before .before .args in sofar-out (c .before .loop .inv) (omega (arith, length-word (a .len) (a .x)))))

@@ -3,6 +3,7 @@ use mathlib.Core.Path.{refl}
 use Prim.Native.Nat.{_-_, _<_}
 use native.Mathlib.Omega.{arith}
 use borrow.Author.Needs.{needs}
+use Rattle.limits.specs.Limits.{size}
 use Rattle.centre.proofs.Rounds.{State, listed, v-stays, lone, w-stays, pair, peelable, next, w-kept, at-first, first-listed}
 use Rattle.centre.proofs.centre.Statement.{statement}
 use Rattle.centre.proofs.centre.Tie as tie
@@ -11,7 +12,7 @@ abbrev Inv-loop : tie.InvT-loop
 Inv-loop rows degs n t₀ d₀ q₀ a₀ e₀ t d q a e = (a < e) × State n rows degs t d q a e
 
 abbrev μ-loop : tie.MeasureT-loop
-μ-loop rows degs n t₀ d₀ q₀ a₀ e₀ t d q a e = 64 - a
+μ-loop rows degs n t₀ d₀ q₀ a₀ e₀ t d q a e = size - a
 
 leaves-requires : tie.Need-leaves-requires Inv-loop μ-loop
 leaves-requires c κs = let p = c .before .before .before .before .pre in (p .table .shaped .degs, refl, p .skeleton .few)

@@ -5,13 +5,14 @@ use Prim.Native.Nat.{_-_, _≤_, _<_}
 use native.Mathlib.Omega.{arith}
 use borrow.Author.Needs.{needs}
 use lib.ListN.{length, length-set}
+use Rattle.limits.specs.Limits.{width}
 use Rattle.laws.specs.Part.{part}
 use Rattle.centre.proofs.Rows.{without-row, part-some, part-next}
 use Rattle.centre.proofs.without.Statement.{statement}
 use Rattle.centre.proofs.without.Tie as tie
 
 abbrev Inv-loop : tie.InvT-loop
-Inv-loop m v r j₀ j = (j < m) × (m ≤ 4) × (length r ≡ 4) × List·Memᴰ v (part j m r)
+Inv-loop m v r j₀ j = (j < m) × (m ≤ width) × (length r ≡ width) × List·Memᴰ v (part j m r)
 
 abbrev μ-loop : tie.MeasureT-loop
 μ-loop m v r j₀ j = m - j

@@ -2,6 +2,9 @@
 use mathlib.Core.Path.{refl}
 use borrow.Author.Needs.{needs}
 use Rattle.refusal.specs.Laws.{stops, goes-on, was-clear}
+use Rattle.code.specs.Right.{clear-right}
+use Rattle.skeleton.specs.Tables.{in-rows}
+use Rattle.form.specs.Accepted.{right-decoded}
 use Rattle.coding.proofs.check_n_tuple.Statement.{statement}
 use Rattle.coding.proofs.check_n_tuple.Tie as tie
 
@@ -13,5 +16,7 @@ check-n-tuple-spec =
     (λ c. search needs)
     (λ c. stops _ (c .before .before .before .check .ensures) (c .before .k .given .1))
     (λ c. search needs)
-    (λ c κs. was-clear (c .before .before .check .ensures) (c .enum-told .given .1))
+    (λ c κs. let s = c .before .before .before .before in
+    let k = clear-right _ _ _ (was-clear (c .before .before .check .ensures) (c .enum-told .given .1)) in
+    (k .ends, in-rows (s .pre .1) (right-decoded _ _ _ k)))
     (λ c. goes-on (c .before .before .before .check .ensures) (c .before .enum-told .given .1) (c .judged .ensures)))

@@ -1,7 +1,7 @@
 -- `fast::centred` meets its contract. Assumes nothing.
 use denote.Ref.{now}
 use borrow.Author.Needs.{needs}
-use Rattle.limits.specs.Limits.{size, valence}
+use Rattle.limits.specs.Limits.{size}
 use Rattle.code.specs.Right.{clear-right}
 use Rattle.fast.specs.Scan.{right-scanned}
 use Rattle.fast.proofs.centred.Statement.{statement}
@@ -17,5 +17,6 @@ centred-spec =
     (λ c. search needs)
     (λ c κs. let d = c .before .before .before in
     let s = d .before .before .before .before in
-    d .scan .ensures .good (right-scanned (d .scan .ensures) (clear-right size valence (now (s .args .code)) (s .pre))))
+    let (k, b) = d .scan .ensures .good (right-scanned (d .scan .ensures) (clear-right size (s .args .limit) (now (s .args .code)) (s .pre .1))) in
+    (k .ends, (k .ordered, b)))
     (λ c. search needs))

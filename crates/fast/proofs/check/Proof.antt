@@ -15,5 +15,5 @@ check-spec =
     (λ c κs. search needs)
     (λ c. when-wrong (c .before .before .before .before .scan .ensures .bad (c .before .if1 .taken)) (c .check .ensures))
     (λ c. search needs)
-    (λ c κs. c .before .before .before .before .scan .ensures .good (omega (arith, c .before .if1 .left)))
+    (λ c κs. let (k, b) = c .before .before .before .before .scan .ensures .good (omega (arith, c .before .if1 .left)) in (k .ends, (k .ordered, b)))
     (λ c. when-right (c .before .before .before .before .before .scan .ensures .good (omega (arith, c .before .before .if1 .left)) .0) (c .judged .ensures)))

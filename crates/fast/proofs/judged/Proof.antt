@@ -7,6 +7,6 @@ pub judged-spec : {M : Type 1} → statement M
 judged-spec =
     tie.close
     (tie.spec
-    (λ c κs. let s = c .before .before in (s .pre .0 .ends, s .pre .1))
-    (λ c. when-so (c .before .before .before .before .pre .0) (c .before .middle .ensures) (c .if1 .taken))
-    (λ c. when-not (c .before .before .before .before .pre .0) (c .before .middle .ensures) (c .if1 .left)))
+    (λ c κs. let s = c .before .before in (s .pre .0, s .pre .1 .1))
+    (λ c. let p = c .before .before .before .before .pre in when-so (p .0) (p .1 .0) (c .before .middle .ensures) (c .if1 .taken))
+    (λ c. let p = c .before .before .before .before .pre in when-not (p .0) (p .1 .0) (c .before .middle .ensures) (c .if1 .left)))

@@ -3,7 +3,6 @@ use mathlib.Core.Path.{refl}
 use mathlib.Core.List.{[], _∷_}
 use Rattle.refusal.specs.Table.{Clear}
 use Rattle.refusal.specs.Laws.{was-clear, was-refused, never}
-use Rattle.limits.specs.Limits.{valence}
 use Rattle.bits.specs.Bits.{Zeros, bitRows}
 use Rattle.bits.specs.Decided.{reading-ended, decide-front, decide-ordered}
 use Rattle.fraction.specs.Fraction.{row4, bitsOf}
@@ -21,9 +20,9 @@ fraction-code-spec =
     (tie.spec
     (λ c κs. search needs)
     (λ c. search needs)
-    (λ c. decide-front (bitRows valence Zeros (bitsOf (c .before .before .before .before .before .args .x))) (was-refused (c .before .before .before .ranged .ensures) (c .before .k .given .1)) (c .before .before .before .before .before .pre))
+    (λ c. let a = c .before .before .before .before .before .args in decide-front (bitRows (a .limit) Zeros (bitsOf (a .x))) (was-refused (c .before .before .before .ranged .ensures) (c .before .k .given .1)) (c .before .before .before .before .before .pre .1))
     (λ c. search needs)
-    (λ c κs. ((λ o. never (clear (c .before)) 0 (refl, o)), c .before .before .before .before .before .pre))
+    (λ c κs. let p = c .before .before .before .before .before .pre in (p .0, ((λ o. never (clear (c .before)) 0 (refl, o)), p .1)))
     (λ c κs. let s = c .before .before .before .read .ensures in (reading-ended s, s .long))
     (λ c. search needs)
     (λ c. decide-ordered (clear (c .before .before .before .before .before .before)) (c .before .before .before .before .read .ensures) (c .siblings .ensures)))

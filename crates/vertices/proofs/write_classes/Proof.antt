@@ -7,9 +7,7 @@ use native.Mathlib.Omega.{arith}
 use denote.Ref.{now}
 use lib.ListN.{length}
 use Rattle.laws.specs.Laid.{Laid}
-use Rattle.limits.specs.Limits.{size, valence}
 use Rattle.code.specs.Search.{Known}
-use Rattle.code.specs.Right.{Right, clear-right}
 use Rattle.vertices.specs.Classes.{alike?, classes}
 use Rattle.vertices.specs.Search.{Deep}
 use Rattle.vertices.proofs.Writing.{Writing, writing-none, writing-length, writing-low, writing-next, writing-all}
@@ -21,9 +19,6 @@ Inv-loop code out₀ ends deep top₀ i₀ out top i = Known code ends 0 × (Dee
 
 abbrev μ-loop : tie.MeasureT-loop
 μ-loop code out₀ ends deep top₀ i₀ out top i = length code - i
-
-right : (c : tie.Start Inv-loop μ-loop) → Right size valence (now (c .args .code))
-right c = clear-right size valence (now (c .args .code)) (c .pre .0)
 
 written : (c : List ℕ) {old out : List ℕ} {top i : ℕ} → Writing (alike? c) (length c) old out top i → length c ≤ i → Laid (classes c) old out i
 unfolding classes
@@ -40,11 +35,11 @@ write-classes-spec =
     Inv-loop
     μ-loop
     (λ c. refl)
-    (λ c κs. let r = right (c .before .before .before) in (r .ends, (r .few, refl)))
+    (λ c κs. let p = c .before .before .before .pre in (p .0, (p .1 .0, refl)))
     (λ c. refl)
-    (λ c κs. let r = right (c .before .before .before .before .before .before) in (r .ends, (r .few, refl)))
+    (λ c κs. let p = c .before .before .before .before .before .before .pre in (p .0, (p .1 .0, refl)))
     (λ c. let s = c .before .before .before .before .before .before .before .before in
-    (c .before .before .before .before .ends-of .ensures, (c .before .depths-of .ensures, writing-none (alike? _) (s .pre .1))))
+    (c .before .before .before .before .ends-of .ensures, (c .before .depths-of .ensures, writing-none (alike? _) (s .pre .1 .1))))
     (λ c. sym (c .before .before .loop .inv .0 .long))
     (λ c. sym (c .before .before .before .loop .inv .1 .0 .long))
     (λ c. let l = c .before .before .before .before .loop .inv in omega (arith, writing-low (alike? _) (l .1 .1), l .0 .few))
