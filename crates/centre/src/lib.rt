@@ -86,7 +86,13 @@ fn leaves(d: &[u8; SIZE], n: usize, q: &mut [u8; SIZE]) -> usize
 }
 
 // The leaves of the list from a to e go off the copy; those that the round makes stand behind them, to the end that is the result.
-fn round(t: &mut [[u8; WIDTH]; SIZE], d: &mut [u8; SIZE], q: &mut [u8; SIZE], a: usize, e: usize) -> usize
+fn round(
+    t: &mut [[u8; WIDTH]; SIZE],
+    d: &mut [u8; SIZE],
+    q: &mut [u8; SIZE],
+    a: usize,
+    e: usize,
+) -> usize
     requires { ⌜ Peelable (now t) (now d) (now q) a e ⌝ }
     ensures { λ r. ⌜ ((N : ℕ) → Copy N (now (t .entry)) (now (d .entry)) (now (q .entry)) a e → Round N (now (t .entry)) (now (d .entry)) (now (q .entry)) e (now (t .exit)) (now (d .exit)) (now (q .exit)) e r) ⌝ }
 {

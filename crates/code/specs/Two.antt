@@ -3,7 +3,7 @@
 use mathlib.Core.Path.{_≡_, refl, ap, ap₂, sym, _∙_, subst}
 use mathlib.Core.Bool.{Bool, true, false}
 use mathlib.Core.List.{List, [], _∷_, _++_, map, map-append, flatten, nil≢cons, head-eq-of-cons-eq}
-use Prim.Native.Nat.{ℕ, zero, suc, _+_, _-_, _/_, _≤_, _<_}
+use Prim.Native.Nat.{ℕ, zero, suc, _+_, _-_, _/_, _<_}
 use native.Mathlib.Omega.{arith}
 use lib.ListN.{length, getD, take, drop, length-map}
 use lib.Seq.{drop-drop, take-at, drop-at}
@@ -13,7 +13,7 @@ use Rattle.code.specs.Ends.{Ends, digits-plain}
 use Rattle.code.specs.Parts.{flatten-codes, Ending}
 use Rattle.code.specs.Search.{Known}
 
-map-take : {A B : Type 0} (f : A → B) (n : ℕ) (l : List A) → map f (take n l) ≡ take n (map f l)
+pub map-take : {A B : Type 0} (f : A → B) (n : ℕ) (l : List A) → map f (take n l) ≡ take n (map f l)
 map-take f zero l = refl
 map-take f (suc n) [] = refl
 map-take f (suc n) (x ∷ l) = ap (λ r. f x ∷ r) (map-take f n l)
@@ -30,7 +30,7 @@ map-flatten m (c ∷ cs) = map-append m c (flatten cs) ∙ ap (λ l. map m c ++ 
 
 module _ (arity : ℕ → ℕ) where
   -- the codes that the digits make are the digits of those that the marks make
-  codes-digits : (ms : List ℕ) → codes plain (digits arity ms) ≡ map (map arity) (codes arity ms)
+  pub codes-digits : (ms : List ℕ) → codes plain (digits arity ms) ≡ map (map arity) (codes arity ms)
   unfolding codes
   codes-digits [] = refl
   codes-digits (m ∷ ms) =
@@ -41,7 +41,7 @@ module _ (arity : ℕ → ℕ) where
       ∙ ap (λ (x : List ℕ). (arity m ∷ x) ∷ map (map arity) (drop (arity m) D)) (sym (map-flatten arity (take (arity m) D)))
 
   -- codes from one of them on, put one behind the other, make those codes
-  codes-rest : (l : List ℕ) (n : ℕ) → codes arity (flatten (drop n (codes arity l))) ≡ drop n (codes arity l)
+  pub codes-rest : (l : List ℕ) (n : ℕ) → codes arity (flatten (drop n (codes arity l))) ≡ drop n (codes arity l)
   unfolding codes flatten
   codes-rest [] zero = refl
   codes-rest [] (suc n) = refl

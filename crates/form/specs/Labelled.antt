@@ -13,7 +13,7 @@ use Rattle.code.specs.Code.{decode}
 use Rattle.code.specs.Ends.{Ends}
 use Rattle.tree.specs.Skeleton.{IsTree, Renumbering}
 use Rattle.tree.specs.Label.{Marks, rootedₗ, digits, labels, Keeps, IsRootedₗ}
-use Rattle.tree.specs.General.{size, decode-code, decoded-tree, code-decode, equal-codes}
+use Rattle.tree.specs.General.{size, decoded-tree, code-decode, equal-codes}
 use Rattle.path.specs.Theorems.{centre-inside}
 use Rattle.form.specs.Form.{nTupleₗ, centredₗ, Own}
 use Rattle.form.specs.One.{one-n-tuple, one-centred, some-n-tuple, some-centred}

@@ -1,6 +1,6 @@
 -- What rows 3 and 10 to 13 of "Refusal numbers" let pass: exactly the rooted codes of skeletons. First for marks, where row 20 bounds the
 -- neighbours by the label; then for document 01's codes. Assumes nothing.
-use mathlib.Core.Path.{_≡_, refl, ap, sym, _∙_}
+use mathlib.Core.Path.{_≡_, refl, ap, _∙_}
 use mathlib.Core.Logic.{_↔_, Iff·trans}
 use mathlib.Core.List.{List, [], _∷_}
 use Prim.Native.Nat.{ℕ, zero, suc, _-_, _≤_, _<_}

@@ -1,6 +1,6 @@
 -- Named atoms: a vertex is carbon, nitrogen or oxygen. Its mark is three times its digit and the atom's rank, so that marks are compared
 -- by the digit first and then by the atom (`by-digit-then-atom`), and every number is a mark. Assumes nothing.
-use mathlib.Core.Path.{_≡_, refl, sym, ap, _∙_}
+use mathlib.Core.Path.{_≡_, refl}
 use mathlib.Core.Logic.{_↔_, _⊎_, inl, inr, ⊎-elim}
 use Prim.Native.Nat.{ℕ, zero, suc, _+_, _*_, _/_, _%_, _<_}
 use native.Mathlib.Decide.{decLt}

@@ -81,10 +81,12 @@ made-requires : tie.Need-made-requires
 made-requires c κs =
     let w = c .before .before in
     let a = w .before .before .before .before .before .args in
-    let k = known (w .before .before) in
-    (w .before .before .before .before .before .pre, rw (lent w)
-    (clear-both (size-clear (at-least k) (omega (arith, at-most k)))
-    (clear-both (clear-one (λ p h. h .1 (zero-length (a .n) (a .x)))) (entries-clear (zero-entries (a .n) (a .x))))))
+    let k = known (w .before .before) in (
+      w .before .before .before .before .before .pre,
+      rw (lent w)
+          (clear-both (size-clear (at-least k) (omega (arith, at-most k)))
+          (clear-both (clear-one (λ p h. h .1 (zero-length (a .n) (a .x)))) (entries-clear (zero-entries (a .n) (a .x))))),
+    )
 
 returns-2 : tie.Need-returns-2
 returns-2 c =
