@@ -8,7 +8,7 @@ use limits::ZERO_A;
 use refusal::Check;
 
 // The entries of a CAM that has a 0A, and the bytes of an edge list that has an A0.
-const ENTRIES: usize = ZERO_A - 1;
+pub const ENTRIES: usize = ZERO_A - 1;
 
 const A_ENDS: usize = 2 * (A_ZERO - 1);
 

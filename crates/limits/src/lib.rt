@@ -20,6 +20,9 @@ pub const PACKED: usize = 16;
 
 // Vertices of a skeleton whose code is a whole number, a fraction, a 0A or an A0, at most.
 pub const WHOLE: usize = 32;
+
 pub const FRACTION: usize = 27;
+
 pub const ZERO_A: usize = 21;
+
 pub const A_ZERO: usize = 11;

@@ -41,49 +41,49 @@ module _ {t : List ℕ} {at e : ℕ} (l : at < length t) (u : UpTo (take (length
 -- ---- a reader's loop
 
 -- before line k + 1, with room for `lines`
-pub record Going (text rec₀ num₀ pla₀ : List ℕ) (lines : ℕ) (rec num pla : List ℕ) (k at : ℕ) : Type 0 where
-  pub read : ReadSoFar size digitTable size text rec₀ num₀ pla₀ rec num pla k at
+pub record Going (R : ℕ) (text rec₀ num₀ pla₀ : List ℕ) (lines : ℕ) (rec num pla : List ℕ) (k at : ℕ) : Type 0 where
+  pub read : ReadSoFar size (digitTable R) size text rec₀ num₀ pla₀ rec num pla k at
   pub room : Room size (length rec₀) (length num₀) (length pla₀) lines
   pub below : k ≤ lines
 
-module _ {text rec₀ num₀ pla₀ : List ℕ} {lines : ℕ} {rec num pla : List ℕ} {k at : ℕ} (g : Going text rec₀ num₀ pla₀ lines rec num pla k at) where
+module _ {R : ℕ} {text rec₀ num₀ pla₀ : List ℕ} {lines : ℕ} {rec num pla : List ℕ} {k at : ℕ} (g : Going R text rec₀ num₀ pla₀ lines rec num pla k at) where
   pub lengths : (length rec ≡ length rec₀) × (length num ≡ length num₀) × (length pla ≡ length pla₀)
   lengths = read-lengths (omega arith) (g .read)
 
   -- there is room for one line more
-  pub room-now : k < lines → (64 * k + 64 ≤ length rec) × (k < length num) × (k < length pla)
+  pub room-now : k < lines → (size * k + size ≤ length rec) × (k < length num) × (k < length pla)
   room-now l = let r = g .room .enough in let n = lengths in (omega arith, omega arith, omega arith)
 
   -- and what counts it fits a word
-  pub fits : k < lines → length rec₀ < 2 ^ 64 → Fits w64 (64 * k) × Fits w64 (64 * k + 64) × Fits w64 (k + 1)
+  pub fits : k < lines → length rec₀ < 2 ^ 64 → Fits w64 (size * k) × Fits w64 (size * k + size) × Fits w64 (k + 1)
   fits l h = let r = room-now l in let n = lengths in (omega arith, omega arith, omega arith)
 
   pub not-past : (at ≡ length text → ⊥) → at < length text
   not-past n = omega (arith, g .read .within)
 
-  pub at-end : at ≡ length text → ReadText size digitTable size text rec₀ num₀ pla₀ rec num pla k at
+  pub at-end : at ≡ length text → ReadText size (digitTable R) size text rec₀ num₀ pla₀ rec num pla k at
   at-end e = record { read = g .read; stops = λ l a b c. let z : ⊥ = omega arith in z }
 
-  pub no-room : lines ≤ k → ReadText size digitTable size text rec₀ num₀ pla₀ rec num pla k at
+  pub no-room : lines ≤ k → ReadText size (digitTable R) size text rec₀ num₀ pla₀ rec num pla k at
   no-room l =
       let e : k ≡ lines = omega (arith, g .below) in
       record { read = g .read; stops = λ m a b c. g .room .no-more (omega arith) (omega arith) (omega arith) }
 
   pub going-more :
       {to : ℕ} {new num′ pla′ : List ℕ} {o : Outcome ℕ} → k < lines → (at ≡ length text → ⊥)
-      → ReadLine size digitTable (take (length text - at) (drop at text)) (midOf (64 * k) (64 * k + 64 - 64 * k) rec) new o
+      → ReadLine size (digitTable R) (take (length text - at) (drop at text)) (midOf (size * k) (size * k + size - size * k) rec) new o
       → (num′ ≡ set num k (numberOf o)) × (pla′ ≡ set pla k (placeOf o)) → Behind text at to
-      → Going text rec₀ num₀ pla₀ lines (putMid (64 * k) (64 * k + 64 - 64 * k) rec new) num′ pla′ (k + 1) to
+      → Going R text rec₀ num₀ pla₀ lines (putMid (size * k) (size * k + size - size * k) rec new) num′ pla′ (k + 1) to
   going-more {to} {new} {o = o} l n h e b =
       let r = room-now l in
       let x = lengths in
-      let q : 64 * k + 64 - 64 * k ≡ 64 = omega arith in
-      let h′ : ReadLine size digitTable (drop at text) (midOf (64 * k) 64 rec) new o = rw (rest-is text at, q) at h in
-      let m : 64 ≤ length (midOf (64 * k) 64 rec) = simp (length-take, length-drop) (omega arith) in
-      let a = line-read size digitTable m h′ in
+      let q : size * k + size - size * k ≡ size = omega arith in
+      let h′ : ReadLine size (digitTable R) (drop at text) (midOf (size * k) size rec) new o = rw (rest-is text at, q) at h in
+      let m : size ≤ length (midOf (size * k) size rec) = simp (length-take, length-drop) (omega arith) in
+      let a = line-read size (digitTable R) m h′ in
       rw (e .0, e .1, q)
       (record {
-        read = read-more size digitTable (omega arith) (g .read) (not-past n) (omega arith) b (a .line) (a .told) (a .lies) refl;
+        read = read-more size (digitTable R) (omega arith) (g .read) (not-past n) (omega arith) b (a .line) (a .told) (a .lies) refl;
         room = g .room;
         below = omega arith;
       })

@@ -1,5 +1,6 @@
 // Lines: the form of a line, found and written; a line and a text, read. What a line is stands in specs/Line.antt, what the functions
 // on its form promise in specs/Form.antt, and what reading promises in specs/Reading.antt.
+use limits::SIZE;
 use refusal::Answer;
 use refusal::Check;
 ghost use mathlib.Core.Path.{_≡_};
@@ -141,7 +142,7 @@ pub fn locate(text: &[u8]) -> Span
             if n == 0 {
                 return Span::Refused(3);
             }
-            if 64 < n {
+            if SIZE < n {
                 return Span::Refused(3);
             }
             if end - start == n {
@@ -221,25 +222,27 @@ pub fn extent(n: usize) -> usize
 }
 
 // The digits of a line, as they are written, by their values: row 3 of digits lent by themselves, and the rows of a line's.
-fn judge(t: &[u8]) -> Check
+fn judge(limit: u8, t: &[u8]) -> Check
+    requires some { ⌜ 1 ≤ limit ⌝ }
     requires figures { ⌜ Figures (now t) ⌝ }
     requires few { ⌜ length (now t) ≤ size ⌝ }
-    ensures { λ r. ⌜ Answers (row3 size (length (values (now (t .entry)))) ∷ judged digitTable (values (now (t .entry)))) r ⌝ }
+    ensures { λ r. ⌜ Answers (row3 size (length (values (now (t .entry)))) ∷ judged (digitTable limit) (values (now (t .entry)))) r ⌝ }
 {
-    let mut v = [0u8; 64];
+    let mut v = [0u8; SIZE];
     read_digits(t, &mut v);
-    fast::check(&v[..t.len()])
+    fast::check(limit, &v[..t.len()])
 }
 
 // The first line of a text: its digits as values, to the start of what is lent.
-pub fn read_line(text: &[u8], out: &mut [u8]) -> Answer
-    ensures { λ r. ⌜ ReadLine size digitTable (now (text .entry)) (now (out .entry)) (now (out .exit)) (told r) ⌝ }
+pub fn read_line(limit: u8, text: &[u8], out: &mut [u8]) -> Answer
+    requires { ⌜ 1 ≤ limit ⌝ }
+    ensures { λ r. ⌜ ReadLine size (digitTable limit) (now (text .entry)) (now (out .entry)) (now (out .exit)) (told r) ⌝ }
 {
     match locate(text) {
         Span::Refused(k) => Answer::Refused(k, 0),
         Span::Digits(start, end) => {
             let n = end - start;
-            match judge(&text[start..end]) {
+            match judge(limit, &text[start..end]) {
                 Check::Refuse(k, p) => Answer::Refused(k, p),
                 Check::Passed => {
                     if out.len() < n {
@@ -253,11 +256,11 @@ pub fn read_line(text: &[u8], out: &mut [u8]) -> Answer
     }
 }
 
-// How many lines there is room for: 64 bytes, a number and a place for each.
+// How many lines there is room for: SIZE bytes, a number and a place for each.
 fn room(records: usize, numbers: usize, places: usize) -> usize
     ensures { λ r. ⌜ Room size records numbers places r ⌝ }
 {
-    let n = records / 64;
+    let n = records / SIZE;
     if numbers < n {
         if places < numbers {
             return places;
@@ -303,12 +306,14 @@ fn note(r: Answer, numbers: &mut [u8], places: &mut [usize], k: usize)
 
 // A text, line after line, as far as there is room.
 pub fn read_text(
+    limit: u8,
     text: &[u8],
     records: &mut [u8],
     numbers: &mut [u8],
     places: &mut [usize],
 ) -> Progress
-    ensures { λ r. ⌜ ReadText size digitTable size
+    requires { ⌜ 1 ≤ limit ⌝ }
+    ensures { λ r. ⌜ ReadText size (digitTable limit) size
         (now (text .entry)) (now (records .entry)) (now (numbers .entry)) (now (places .entry))
         (now (records .exit)) (now (numbers .exit)) (now (places .exit)) (r .lines) (r .at) ⌝ }
 {
@@ -319,7 +324,7 @@ pub fn read_text(
         if at == text.len() {
             return Progress { lines: k, at };
         }
-        let r = read_line(&text[at..], &mut records[64 * k..64 * k + 64]);
+        let r = read_line(limit, &text[at..], &mut records[SIZE * k..SIZE * k + SIZE]);
         note(r, numbers, places, k);
         at = behind(text, at);
         k += 1;

@@ -11,6 +11,7 @@ use Rattle.refusal.specs.Laws.{clear-left, others}
 use Rattle.refusal.specs.Giving.{refused-short, given, written, written-length}
 use Rattle.limits.specs.Limits.{size, valence}
 use Rattle.code.specs.Code.{codeRows}
+use Rattle.code.specs.Right.{Right, clear-right}
 use Rattle.tree.specs.Skeleton.{IsSkeleton}
 use Rattle.skeleton.specs.Edges.{edgeRows}
 use Rattle.form.specs.Form.{centred, ofCentred}
@@ -24,6 +25,9 @@ use Rattle.zurkhovel.specs.Accepted.{skeleton-of}
 module _ {N : ℕ} {E old digits : List ℕ} (s : IsSkeleton size valence N E) (w : Writes (centred N E) old N digits) where
   pub code-clear : Clear (codeRows size valence (take N digits))
   code-clear = rw (written w) (clear-left (codeRows size valence (w .result)) _ (form-accepted centred centred-form size valence (w .result) N E s (w .right)))
+
+  pub right-code : Right size valence (take N digits)
+  right-code = clear-right size valence (take N digits) code-clear
 
   pub code-digits : Code (take N digits)
   code-digits = lawful valence (omega arith) (take N digits) (others code-clear)

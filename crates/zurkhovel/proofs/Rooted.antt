@@ -33,8 +33,8 @@ module _ {most N r : ℕ} (E : List ℕ) (k : Clear (edgeRows most valence N E r
       digits-pass valence (rooted N E r) .1
       (right N E r (s .tree) (i .0) (i .1), degrees N E r (s .tree) (i .0) (i .1) valence .0 (s .degrees))
 
-  rooted-coded : Coded valence most (rooted N E r)
-  rooted-coded = right-coded most (rooted N E r) rooted-right (omega (arith, rooted-size E k, at-most k))
+  rooted-coded : {S : ℕ} → valence ≤ S → Coded S most (rooted N E r)
+  rooted-coded {S} h = right-coded S most (rooted N E r) h rooted-right (omega (arith, rooted-size E k, at-most k))
 
   -- what was written
   pub coded-at : {old code : List ℕ} → Writes (λ c. c ≡ rooted N E r) old N code → length code ≡ size → Rooted most N E r code
@@ -49,8 +49,8 @@ module _ {most N r : ℕ} {E code : List ℕ} (t : Rooted most N E r code) where
   pub digits-within : most ≤ size → N ≤ size
   digits-within l = omega (arith, at-most (t .clear))
 
-  pub digits-coded : Coded valence most (take N code)
-  digits-coded = rw (t .digits) (rooted-coded E (t .clear))
+  pub digits-coded : {S : ℕ} → valence ≤ S → Coded S most (take N code)
+  digits-coded h = rw (t .digits) (rooted-coded E (t .clear) h)
 
 -- ---- a value
 

@@ -5,10 +5,11 @@ use Prim.Native.Nat.{ℕ, _≤_}
 use native.Mathlib.Omega.{arith}
 use lib.ListN.{length}
 use Rattle.refusal.specs.Table.{Clear}
-use Rattle.limits.specs.Limits.{size, valence}
+use Rattle.limits.specs.Limits.{size, valence, width}
 use Rattle.tree.specs.Skeleton.{IsTree, IsSkeleton, rooted}
 use Rattle.tree.specs.Theorems as Theorems
 use Rattle.skeleton.specs.Edges.{edgeRows}
+use Rattle.skeleton.specs.Tables.{in-rows}
 use Rattle.skeleton.specs.Theorems.{accepted}
 
 pub skeleton-of : {most N r : ℕ} {E : List ℕ} → Clear (edgeRows most valence N E r) → IsSkeleton most valence N E
@@ -28,6 +29,10 @@ module _ {most N r : ℕ} (E : List ℕ) (k : Clear (edgeRows most valence N E r
 -- a lower limit of N
 pub wider : {most N : ℕ} {E : List ℕ} → most ≤ size → IsSkeleton most valence N E → IsSkeleton size valence N E
 wider h s = record { tree = s .tree; few = omega (arith, s .few); degrees = s .degrees }
+
+-- it has a table of neighbours
+pub tabled : {most N : ℕ} {E : List ℕ} → IsSkeleton most valence N E → IsSkeleton most width N E
+tabled = in-rows (omega arith)
 
 -- and a skeleton is accepted; vertex 1 stands for a root that is not named
 pub plain-rows : {most N : ℕ} {E : List ℕ} → IsSkeleton most valence N E → Clear (edgeRows most valence N E 1)

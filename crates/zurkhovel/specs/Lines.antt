@@ -13,7 +13,7 @@ use Rattle.lines.specs.Reading as Reading
 
 -- the first line of the text t into a lent output
 abbrev pub ReadLine : List ℕ → List ℕ → List ℕ → Outcome ℕ → Type 0
-ReadLine t old new o = Reading.ReadLine size digitTable t old new o
+ReadLine t old new o = Reading.ReadLine size (digitTable valence) t old new o
 
 -- the line of the centred code of the skeleton with N vertices and the edges E
 abbrev pub WriteLine : ℕ → List ℕ → List ℕ → List ℕ → Outcome ℕ → Type 0
@@ -21,7 +21,7 @@ WriteLine N E old new o = Gives (edgeRows size valence N E 1) (ofCentred N E lin
 
 -- the text t, line after line: rec, num and pla before, rec′, num′ and pla′ after; k lines are read, up to the place `at`
 abbrev pub ReadText : List ℕ → List ℕ → List ℕ → List ℕ → List ℕ → List ℕ → List ℕ → ℕ → ℕ → Type 0
-ReadText t rec num pla rec′ num′ pla′ k at = Reading.ReadText size digitTable size t rec num pla rec′ num′ pla′ k at
+ReadText t rec num pla rec′ num′ pla′ k at = Reading.ReadText size (digitTable valence) size t rec num pla rec′ num′ pla′ k at
 
 -- "R records, and F refused lines": how many of the answers' numbers are 0, and how many are not
 unfoldable pub zeros : List ℕ → ℕ

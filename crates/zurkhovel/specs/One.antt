@@ -1,11 +1,11 @@
 -- Read from its promise alone, every public call has one possible result and one possible state of its lent output. r, s: the call's own
 -- results; new, new′: the output after it. Each is a case of one law, `one-result`, by way of `one-given` where the call writes; the law is
 -- about what is told of a result, which tells two different ones apart (`Apart` of the crate `refusal`, `said-apart` here). Assumes nothing.
-use mathlib.Core.Path.{_≡_, refl, sym, _∙_}
+use mathlib.Core.Path.{_≡_, refl, sym, ap, _∙_}
 use mathlib.Core.Bool.{Bool, true, false}
 use mathlib.Core.List.{List}
 use Prim.Native.Nat.{ℕ}
-use Rattle.refusal.specs.Table.{Row, Answered}
+use Rattle.refusal.specs.Table.{Row, gives, refuses, Answered}
 use Rattle.refusal.specs.Outcome.{told}
 use Rattle.refusal.specs.declared.Answer.{Answer}
 use Rattle.refusal.specs.Apart.{told-apart, told-both}
@@ -16,7 +16,7 @@ use Rattle.form.specs.Forms.{IsForm, n-tuple-form, centred-form}
 use Rattle.zurkhovel.specs.Codes.{CheckCode, DecodeCode, DecodeForm, CheckEdges, RootedCode, FormCode}
 use Rattle.zurkhovel.specs.declared.codes.Verdict.{Verdict}
 use Rattle.zurkhovel.specs.declared.codes.Verdict.the-variants.{Same, Different, Refused}
-use Rattle.zurkhovel.specs.Same.{said, EqualCodes, SameSkeleton}
+use Rattle.zurkhovel.specs.Same.{Finding, said, EqualCodes, SameSkeleton}
 use Rattle.zurkhovel.specs.Accepted.{tree-of}
 
 -- two results that are the same thing are one
@@ -80,6 +80,11 @@ one-found N E P F true false x y = absurd (y (x .0) (x .1) (x .2))
 one-found N E P F false true x y = absurd (x (y .0) (y .1) (y .2))
 one-found N E P F false false x y = refl
 
+-- which list is refused, and the number
+abbrev refusedAs : Finding → ℕ × ℕ
+refusedAs (gives a) = (0, 0)
+refusedAs (refuses k p) = k
+
 -- two verdicts of which the same is said are one
 pub said-apart : (r s : Verdict) → said r ≡ said s → r ≡ s
 said-apart Same Same e = cc
@@ -90,7 +95,10 @@ said-apart Different Different e = cc
 said-apart Different (Refused i k p) e = cc
 said-apart (Refused i k p) Same e = cc
 said-apart (Refused i k p) Different e = cc
-said-apart (Refused i k p) (Refused j l q) e = cc
+said-apart (Refused i k p) (Refused j l q) e =
+    let a : i ≡ j = ap (λ (o : Finding). refusedAs o .0) e in
+    let b : k ≡ l = ap (λ (o : Finding). refusedAs o .1) e in
+    cc
 
 pub one-same-skeleton :
     (N : ℕ) (E : List ℕ) (P : ℕ) (F : List ℕ) (r s : Verdict) → SameSkeleton N E P F (said r) → SameSkeleton N E P F (said s) → r ≡ s

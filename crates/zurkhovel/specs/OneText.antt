@@ -24,14 +24,14 @@ use Rattle.zurkhovel.specs.Alike.{EqualVertices}
 use Rattle.zurkhovel.specs.Accepted.{tree-of}
 
 pub one-read-line : (t old new new′ : List ℕ) (r s : Answer) → ReadLine t old new (told r) → ReadLine t old new′ (told s) → (r ≡ s) × (new ≡ new′)
-one-read-line t old new new′ r s a b = told-both r s (Lines.one-line size digitTable t old new new′ (told r) (told s) a b)
+one-read-line t old new new′ r s a b = told-both r s (Lines.one-line size (digitTable valence) t old new new′ (told r) (told s) a b)
 
 pub one-read-text :
     (t rec num pla rec₁ num₁ pla₁ rec₂ num₂ pla₂ : List ℕ) (r s : Progress)
     → ReadText t rec num pla rec₁ num₁ pla₁ (r .lines) (r .at) → ReadText t rec num pla rec₂ num₂ pla₂ (s .lines) (s .at)
     → (r ≡ s) × (rec₁ ≡ rec₂) × (num₁ ≡ num₂) × (pla₁ ≡ pla₂)
 one-read-text t rec num pla rec₁ num₁ pla₁ rec₂ num₂ pla₂ r s a b =
-    let (k, at, e, f, g) = Lines.one-text size digitTable size t rec num pla rec₁ num₁ pla₁ rec₂ num₂ pla₂ (r .lines) (r .at) (s .lines) (s .at) a b in
+    let (k, at, e, f, g) = Lines.one-text size (digitTable valence) size t rec num pla rec₁ num₁ pla₁ rec₂ num₂ pla₂ (r .lines) (r .at) (s .lines) (s .at) a b in
     (ap₂ (λ (i j : ℕ). record { lines = i; at = j }) k at, e, f, g)
 
 pub one-count : (numbers : List ℕ) (r s : Counts) → Counted numbers (r .read) (r .refused) → Counted numbers (s .read) (s .refused) → r ≡ s

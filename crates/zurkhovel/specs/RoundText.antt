@@ -27,13 +27,13 @@ use Rattle.zurkhovel.specs.Accepted.{skeleton-of, plain-rows}
 -- ---- written and read
 
 -- where 64 bytes are lent, the line of an accepted code gives the code
-line-given : (c old new : List ℕ) (o : Outcome ℕ) → Accept size digitTable c → size ≤ length old → ReadLine (line c) old new o → Given c old new o
+line-given : (c old new : List ℕ) (o : Outcome ℕ) → Accept size (digitTable valence) c → size ≤ length old → ReadLine (line c) old new o → Given c old new o
 unfolding line block counted
 line-given c old new o a h g =
-    let f = fits size digitTable (omega arith) lawful-table a in
+    let f = fits size (digitTable valence) (omega arith) (lawful-table valence (omega arith)) a in
     let u : Cut 10 (line c) (body c) [] = record { parts = refl; free = body-free c f } in
-    let r = line-read size digitTable h g in
-    let e : r .answer ≡ gives c = answered-once size digitTable (r .line) (gives-code size digitTable (omega arith) lawful-table a u) in
+    let r = line-read size (digitTable valence) h g in
+    let e : r .answer ≡ gives c = answered-once size (digitTable valence) (r .line) (gives-code size (digitTable valence) (omega arith) (lawful-table valence (omega arith)) a u) in
     (r .told ∙ ap counted e, r .lies ∙ ap (λ p. block p old) e)
 
 -- a skeleton's line gives its centred code
@@ -43,7 +43,7 @@ pub line-back :
 line-back N E old new n old′ new′ o w h g =
     let (k, (c, x, e), _) = gave w in
     let s : IsSkeleton size valence N E = skeleton-of k in
-    let a : Accept size digitTable c =
+    let a : Accept size (digitTable valence) c =
     record { few = omega (arith, form-size centred centred-form N E c (s .tree) x, s .few); clear = others (form-accepted centred centred-form size valence c N E s x) } in
     (c, x, line-given c old′ new′ o a h (subst (λ t. ReadLine t old′ new′ o) e g))
 
@@ -53,7 +53,7 @@ line-back N E old new n old′ new′ o w h g =
 abbrev pub Begins : List ℕ → List ℕ → Type 0
 Begins c t = (rest : List ℕ) × (t ≡ line c ++ rest)
 
-looked : (t b rest c : List ℕ) → t ≡ b ++ (10 ∷ rest) → Look size digitTable b (gives c) → Begins c t
+looked : (t b rest c : List ℕ) → t ≡ b ++ (10 ∷ rest) → Look size (digitTable valence) b (gives c) → Begins c t
 unfolding line
 looked t b rest c p (good z a) = (rest, p ∙ ap (λ (d : List ℕ). d ++ (10 ∷ rest)) z ∙ sym (append-assoc (body c) (10 ∷ []) rest))
 
@@ -61,8 +61,8 @@ looked t b rest c p (good z a) = (rest, p ∙ ap (λ (d : List ℕ). d ++ (10 �
 line-gave : (t old new : List ℕ) (n : ℕ) → ReadLine t old new (gives n) → Begins (take n new) t
 line-gave t old new n (kept k w) =
     let (m, s) = w .right in
-    let a : LineAnswers size digitTable t (gives (w .result)) = kept (clear-left (lineRows size digitTable t) _ k) (m, s) in
-    subst (λ c. Begins c t) (sym (written w)) (looked t (s .text) (s .rest) (w .result) (s .feed .parts) (look size digitTable (omega arith) lawful-table (s .feed) a))
+    let a : LineAnswers size (digitTable valence) t (gives (w .result)) = kept (clear-left (lineRows size (digitTable valence) t) _ k) (m, s) in
+    subst (λ c. Begins c t) (sym (written w)) (looked t (s .text) (s .rest) (w .result) (s .feed .parts) (look size (digitTable valence) (omega arith) (lawful-table valence (omega arith)) (s .feed) a))
 
 -- a line that is read, decoded and written is itself
 pub line-again :

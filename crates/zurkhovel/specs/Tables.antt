@@ -82,11 +82,11 @@ pub physical-checked : (most N : ℕ) (E : List ℕ) → LowestWins (physicalRow
 physical-checked most N E = lowest-number refl
 
 -- read_line
-pub line-written : (t : List ℕ) (lent : ℕ) → LowestWins (lineRows size digitTable t ++ (lineRow15 t lent ∷ []))
+pub line-written : (t : List ℕ) (lent : ℕ) → LowestWins (lineRows size (digitTable valence) t ++ (lineRow15 t lent ∷ []))
 line-written t lent = lowest-number refl
 
 -- read_text, of each line
-pub line-checked : (t : List ℕ) → LowestWins (lineRows size digitTable t)
+pub line-checked : (t : List ℕ) → LowestWins (lineRows size (digitTable valence) t)
 line-checked t = lowest-number refl
 
 -- same_skeleton: list i is refused

@@ -1,5 +1,7 @@
 // The bit-tuple: packed bytes, a whole number, a fraction.
 use fraction::Fraction;
+use limits::SIZE;
+use limits::VALENCE;
 use refusal::Answer;
 use refusal::Check;
 use refusal::Number;
@@ -19,7 +21,7 @@ fn rooted(most: usize, n: usize, edges: &[u8], root: usize, code: &mut [u8]) -> 
     requires { ⌜ (most ≤ size) × (length (now code) ≡ size) ⌝ }
     ensures { λ r. ⌜ Rooting most n (now (edges .entry)) root (now (code .exit)) r ⌝ }
 {
-    if let Check::Refuse(k, p) = skeleton::check(most, n, edges, root) {
+    if let Check::Refuse(k, p) = skeleton::check(most, VALENCE, n, edges, root) {
         return Check::Refuse(k, p);
     }
     coding::rooted(n, edges, root, code);
@@ -40,11 +42,11 @@ fn laid(result: &[u8], out: &mut [u8]) -> Answer
 pub fn pack(n: usize, edges: &[u8], root: usize, out: &mut [u8]) -> Answer
     ensures { λ r. ⌜ Pack n (now (edges .entry)) root (now (out .entry)) (now (out .exit)) (told r) ⌝ }
 {
-    let mut code = [0u8; 64];
-    if let Check::Refuse(k, p) = rooted(64, n, edges, root, &mut code) {
+    let mut code = [0u8; SIZE];
+    if let Check::Refuse(k, p) = rooted(SIZE, n, edges, root, &mut code) {
         return Answer::Refused(k, p);
     }
-    let mut packed = [0u8; 16];
+    let mut packed = [0u8; limits::PACKED];
     let m = bits::pack(&code[..n], &mut packed);
     laid(&packed[..m], out)
 }
@@ -53,8 +55,8 @@ pub fn pack(n: usize, edges: &[u8], root: usize, out: &mut [u8]) -> Answer
 pub fn whole(n: usize, edges: &[u8], root: usize) -> Number
     ensures { λ r. ⌜ Whole n (now (edges .entry)) root (numbered r) ⌝ }
 {
-    let mut code = [0u8; 64];
-    match rooted(32, n, edges, root, &mut code) {
+    let mut code = [0u8; SIZE];
+    match rooted(limits::WHOLE, n, edges, root, &mut code) {
         Check::Refuse(k, p) => Number::Refused(k, p),
         Check::Passed => Number::Value(bits::number_of(&code[..n])),
     }
@@ -64,8 +66,8 @@ pub fn whole(n: usize, edges: &[u8], root: usize) -> Number
 pub fn fraction(n: usize, edges: &[u8], root: usize) -> Fraction
     ensures { λ r. ⌜ InFraction n (now (edges .entry)) root (fraction.told r) ⌝ }
 {
-    let mut code = [0u8; 64];
-    match rooted(27, n, edges, root, &mut code) {
+    let mut code = [0u8; SIZE];
+    match rooted(limits::FRACTION, n, edges, root, &mut code) {
         Check::Refuse(k, p) => Fraction::Refused(k, p),
         Check::Passed => Fraction::Exact(fraction::fraction_of(&code[..n])),
     }
@@ -86,8 +88,8 @@ fn edges_of(read: Answer, digits: &[u8], out: &mut [u8]) -> Answer
 pub fn unpack(bytes: &[u8], out: &mut [u8]) -> Answer
     ensures { λ r. ⌜ Unpack (now (bytes .entry)) (now (out .entry)) (now (out .exit)) (told r) ⌝ }
 {
-    let mut digits = [0u8; 64];
-    let read = bits::packed_code(bytes, &mut digits);
+    let mut digits = [0u8; SIZE];
+    let read = bits::packed_code(VALENCE, bytes, &mut digits);
     edges_of(read, &digits, out)
 }
 
@@ -95,8 +97,8 @@ pub fn unpack(bytes: &[u8], out: &mut [u8]) -> Answer
 pub fn unwhole(n: usize, value: u64, out: &mut [u8]) -> Answer
     ensures { λ r. ⌜ Unwhole n value (now (out .entry)) (now (out .exit)) (told r) ⌝ }
 {
-    let mut digits = [0u8; 64];
-    let read = bits::number_code(n, value, &mut digits);
+    let mut digits = [0u8; SIZE];
+    let read = bits::number_code(VALENCE, n, value, &mut digits);
     edges_of(read, &digits, out)
 }
 
@@ -104,7 +106,7 @@ pub fn unwhole(n: usize, value: u64, out: &mut [u8]) -> Answer
 pub fn unfraction(x: f64, out: &mut [u8]) -> Answer
     ensures { λ r. ⌜ Unfraction x (now (out .entry)) (now (out .exit)) (told r) ⌝ }
 {
-    let mut digits = [0u8; 64];
-    let read = fraction::fraction_code(x, &mut digits);
+    let mut digits = [0u8; SIZE];
+    let read = fraction::fraction_code(VALENCE, x, &mut digits);
     edges_of(read, &digits, out)
 }

@@ -1,5 +1,7 @@
 // Digit codes and edge lists.
 use code::Order;
+use limits::SIZE;
+use limits::VALENCE;
 use refusal::Answer;
 use refusal::Check;
 ghost use Rattle.refusal.specs.Outcome.{told};
@@ -15,7 +17,7 @@ ghost use Rattle.form.specs.Form.{nTuple, centred};
 pub fn check_code(code: &[u8]) -> Answer
     ensures { λ r. ⌜ CheckCode (now (code .entry)) (told r) ⌝ }
 {
-    refusal::handed(code::check(code))
+    refusal::handed(code::check(VALENCE, code))
 }
 
 // The edges of digits that are a right rooted code.
@@ -34,7 +36,7 @@ pub(crate) fn lay_edges(code: &[u8], out: &mut [u8]) -> Answer
 pub fn decode_code(code: &[u8], out: &mut [u8]) -> Answer
     ensures { λ r. ⌜ DecodeCode (now (code .entry)) (now (out .entry)) (now (out .exit)) (told r) ⌝ }
 {
-    if let Check::Refuse(k, p) = code::check(code) {
+    if let Check::Refuse(k, p) = code::check(VALENCE, code) {
         return Answer::Refused(k, p);
     }
     lay_edges(code, out)
@@ -44,14 +46,14 @@ pub fn decode_code(code: &[u8], out: &mut [u8]) -> Answer
 pub fn check_edges(n: usize, edges: &[u8], root: usize) -> Answer
     ensures { λ r. ⌜ CheckEdges n (now (edges .entry)) root (told r) ⌝ }
 {
-    refusal::handed(skeleton::check(64, n, edges, root))
+    refusal::handed(skeleton::check(SIZE, VALENCE, n, edges, root))
 }
 
 // The rooted code at a vertex.
 pub fn rooted_code(n: usize, edges: &[u8], root: usize, out: &mut [u8]) -> Answer
     ensures { λ r. ⌜ RootedCode n (now (edges .entry)) root (now (out .entry)) (now (out .exit)) (told r) ⌝ }
 {
-    if let Check::Refuse(k, p) = skeleton::check(64, n, edges, root) {
+    if let Check::Refuse(k, p) = skeleton::check(SIZE, VALENCE, n, edges, root) {
         return Answer::Refused(k, p);
     }
     if out.len() < n {
@@ -65,7 +67,7 @@ pub fn rooted_code(n: usize, edges: &[u8], root: usize, out: &mut [u8]) -> Answe
 pub fn n_tuple_code(n: usize, edges: &[u8], out: &mut [u8]) -> Answer
     ensures { λ r. ⌜ FormCode nTuple n (now (edges .entry)) (now (out .entry)) (now (out .exit)) (told r) ⌝ }
 {
-    if let Check::Refuse(k, p) = skeleton::check(64, n, edges, 1) {
+    if let Check::Refuse(k, p) = skeleton::check(SIZE, VALENCE, n, edges, 1) {
         return Answer::Refused(k, p);
     }
     if out.len() < n {
@@ -79,7 +81,7 @@ pub fn n_tuple_code(n: usize, edges: &[u8], out: &mut [u8]) -> Answer
 pub fn centred_code(n: usize, edges: &[u8], out: &mut [u8]) -> Answer
     ensures { λ r. ⌜ FormCode centred n (now (edges .entry)) (now (out .entry)) (now (out .exit)) (told r) ⌝ }
 {
-    if let Check::Refuse(k, p) = skeleton::check(64, n, edges, 1) {
+    if let Check::Refuse(k, p) = skeleton::check(SIZE, VALENCE, n, edges, 1) {
         return Answer::Refused(k, p);
     }
     if out.len() < n {
@@ -93,7 +95,7 @@ pub fn centred_code(n: usize, edges: &[u8], out: &mut [u8]) -> Answer
 pub fn decode_centred(code: &[u8], out: &mut [u8]) -> Answer
     ensures { λ r. ⌜ DecodeForm centred (now (code .entry)) (now (out .entry)) (now (out .exit)) (told r) ⌝ }
 {
-    if let Check::Refuse(k, p) = fast::check(code) {
+    if let Check::Refuse(k, p) = fast::check(VALENCE, code) {
         return Answer::Refused(k, p);
     }
     lay_edges(code, out)
@@ -103,7 +105,7 @@ pub fn decode_centred(code: &[u8], out: &mut [u8]) -> Answer
 pub fn decode_n_tuple(code: &[u8], out: &mut [u8]) -> Answer
     ensures { λ r. ⌜ DecodeForm nTuple (now (code .entry)) (now (out .entry)) (now (out .exit)) (told r) ⌝ }
 {
-    if let Check::Refuse(k, p) = coding::check_n_tuple(code) {
+    if let Check::Refuse(k, p) = coding::check_n_tuple(VALENCE, code) {
         return Answer::Refused(k, p);
     }
     lay_edges(code, out)
@@ -128,8 +130,8 @@ fn judge(n1: usize, edges1: &[u8], n2: usize, edges2: &[u8]) -> Verdict
     if n1 != n2 {
         return Verdict::Different;
     }
-    let mut a = [0u8; 64];
-    let mut b = [0u8; 64];
+    let mut a = [0u8; SIZE];
+    let mut b = [0u8; SIZE];
     coding::centred(n1, edges1, &mut a);
     coding::centred(n2, edges2, &mut b);
     match code::compare(&a[..n1], &b[..n2]) {
@@ -143,10 +145,10 @@ fn judge(n1: usize, edges1: &[u8], n2: usize, edges2: &[u8]) -> Verdict
 pub fn same_skeleton(n1: usize, edges1: &[u8], n2: usize, edges2: &[u8]) -> Verdict
     ensures { λ r. ⌜ SameSkeleton n1 (now (edges1 .entry)) n2 (now (edges2 .entry)) (said r) ⌝ }
 {
-    if let Check::Refuse(k, p) = skeleton::check(64, n1, edges1, 1) {
+    if let Check::Refuse(k, p) = skeleton::check(SIZE, VALENCE, n1, edges1, 1) {
         return Verdict::Refused(1, k, p);
     }
-    if let Check::Refuse(k, p) = skeleton::check(64, n2, edges2, 1) {
+    if let Check::Refuse(k, p) = skeleton::check(SIZE, VALENCE, n2, edges2, 1) {
         return Verdict::Refused(2, k, p);
     }
     judge(n1, edges1, n2, edges2)

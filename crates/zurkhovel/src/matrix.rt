@@ -1,4 +1,6 @@
 // CAM, 0A and A0.
+use limits::SIZE;
+use limits::VALENCE;
 use refusal::Answer;
 use refusal::Check;
 use refusal::Number;
@@ -30,7 +32,7 @@ fn lay_cam(cam: &[u8], out: &mut [u8]) -> Answer
 pub fn decode_cam(n: usize, cam: &[u8], out: &mut [u8]) -> Answer
     ensures { λ r. ⌜ DecodeCam n (now (cam .entry)) (now (out .entry)) (now (out .exit)) (told r) ⌝ }
 {
-    if let Check::Refuse(k, p) = adjacency::cam_check(n, cam) {
+    if let Check::Refuse(k, p) = adjacency::cam_check(VALENCE, n, cam) {
         return Answer::Refused(k, p);
     }
     lay_cam(cam, out)
@@ -40,10 +42,10 @@ pub fn decode_cam(n: usize, cam: &[u8], out: &mut [u8]) -> Answer
 pub fn decode_zero_a(n: usize, value: u64, out: &mut [u8]) -> Answer
     ensures { λ r. ⌜ DecodeZeroA n value (now (out .entry)) (now (out .exit)) (told r) ⌝ }
 {
-    if let Check::Refuse(k, p) = adjacency::zero_check(n, value) {
+    if let Check::Refuse(k, p) = adjacency::zero_check(VALENCE, n, value) {
         return Answer::Refused(k, p);
     }
-    let mut cam = [0u8; 20];
+    let mut cam = [0u8; adjacency::ENTRIES];
     adjacency::zero_cam(n, value, &mut cam);
     lay_cam(&cam[..n - 1], out)
 }
@@ -52,7 +54,7 @@ pub fn decode_zero_a(n: usize, value: u64, out: &mut [u8]) -> Answer
 pub fn decode_a_zero(n: usize, value: u64, out: &mut [u8]) -> Answer
     ensures { λ r. ⌜ DecodeAZero n value (now (out .entry)) (now (out .exit)) (told r) ⌝ }
 {
-    if let Check::Refuse(k, p) = adjacency::a_check(n, value) {
+    if let Check::Refuse(k, p) = adjacency::a_check(VALENCE, n, value) {
         return Answer::Refused(k, p);
     }
     let need = 2 * (n - 1);
@@ -68,7 +70,7 @@ fn check(most: usize, n: usize, edges: &[u8]) -> Check
     requires { ⌜ most ≤ size ⌝ }
     ensures { λ r. ⌜ Answers (physicalRows most n (now (edges .entry))) r ⌝ }
 {
-    if let Check::Refuse(k, p) = skeleton::check(most, n, edges, 1) {
+    if let Check::Refuse(k, p) = skeleton::check(most, VALENCE, n, edges, 1) {
         return Check::Refuse(k, p);
     }
     adjacency::physical(n, edges)
@@ -78,7 +80,7 @@ fn check(most: usize, n: usize, edges: &[u8]) -> Check
 pub fn cam(n: usize, edges: &[u8], out: &mut [u8]) -> Answer
     ensures { λ r. ⌜ Cam n (now (edges .entry)) (now (out .entry)) (now (out .exit)) (told r) ⌝ }
 {
-    if let Check::Refuse(k, p) = check(64, n, edges) {
+    if let Check::Refuse(k, p) = check(SIZE, n, edges) {
         return Answer::Refused(k, p);
     }
     let need = n - 1;
@@ -94,7 +96,7 @@ fn zero_of(n: usize, edges: &[u8]) -> u64
     requires { ⌜ IsSkeleton zeroSize valence n (now edges) × adjacency.Physical n (now edges) ⌝ }
     ensures { λ r. ⌜ r ≡ adjacency.zeroA (adjacency.cam n (now (edges .entry))) ⌝ }
 {
-    let mut cam = [0u8; 20];
+    let mut cam = [0u8; adjacency::ENTRIES];
     adjacency::write_cam(n, edges, &mut cam);
     adjacency::zero_a(&cam[..n - 1])
 }
@@ -103,7 +105,7 @@ fn zero_of(n: usize, edges: &[u8]) -> u64
 pub fn zero_a(n: usize, edges: &[u8]) -> Number
     ensures { λ r. ⌜ ZeroA n (now (edges .entry)) (numbered r) ⌝ }
 {
-    if let Check::Refuse(k, p) = check(21, n, edges) {
+    if let Check::Refuse(k, p) = check(limits::ZERO_A, n, edges) {
         return Number::Refused(k, p);
     }
     Number::Value(zero_of(n, edges))
@@ -113,7 +115,7 @@ pub fn zero_a(n: usize, edges: &[u8]) -> Number
 pub fn a_zero(n: usize, edges: &[u8]) -> Number
     ensures { λ r. ⌜ AZero n (now (edges .entry)) (numbered r) ⌝ }
 {
-    if let Check::Refuse(k, p) = skeleton::check(11, n, edges, 1) {
+    if let Check::Refuse(k, p) = skeleton::check(limits::A_ZERO, VALENCE, n, edges, 1) {
         return Number::Refused(k, p);
     }
     Number::Value(adjacency::a_zero(n, edges))
@@ -124,10 +126,10 @@ fn by_code(most: usize, n: usize, edges: &[u8], ends: &mut [u8]) -> Check
     requires { ⌜ (most ≤ size) × (length (now ends) ≡ 2 * (size - 1)) ⌝ }
     ensures { λ r. ⌜ ListingByCode most n (now (edges .entry)) (now (ends .exit)) r ⌝ }
 {
-    if let Check::Refuse(k, p) = skeleton::check(most, n, edges, 1) {
+    if let Check::Refuse(k, p) = skeleton::check(most, VALENCE, n, edges, 1) {
         return Check::Refuse(k, p);
     }
-    let mut code = [0u8; 64];
+    let mut code = [0u8; SIZE];
     coding::centred(n, edges, &mut code);
     code::write_edges(&code[..n], ends);
     Check::Passed
@@ -137,8 +139,8 @@ fn by_code(most: usize, n: usize, edges: &[u8], ends: &mut [u8]) -> Check
 pub fn cam_by_code(n: usize, edges: &[u8], out: &mut [u8]) -> Answer
     ensures { λ r. ⌜ CamByCode n (now (edges .entry)) (now (out .entry)) (now (out .exit)) (told r) ⌝ }
 {
-    let mut ends = [0u8; 126];
-    if let Check::Refuse(k, p) = by_code(64, n, edges, &mut ends) {
+    let mut ends = [0u8; limits::ENDS];
+    if let Check::Refuse(k, p) = by_code(SIZE, n, edges, &mut ends) {
         return Answer::Refused(k, p);
     }
     let need = n - 1;
@@ -154,8 +156,8 @@ pub fn cam_by_code(n: usize, edges: &[u8], out: &mut [u8]) -> Answer
 pub fn zero_a_by_code(n: usize, edges: &[u8]) -> Number
     ensures { λ r. ⌜ ZeroAByCode n (now (edges .entry)) (numbered r) ⌝ }
 {
-    let mut ends = [0u8; 126];
-    if let Check::Refuse(k, p) = by_code(21, n, edges, &mut ends) {
+    let mut ends = [0u8; limits::ENDS];
+    if let Check::Refuse(k, p) = by_code(limits::ZERO_A, n, edges, &mut ends) {
         return Number::Refused(k, p);
     }
     let m = 2 * (n - 1);
@@ -166,8 +168,8 @@ pub fn zero_a_by_code(n: usize, edges: &[u8]) -> Number
 pub fn a_zero_by_code(n: usize, edges: &[u8]) -> Number
     ensures { λ r. ⌜ AZeroByCode n (now (edges .entry)) (numbered r) ⌝ }
 {
-    let mut ends = [0u8; 126];
-    if let Check::Refuse(k, p) = by_code(11, n, edges, &mut ends) {
+    let mut ends = [0u8; limits::ENDS];
+    if let Check::Refuse(k, p) = by_code(limits::A_ZERO, n, edges, &mut ends) {
         return Number::Refused(k, p);
     }
     let m = 2 * (n - 1);

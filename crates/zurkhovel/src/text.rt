@@ -1,4 +1,6 @@
 // Lines: one, and a text of them.
+use limits::SIZE;
+use limits::VALENCE;
 use lines::Progress;
 use refusal::Answer;
 use refusal::Check;
@@ -9,21 +11,21 @@ ghost use Rattle.zurkhovel.specs.Lines.{ReadLine, WriteLine, ReadText, C
 pub fn read_line(text: &[u8], out: &mut [u8]) -> Answer
     ensures { λ r. ⌜ ReadLine (now (text .entry)) (now (out .entry)) (now (out .exit)) (told r) ⌝ }
 {
-    lines::read_line(text, out)
+    lines::read_line(VALENCE, text, out)
 }
 
 // The line of a skeleton's centred code.
 pub fn write_line(n: usize, edges: &[u8], out: &mut [u8]) -> Answer
     ensures { λ r. ⌜ WriteLine n (now (edges .entry)) (now (out .entry)) (now (out .exit)) (told r) ⌝ }
 {
-    if let Check::Refuse(k, p) = skeleton::check(64, n, edges, 1) {
+    if let Check::Refuse(k, p) = skeleton::check(SIZE, VALENCE, n, edges, 1) {
         return Answer::Refused(k, p);
     }
     let need = lines::extent(n);
     if out.len() < need {
         return Answer::Refused(15, need);
     }
-    let mut digits = [0u8; 64];
+    let mut digits = [0u8; SIZE];
     coding::centred(n, edges, &mut digits);
     Answer::Done(lines::write(&digits[..n], out))
 }
@@ -39,7 +41,7 @@ pub fn read_text(
     ensures { λ r. ⌜ ReadText (now (text .entry)) (now (records .entry)) (now (numbers .entry)) (now (places .entry))
         (now (records .exit)) (now (numbers .exit)) (now (places .exit)) (r .lines) (r .at) ⌝ }
 {
-    lines::read_text(text, records, numbers, places)
+    lines::read_text(VALENCE, text, records, numbers, places)
 }
 
 // How many lines were read as records, and how many were refused.

@@ -6,7 +6,7 @@ use borrow.Author.Needs.{needs}
 use lib.ListN.{length, take}
 use Rattle.laws.specs.Laying.{laid-front}
 use Rattle.refusal.specs.Table.{Answers}
-use Rattle.limits.specs.Limits.{size, valence}
+use Rattle.limits.specs.Limits.{size}
 use Rattle.form.specs.Form.{centred, formRows}
 use Rattle.lines.specs.Form.{values}
 use Rattle.lines.specs.Taking.{length-values}
@@ -25,7 +25,7 @@ slice-aggregate-check : tie.Need-slice-aggregate-check
 slice-aggregate-check c = sym (ap length (are-values c) ∙ length-values _)
 
 returns : tie.Need-returns
-returns c = subst (λ (d : List ℕ). Answers (formRows centred size valence d) (c .check .result)) (are-values (c .before)) (c .check .ensures)
+returns c = subst (λ (d : List ℕ). Answers (formRows centred size (c .before .before .before .before .before .before .args .limit) d) (c .check .result)) (are-values (c .before)) (c .check .ensures)
 
 pub judge-spec : {M : Type 1} → statement M
 judge-spec =

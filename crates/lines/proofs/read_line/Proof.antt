@@ -1,8 +1,10 @@
 -- `lines::read_line` meets its contract: each return is one law of reading. Assumes nothing.
+use mathlib.Core.List.{List}
 use native.Mathlib.Omega.{arith}
 use borrow.Author.Needs.{needs}
 use Rattle.refusal.specs.Laws.{was-clear, was-refused}
 use Rattle.limits.specs.Limits.{size}
+use Rattle.lines.specs.Line.{DigitRow}
 use Rattle.lines.specs.Form.{Stands}
 use Rattle.lines.specs.Judged.{digitTable}
 use Rattle.lines.specs.Taking.{stands-length, read-front, read-digits, read-short, read-line}
@@ -13,10 +15,13 @@ use Rattle.lines.proofs.read_line.Tie as tie
 at : (c : tie.After-start) → Stands size (c .before .before .before .before .before .args .text .now) (c .start .given .0 .0) (c .start .given .0 .1 .0)
 at c = located (c .before .before .locate .ensures) (c .start .given .1)
 
+abbrev table : tie.After-start → List DigitRow
+table c = digitTable (c .before .before .before .before .before .args .limit)
+
 judge-requires : tie.Need-judge-requires
 judge-requires c κs =
     let h = at (c .before .before) in
-    (h .figures, omega (arith, h .few, stands-length h))
+    (c .before .before .before .before .before .before .before .pre, (h .figures, omega (arith, h .few, stands-length h)))
 
 read-digits-requires : tie.Need-read-digits-requires
 read-digits-requires c κs =
@@ -38,16 +43,16 @@ read-line-spec =
     (λ c. search needs)
     (λ c. search needs)
     (λ c. let j = c .before .before .before in
-    read-short size digitTable (at (j .before .before .before)) _ (was-clear (j .judge .ensures) (c .before .enum-told .given .1)) (c .if1 .taken))
+    read-short size (table (j .before .before .before)) (at (j .before .before .before)) _ (was-clear (j .judge .ensures) (c .before .enum-told .given .1)) (c .if1 .taken))
     (λ c. at (c .before .before .before .before .before .before) .ordered)
     (λ c. at (c .before .before .before .before .before .before) .ordered)
     (λ c. at (c .before .before .before .before .before .before) .within)
     read-digits-requires
-    (λ c. read-front size digitTable (unlocated (c .before .before .before .locate .ensures) (c .before .k .given .1)))
+    (λ c. read-front size (digitTable (c .before .before .before .before .before .before .args .limit)) (unlocated (c .before .before .before .locate .ensures) (c .before .k .given .1)))
     (λ c. let j = c .before .before .before in
-    read-digits size digitTable (at (j .before .before .before)) _ (was-refused (j .judge .ensures) (c .before .k2 .given .1)))
+    read-digits size (table (j .before .before .before)) (at (j .before .before .before)) _ (was-refused (j .judge .ensures) (c .before .k2 .given .1)))
     (λ c. search needs)
     (λ c. let e = c .before .before .before .before .before in
     let j = e .before .before .before in
-    read-line size digitTable (at (j .before .before .before)) _ (was-clear (j .judge .ensures) (e .before .enum-told .given .1)) (e .if1 .left)
+    read-line size (table (j .before .before .before)) (at (j .before .before .before)) _ (was-clear (j .judge .ensures) (e .before .enum-told .given .1)) (e .if1 .left)
     (c .before .before .read-digits .ensures)))

@@ -7,20 +7,19 @@ use mir.Val.{Fits}
 use borrow.Author.Count.{falls}
 use borrow.Author.Needs.{needs}
 use Rattle.limits.specs.Limits.{size}
-use Rattle.lines.specs.Judged.{digitTable}
 use Rattle.lines.specs.Turns.{read-none}
 use Rattle.lines.proofs.Passing.{Going, lengths, room-now, fits, not-past, at-end, no-room, going-more}
 use Rattle.lines.proofs.read_text.Statement.{statement}
 use Rattle.lines.proofs.read_text.Tie as tie
 
 abbrev Inv-loop : tie.InvT-loop
-Inv-loop text records₀ numbers₀ places₀ lines k₀ at₀ records numbers places k at = Going text records₀ numbers₀ places₀ lines records numbers places k at
+Inv-loop limit text records₀ numbers₀ places₀ lines k₀ at₀ records numbers places k at = Going limit text records₀ numbers₀ places₀ lines records numbers places k at
 
 abbrev μ-loop : tie.MeasureT-loop
-μ-loop text records₀ numbers₀ places₀ lines k₀ at₀ records numbers places k at = lines - k
+μ-loop limit text records₀ numbers₀ places₀ lines k₀ at₀ records numbers places k at = lines - k
 
-word : (c : tie.In-loop Inv-loop μ-loop) → Fits w64 (64 * c .before .loop .k) × Fits w64 (64 * c .before .loop .k + 64) × Fits w64 (c .before .loop .k + 1)
-word c = fits (c .before .loop .inv) (c .loop-test .taken) (c .before .before .before .before .before .before .before .good .1 .0 .0)
+word : (c : tie.In-loop Inv-loop μ-loop) → Fits w64 (size * c .before .loop .k) × Fits w64 (size * c .before .loop .k + size) × Fits w64 (c .before .loop .k + 1)
+word c = fits (c .before .loop .inv) (c .loop-test .taken) (c .before .before .before .before .before .before .before .good .1 .1 .0 .0)
 
 note-requires : tie.Need-note-requires Inv-loop μ-loop
 note-requires c κs =
@@ -47,7 +46,7 @@ read-text-spec =
     Inv-loop
     μ-loop
     (λ c κs. search needs)
-    (λ c. record { read = read-none size digitTable; room = c .room .ensures; below = omega arith })
+    (λ c. record { read = read-none size _; room = c .room .ensures; below = omega arith })
     (λ c. lengths (c .before .before .loop .inv) .0)
     (λ c. lengths (c .before .before .loop .inv) .1)
     (λ c. lengths (c .before .before .loop .inv) .2)
@@ -58,8 +57,8 @@ read-text-spec =
     (λ c. word (c .before .before) .0)
     (λ c. word (c .before .before) .0)
     (λ c. word (c .before .before) .1)
-    (λ c. le-add-right (64 * c .before .before .before .loop .k) 64)
-    (λ c. le-add-right (64 * c .before .before .before .loop .k) 64)
+    (λ c. le-add-right (size * c .before .before .before .loop .k) size)
+    (λ c. le-add-right (size * c .before .before .before .loop .k) size)
     (λ c. room-now (c .before .before .before .loop .inv) (c .before .before .loop-test .taken) .0)
     (λ c κs. search needs)
     note-requires

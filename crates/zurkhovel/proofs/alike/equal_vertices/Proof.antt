@@ -11,8 +11,8 @@ use Rattle.skeleton.specs.Edges.{edgeRows}
 use Rattle.vertices.specs.Vertices.{ClassesOf}
 use Rattle.vertices.specs.Classes.{classes}
 use Rattle.vertices.specs.Theorems.{classes-numbered}
-use Rattle.zurkhovel.specs.Accepted.{skeleton-of}
-use Rattle.zurkhovel.proofs.Derived.{code-clear, of-short, of-given}
+use Rattle.zurkhovel.specs.Accepted.{skeleton-of, tabled}
+use Rattle.zurkhovel.proofs.Derived.{right-code, of-short, of-given}
 use Rattle.zurkhovel.proofs.alike.equal_vertices.Statement.{statement}
 use Rattle.zurkhovel.proofs.alike.equal_vertices.Tie as tie
 
@@ -33,12 +33,13 @@ equal-vertices-spec =
     (λ c. search needs)
     (λ c. let d = c .before in of-short (start d .args .n) (now (start d .args .edges)) (clear d) ClassesOf (start d .args .n) (λ x l e k. k .count ∙ e) (λ x. (classes x, classes-numbered x)) (c .if1 .taken) refl)
     (λ c. search needs)
-    (λ c κs. let d = c .before .before in (skeleton-of (clear d), omega (arith, at-most (clear d))))
+    (λ c κs. let d = c .before .before in (tabled (skeleton-of (clear d)), omega (arith, at-most (clear d))))
     (λ c. let d = c .before .before .before .before in omega (arith, at-most (clear d)))
     (λ c. let d = c .before .before .before .before .before in written-length (c .before .before .centred .ensures))
     (λ c κs. let d = c .before .before .before .before .before .before in
     let w = c .before .before .before .centred .ensures in
-    (code-clear (skeleton-of (clear d)) w, omega (arith, written-length w, c .before .before .before .before .before .if1 .left)))
+    let r = right-code (skeleton-of (clear d)) w in
+    (r .ends, (r .few, omega (arith, written-length w, c .before .before .before .before .before .if1 .left))))
     (λ c. search needs)
     (λ c. let d = c .before .before .before .before .before .before .before .before .before in
     of-given (start d .args .n) (now (start d .args .edges)) (clear d) ClassesOf (start d .args .n) (λ x l e k. k .count ∙ e) (c .before .before .before .before .before .before .before .before .if1 .left)

@@ -21,7 +21,7 @@ pack-spec =
     (λ c. search needs)
     (λ c κs. let e = c .before .before in
     let t = rw (e .enum-told .given .1) at (e .before .before .before .rooted .ensures) in
-    (digits-coded t, omega (arith, digits-length t, digits-within t (omega arith))))
+    (digits-coded t (omega arith), omega (arith, digits-length t, digits-within t (omega arith))))
     (λ c. written-room (c .before .pack .ensures))
     (λ c. written-length (c .before .before .pack .ensures))
     (λ c κs. search needs)

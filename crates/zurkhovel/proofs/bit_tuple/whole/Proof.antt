@@ -18,7 +18,7 @@ whole-spec =
     (λ c. search needs)
     (λ c. let t = rw (c .enum-told .given .1) at (c .before .before .before .rooted .ensures) in omega (arith, digits-within t (omega arith), t .long))
     (λ c. let e = c .before in sym (digits-length (rw (e .enum-told .given .1) at (e .before .before .before .rooted .ensures))))
-    (λ c κs. let e = c .before in digits-coded (rw (e .enum-told .given .1) at (e .before .before .before .rooted .ensures)))
+    (λ c κs. let e = c .before in digits-coded (rw (e .enum-told .given .1) at (e .before .before .before .rooted .ensures)) (omega arith))
     (λ c. left (rw (c .before .k .given .1) at (c .before .before .before .before .rooted .ensures)) refl)
     (λ c. let e = c .before .before in
     value-given Numbers (rw (e .enum-told .given .1) at (e .before .before .before .rooted .ensures)) (c .number-of .ensures)))

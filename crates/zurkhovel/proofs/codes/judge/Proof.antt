@@ -3,7 +3,7 @@ use mathlib.Core.Path.{sym, _∙_}
 use borrow.Author.Needs.{needs}
 use Rattle.code.specs.Compare.{told-equal, told-less, told-greater}
 use Rattle.refusal.specs.Giving.{written-room, written-length}
-use Rattle.zurkhovel.specs.Accepted.{skeleton-of}
+use Rattle.zurkhovel.specs.Accepted.{skeleton-of, tabled}
 use Rattle.zurkhovel.proofs.Verdicts.{verdict-sizes, verdict-same, verdict-different}
 use Rattle.zurkhovel.proofs.codes.judge.Statement.{statement}
 use Rattle.zurkhovel.proofs.codes.judge.Tie as tie
@@ -14,9 +14,9 @@ judge-spec =
     (tie.spec
     (λ c. let s = c .before .before .before in verdict-sizes (s .pre .0) (s .pre .1) (c .if1 .taken))
     (λ c. search needs)
-    (λ c κs. let t = skeleton-of (c .before .before .before .before .pre .0) in (t, t .few))
+    (λ c κs. let t = skeleton-of (c .before .before .before .before .pre .0) in (tabled t, t .few))
     (λ c. search needs)
-    (λ c κs. let t = skeleton-of (c .before .before .before .before .before .before .before .pre .1) in (t, t .few))
+    (λ c κs. let t = skeleton-of (c .before .before .before .before .before .before .before .pre .1) in (tabled t, t .few))
     (λ c. written-room (c .before .before .before .before .centred .ensures))
     (λ c. written-length (c .before .before .before .before .before .centred .ensures))
     (λ c. written-room (c .before .before .centred2 .ensures))

@@ -3,6 +3,8 @@ use mathlib.Core.Path.{refl}
 use denote.Ref.{now}
 use borrow.Author.Needs.{needs}
 use Rattle.refusal.specs.Laws.{at-least}
+use Rattle.limits.specs.Limits.{size, valence}
+use Rattle.code.specs.Right.{clear-right}
 use Rattle.zurkhovel.proofs.Decoded.{edges-short, edges-room, edges-given}
 use Rattle.zurkhovel.proofs.codes.lay_edges.Statement.{statement}
 use Rattle.zurkhovel.proofs.codes.lay_edges.Tie as tie
@@ -14,6 +16,8 @@ lay-edges-spec =
     (λ c. at-least (c .before .before .pre))
     (λ c. search needs)
     (λ c. let s = c .before .before .before in edges-short (now (s .args .code)) (s .pre) (c .if1 .taken) refl)
-    (λ c κs. let s = c .before .before .before .before in (s .pre, edges-room (now (s .args .code)) (s .pre) (c .before .if1 .left)))
+    (λ c κs. let s = c .before .before .before .before in
+    let r = clear-right size valence (now (s .args .code)) (s .pre) in
+    (r .ends, (r .few, edges-room (now (s .args .code)) (s .pre) (c .before .if1 .left))))
     (λ c. search needs)
     (λ c. let s = c .before .before .before .before .before .before .before in edges-given (now (s .args .code)) (s .pre) (c .before .before .before .before .if1 .left) (c .before .before .write-edges .ensures)))

@@ -9,7 +9,7 @@ use Rattle.limits.specs.Limits.{size, valence}
 use Rattle.skeleton.specs.Edges.{edgeRows}
 use Rattle.form.specs.Form.{nTuple}
 use Rattle.form.specs.Forms.{n-tuple-form}
-use Rattle.zurkhovel.specs.Accepted.{skeleton-of}
+use Rattle.zurkhovel.specs.Accepted.{skeleton-of, tabled}
 use Rattle.zurkhovel.proofs.Coded.{form-short, form-given}
 use Rattle.zurkhovel.proofs.codes.n_tuple_code.Statement.{statement}
 use Rattle.zurkhovel.proofs.codes.n_tuple_code.Tie as tie
@@ -30,6 +30,6 @@ n-tuple-code-spec =
     (λ c. refused-first (was-refused (c .before .before .before .check .ensures) (c .before .k .given .1)) refl)
     (λ c. search needs)
     (λ c. let d = c .before in form-short (start d .args .n) (now (start d .args .edges)) 1 (clear d) nTuple n-tuple-form (c .if1 .taken) refl)
-    (λ c κs. let d = c .before .before in (skeleton-of (clear d), c .before .if1 .left))
+    (λ c κs. let d = c .before .before in (tabled (skeleton-of (clear d)), c .before .if1 .left))
     (λ c. search needs)
     (λ c. let d = c .before .before .before .before .before in form-given (start d .args .n) (now (start d .args .edges)) 1 (clear d) nTuple n-tuple-form (c .before .before .before .before .if1 .left) (c .before .before .n-tuple .ensures)))

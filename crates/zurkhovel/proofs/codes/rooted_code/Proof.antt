@@ -7,7 +7,7 @@ use Rattle.refusal.specs.Laws.{was-clear, was-refused}
 use Rattle.refusal.specs.Giving.{refused-first}
 use Rattle.limits.specs.Limits.{size, valence}
 use Rattle.skeleton.specs.Edges.{edgeRows}
-use Rattle.zurkhovel.specs.Accepted.{skeleton-of, root-of}
+use Rattle.zurkhovel.specs.Accepted.{skeleton-of, tabled, root-of}
 use Rattle.zurkhovel.proofs.Coded.{rooted-short, rooted-given}
 use Rattle.zurkhovel.proofs.codes.rooted_code.Statement.{statement}
 use Rattle.zurkhovel.proofs.codes.rooted_code.Tie as tie
@@ -28,6 +28,6 @@ rooted-code-spec =
     (λ c. refused-first (was-refused (c .before .before .before .check .ensures) (c .before .k .given .1)) refl)
     (λ c. search needs)
     (λ c. let d = c .before in rooted-short (start d .args .n) (now (start d .args .edges)) (start d .args .root) (clear d) (c .if1 .taken) refl)
-    (λ c κs. let d = c .before .before in (skeleton-of (clear d), (root-of (now (start d .args .edges)) (clear d) .0, root-of (now (start d .args .edges)) (clear d) .1, c .before .if1 .left)))
+    (λ c κs. let d = c .before .before in (tabled (skeleton-of (clear d)), (root-of (now (start d .args .edges)) (clear d) .0, root-of (now (start d .args .edges)) (clear d) .1, c .before .if1 .left)))
     (λ c. search needs)
     (λ c. let d = c .before .before .before .before .before in rooted-given (start d .args .n) (now (start d .args .edges)) (start d .args .root) (clear d) (c .before .before .before .before .if1 .left) (c .before .before .rooted .ensures)))

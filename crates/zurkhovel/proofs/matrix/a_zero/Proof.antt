@@ -6,7 +6,7 @@ use Rattle.refusal.specs.Table.{Clear, kept, left}
 use Rattle.refusal.specs.Laws.{was-clear, was-refused}
 use Rattle.limits.specs.Limits.{valence, aSize}
 use Rattle.skeleton.specs.Edges.{edgeRows}
-use Rattle.zurkhovel.specs.Accepted.{skeleton-of}
+use Rattle.zurkhovel.specs.Accepted.{skeleton-of, tabled}
 use Rattle.zurkhovel.proofs.matrix.a_zero.Statement.{statement}
 use Rattle.zurkhovel.proofs.matrix.a_zero.Tie as tie
 
@@ -25,5 +25,5 @@ a-zero-spec =
     (λ c. search needs)
     (λ c. left (was-refused (c .before .before .before .check .ensures) (c .before .k .given .1)) refl)
     (λ c. search needs)
-    (λ c κs. skeleton-of (clear c))
+    (λ c κs. tabled (skeleton-of (clear c)))
     (λ c. kept (clear (c .before)) (c .a-zero .ensures)))

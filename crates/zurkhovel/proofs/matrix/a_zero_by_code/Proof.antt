@@ -6,6 +6,7 @@ use borrow.Author.Needs.{needs}
 use Rattle.refusal.specs.Table.{kept, left}
 use Rattle.refusal.specs.Laws.{at-least, at-most}
 use Rattle.limits.specs.Limits.{aSize}
+use Rattle.zurkhovel.specs.Accepted.{tabled}
 use Rattle.zurkhovel.specs.Rooting.{ListedByCode}
 use Rattle.zurkhovel.proofs.Numbered.{ends-within, ends-length, ends-skeleton, made-by-code}
 use Rattle.zurkhovel.proofs.matrix.a_zero_by_code.Statement.{statement}
@@ -27,5 +28,5 @@ a-zero-by-code-spec =
     (λ c. omega (arith, at-most (known c .clear)))
     (λ c. ends-within (known c) (omega arith))
     (λ c. sym (ends-length (known (c .before)) (omega arith)))
-    (λ c κs. let t = known (c .before) in ends-skeleton t)
+    (λ c κs. let t = known (c .before) in tabled (ends-skeleton t))
     (λ c. let t = known (c .before .before) in kept (t .clear) (made-by-code t _ (c .a-zero .ensures))))

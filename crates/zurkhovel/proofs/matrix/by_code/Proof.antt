@@ -8,8 +8,8 @@ use Rattle.refusal.specs.Giving.{written-room, written-length}
 use Rattle.limits.specs.Limits.{size, valence}
 use Rattle.tree.specs.Skeleton.{IsSkeleton}
 use Rattle.skeleton.specs.Edges.{edgeRows}
-use Rattle.zurkhovel.specs.Accepted.{skeleton-of, wider}
-use Rattle.zurkhovel.proofs.Derived.{code-clear}
+use Rattle.zurkhovel.specs.Accepted.{skeleton-of, wider, tabled}
+use Rattle.zurkhovel.proofs.Derived.{right-code}
 use Rattle.zurkhovel.proofs.Numbered.{code-bytes, code-written}
 use Rattle.zurkhovel.proofs.matrix.by_code.Statement.{statement}
 use Rattle.zurkhovel.proofs.matrix.by_code.Tie as tie
@@ -33,9 +33,9 @@ by-code-spec =
     (λ c. was-refused (c .before .before .before .check .ensures) (c .before .k .given .1))
     (λ c. search needs)
     (λ c. search needs)
-    (λ c κs. let s = found (c .before) in (s, s .few))
+    (λ c κs. let s = found (c .before) in (tabled s, s .few))
     (λ c. written-room (c .before .centred .ensures))
     (λ c. written-length (c .before .before .centred .ensures))
-    (λ c κs. let d = c .before .before .before .before .before in let w = c .before .before .before .centred .ensures in (code-clear (found d) w, omega (arith, start d .pre .1, code-bytes (found d) w, found d .few)))
+    (λ c κs. let d = c .before .before .before .before .before in let w = c .before .before .before .centred .ensures in (let r = right-code (found d) w in (r .ends, (r .few, omega (arith, start d .pre .1, code-bytes (found d) w, found d .few)))))
     (λ c. search needs)
     (λ c. let d = c .before .before .before .before .before .before .before .before in code-written (found d) (c .before .before .before .before .before .before .centred .ensures) (clear d) (c .before .before .write-edges .ensures) (search needs)))

@@ -27,10 +27,10 @@ abbrev told : tie.After-zero-cam → tie.After-enum-told
 told c = c .before .before
 
 -- the array holds the CAM
-wide : (c : tie.After-zero-cam) → length (c .zero-cam .last .1 .1 .0) ≡ 20
+wide : (c : tie.After-zero-cam) → length (c .zero-cam .last .1 .1 .0) ≡ zeroSize - 1
 wide c =
     let a = start (told c) .args in
-    ap length (c .zero-cam .ensures) ∙ laid-length (zeroCam (a .n) (a .value)) (replicate {A = ℕ} 20 0) (omega (arith, zero-length (a .n) (a .value), at-most (clear (told c))))
+    ap length (c .zero-cam .ensures) ∙ laid-length (zeroCam (a .n) (a .value)) (replicate {A = ℕ} (zeroSize - 1) 0) (omega (arith, zero-length (a .n) (a .value), at-most (clear (told c))))
 
 held : (c : tie.After-zero-cam) → take (start (told c) .args .n - 1) (c .zero-cam .last .1 .1 .0) ≡ zeroCam (start (told c) .args .n) (start (told c) .args .value)
 held c = let a = start (told c) .args in laid-front (zeroCam (a .n) (a .value)) _ _ (a .n - 1) (c .zero-cam .ensures) (zero-length (a .n) (a .value))

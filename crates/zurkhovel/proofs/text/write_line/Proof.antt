@@ -9,7 +9,7 @@ use Rattle.refusal.specs.Giving.{refused-first, written-length}
 use Rattle.limits.specs.Limits.{size, valence}
 use Rattle.skeleton.specs.Edges.{edgeRows}
 use Rattle.lines.specs.Line.{line}
-use Rattle.zurkhovel.specs.Accepted.{skeleton-of}
+use Rattle.zurkhovel.specs.Accepted.{skeleton-of, tabled}
 use Rattle.zurkhovel.proofs.Derived.{code-digits, derived-size, derived-short, derived-given}
 use Rattle.zurkhovel.proofs.text.write_line.Statement.{statement}
 use Rattle.zurkhovel.proofs.text.write_line.Tie as tie
@@ -32,7 +32,7 @@ write-line-spec =
     (λ c κs. omega (arith, at-most (clear c)))
     (λ c. let d = c .before .before in derived-short (start d .args .n) (now (start d .args .edges)) (clear d) line (c .before .extent .result) (c .before .extent .ensures) (c .if1 .taken) refl)
     (λ c. search needs)
-    (λ c κs. let d = c .before .before .before in (skeleton-of (clear d), omega (arith, at-most (clear d))))
+    (λ c κs. let d = c .before .before .before in (tabled (skeleton-of (clear d)), omega (arith, at-most (clear d))))
     (λ c. let d = c .before .before .before .before .before in omega (arith, at-most (clear d)))
     (λ c. let d = c .before .before .before .before .before .before in written-length (c .before .before .centred .ensures))
     (λ c κs. let e = c .before .before .before .before .before .before in
