@@ -53,7 +53,7 @@ answer-digits {R} t h = alike-answers (carried-alike R (t .carries) (t .ends)) h
 -- and where only the order of siblings is still to be judged, what is refused of that
 pub answer-ordered
     : {R n : ℕ} {May : List Bool → Type 0} {bs : List Bool} {out : List ℕ} {a : Check} → Accepted R May bs out n
-    → Answers (code.row13 (take n out) ∷ []) a → Answers (bitRows R May bs) a
+    → Answers (code.row13 code.plain (take n out) ∷ []) a → Answers (bitRows R May bs) a
 answer-ordered {n = n} {out = out} t h =
     let k = t .carries in
     goes-on (passes (t .clear)) refl (rw (k .same) (alike-answers (siblings-alike (take n out) (k .fill) (t .ends)) h))

@@ -10,7 +10,7 @@ use mathlib.Core.List.{List, [], _∷_, _++_}
 use Prim.Native.Nat.{ℕ, zero, suc, _-_, _*_, _/_, _%_, _^_, _≤_, _<_}
 use lib.ListN.{length, take, drop, replicate}
 use Rattle.refusal.specs.Table.{Row, Clear, row3}
-use Rattle.code.specs.Code.{EndsAt, Larger, digit, cap, row12, digitRows}
+use Rattle.code.specs.Code.{EndsAt, plain, Larger, digit, cap, row12, digitRows}
 
 -- "Digit k becomes k ones and a zero"
 unfoldable pub bits : List ℕ → List Bool
@@ -94,7 +94,7 @@ row11 May bs = record { number = 11; applies = λ p. EndsAt (whole bs) (p - 1) �
 
 -- 13: in the digits up to the code's end, a child's code is larger than that of the sibling before it
 abbrev pub row13 : List Bool → Row
-row13 bs = record { number = 13; applies = λ p. (e : ℕ) × EndsAt (whole bs) e × Larger (take e (whole bs)) p }
+row13 bs = record { number = 13; applies = λ p. (e : ℕ) × EndsAt (whole bs) e × Larger plain (take e (whole bs)) p }
 
 -- what is refused of bits before the order of siblings is looked at; 12 is the digit codes' own, of the whole digits
 abbrev pub endRows : ℕ → (List Bool → Type 0) → List Bool → List Row

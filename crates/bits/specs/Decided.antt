@@ -12,7 +12,7 @@ use Rattle.refusal.specs.Laws.{clear-both, size-clear, refusal-front, refusal-b
 use Rattle.refusal.specs.declared.Answer.{Answer}
 use Rattle.refusal.specs.declared.Answer.the-variants.{Done, Refused}
 use Rattle.limits.specs.Limits.{size}
-use Rattle.code.specs.Code.{codeRows, row13}
+use Rattle.code.specs.Code.{plain, codeRows, row13}
 use Rattle.code.specs.Ends.{Ends, ends-iff}
 use Rattle.bits.specs.Bits.{bitRows, Reads}
 use Rattle.bits.specs.Bits as bits
@@ -44,8 +44,8 @@ Ended out (Refused k p) = Unit {0}
 
 -- what the order of siblings in the code c of n digits answers
 pub data Falling (c : List ℕ) (n : ℕ) : Answer → Type 0 where
-  falling : Clear (row13 c ∷ []) → Falling c n (Done n)
-  larger : {k p : ℕ} → FirstRefusal (row13 c ∷ []) k p → Falling c n (Refused k p)
+  falling : Clear (row13 plain c ∷ []) → Falling c n (Done n)
+  larger : {k p : ℕ} → FirstRefusal (row13 plain c ∷ []) k p → Falling c n (Refused k p)
 
 -- and what it makes of the answer before it: a refusal stays
 abbrev pub Ordered : List ℕ → Answer → Answer → Type 0

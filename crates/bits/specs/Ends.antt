@@ -11,7 +11,7 @@ use lib.ListN.{length, take, drop, length-append, take-append-drop}
 use lib.Seq.{take-append-le, length-take-le}
 use Rattle.refusal.specs.Table.{Clear}
 use Rattle.refusal.specs.Laws.{clear-left, others}
-use Rattle.code.specs.Code.{sum, EndsAt, row11, row12, row13, digitRows}
+use Rattle.code.specs.Code.{plain, sum, EndsAt, row11, row12, row13, digitRows}
 use Rattle.code.specs.Counting.{clear-ends}
 
 -- the first n digits end no code: their sum is never less than the position
@@ -62,4 +62,4 @@ open-none {c} {n} o e h = go (decLt n e)
 
 -- a right digit code ends with its last digit
 pub right-ends : {R : ℕ} (c : List ℕ) → Clear (digitRows R c) → EndsAt c (length c)
-right-ends c r = clear-ends (clear-left (row11 c ∷ row12 c ∷ []) (row13 c ∷ []) (others r))
+right-ends c r = clear-ends (clear-left (row11 c ∷ row12 c ∷ []) (row13 plain c ∷ []) (others r))

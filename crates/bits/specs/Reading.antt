@@ -12,7 +12,7 @@ use native.Mathlib.Omega.{arith}
 use lib.ListN.{length, take, length-append, List·getD-append}
 use Rattle.refusal.specs.Table.{Clear, FirstRefusal}
 use Rattle.refusal.specs.Laws.{clear-one, first-place, refusal-front, refusal-back, Alike, alike-clear}
-use Rattle.code.specs.Code.{EndsAt, Larger, digit, row12, digitRows}
+use Rattle.code.specs.Code.{EndsAt, plain, Larger, digit, row12, digitRows}
 use Rattle.code.specs.Code as code
 use Rattle.code.specs.Counting.{one-end, some-end}
 use Rattle.bits.specs.Bits.{bits, whole, runs, after, row10, row11, row13, endRows, bitRows, Carries, Reads}
@@ -39,12 +39,12 @@ module _ (c : List ℕ) (fs : List Bool) (h : EndsAt c (length c)) where
       let n : p ≤ length (runs (bits c ++ fs)) = simp length-append (rw read-bits (simp length-append (omega (arith, a .1)))) in
       (a .0, n, (λ e w. rw (end-is e w) (a .1)), rw (digit-is p (a .0) (a .1)) (a .2))
 
-  pub thirteen-digits : (p : ℕ) → row13 (bits c ++ fs) .applies p → Larger c p
+  pub thirteen-digits : (p : ℕ) → row13 (bits c ++ fs) .applies p → Larger plain c p
   thirteen-digits p a =
       let z : take (a .0) (whole (bits c ++ fs)) ≡ c = rw (end-is (a .0) (a .1)) (code-read c fs) in
       rw z at (a .2)
 
-  pub thirteen-bits : (p : ℕ) → Larger c p → row13 (bits c ++ fs) .applies p
+  pub thirteen-bits : (p : ℕ) → Larger plain c p → row13 (bits c ++ fs) .applies p
   thirteen-bits p a = (length c, code-ends fs h, rw code-read a)
 
   never-eleven : (p : ℕ) → code.row11 c .applies p → ⊥
@@ -83,7 +83,7 @@ module _ (c : List ℕ) (fs : List Bool) (h : EndsAt c (length c)) where
       }
 
   -- 13 of the bits is 13 of the digits
-  pub siblings-alike : Alike (code.row13 c ∷ []) (row13 (bits c ++ fs) ∷ [])
+  pub siblings-alike : Alike (code.row13 plain c ∷ []) (row13 (bits c ++ fs) ∷ [])
   siblings-alike = record { rows = (refl, (λ p. (thirteen-bits p, thirteen-digits p)), tt) }
 
 -- where more follows the end than may, and no digit is above its cap, 11 is given at the next digit's number

@@ -1,4 +1,4 @@
--- The steps of the functions that look for row 13: passing the children of a digit by the ends that are known, comparing one with the
+-- The steps of the functions that look for row 13: passing the children of a mark by the ends that are known, comparing one with the
 -- next, and keeping the lowest place. Assumes nothing.
 use mathlib.Core.Path.{_≡_, _∙_, subst}
 use mathlib.Core.List.{List}
@@ -12,40 +12,41 @@ use lib.Seq.{getD-set-same, getD-set-other}
 use Rattle.laws.specs.Order.{_≽_}
 use Rattle.laws.specs.Part.{part}
 use Rattle.limits.specs.Limits.{size}
+use Rattle.code.specs.Code.{digits}
 use Rattle.code.specs.Ends.{Ends}
 use Rattle.code.specs.Parts.{Ending, Passing, enough, pass-none, pass-one, more-left, end-here}
 use Rattle.code.specs.Siblings.{Fall, none-larger, falls-on, larger-here, no-earlier}
 use Rattle.code.specs.Search.{Known, FirstOf}
 
--- the first child begins behind the digit
-pub begin : {c : List ℕ} {i : ℕ} → i < length c → Passing c i 0 (i + 1)
-begin {c} {i} h = rw add-one (pass-none c i h)
+-- the first child begins behind the mark
+pub begin : {arity : ℕ → ℕ} {c : List ℕ} {i : ℕ} → i < length c → Passing arity c i 0 (i + 1)
+begin {arity} {c} {i} h = rw add-one (pass-none c i h)
 
-module _ {c ends : List ℕ} {i j m e : ℕ} (known : Known c ends j) (later : j ≤ suc i) (inside : i < length c) (p : Passing c i m e) (h : m < getD c i 0) where
-  -- a child is left, so a digit is
+module _ {arity : ℕ → ℕ} {c ends : List ℕ} {i j m e : ℕ} (known : Known arity c ends j) (later : j ≤ suc i) (inside : i < length c) (p : Passing arity c i m e) (h : m < arity (getD c i 0)) where
+  -- a child is left, so a mark is
   pub within : e < length c
-  within = more-left c i p (omega (arith, enough c (known .whole) i inside))
+  within = more-left c i p (omega (arith, enough arity c (known .whole) i inside))
 
   -- the part that begins there
-  pub child : Ending c e (getD ends e 0)
+  pub child : Ending arity c e (getD ends e 0)
   child = known .ending e (omega (arith, p .behind)) within
 
-  pub pass : Passing c i (m + 1) (getD ends e 0)
+  pub pass : Passing arity c i (m + 1) (getD ends e 0)
   pass = rw add-one (pass-one c i p child)
 
 -- all children are passed
-pub last : {c : List ℕ} {i m e : ℕ} → i < length c → Passing c i m e → m ≤ getD c i 0 → getD c i 0 ≤ m → Ending c i e
-last {c} {i} {m} {e} h p a b = end-here c i h (subst (λ (n : ℕ). Passing c i n e) (le-antisymm a b) p)
+pub last : {arity : ℕ → ℕ} {c : List ℕ} {i m e : ℕ} → i < length c → Passing arity c i m e → m ≤ arity (getD c i 0) → arity (getD c i 0) ≤ m → Ending arity c i e
+last {arity} {c} {i} {m} {e} h p a b = end-here c i h (subst (λ (n : ℕ). Passing arity c i n e) (le-antisymm a b) p)
 
--- one more end is known, from the last digit down
-module _ {c ends : List ℕ} {i : ℕ} (some : 0 < i) (inside : i ≤ length c) (k : Known c ends i) where
+-- one more end is known, from the last mark down
+module _ {arity : ℕ → ℕ} {c ends : List ℕ} {i : ℕ} (some : 0 < i) (inside : i ≤ length c) (k : Known arity c ends i) where
   above : suc (i - 1) ≡ i
   above = omega arith
 
-  pub down : Known c ends (suc (i - 1))
+  pub down : Known arity c ends (suc (i - 1))
   down = rw above k
 
-  pub learn : {e : ℕ} → Ending c (i - 1) e → Known c (set ends (i - 1) e) (i - 1)
+  pub learn : {e : ℕ} → Ending arity c (i - 1) e → Known arity c (set ends (i - 1) e) (i - 1)
   learn {e} g =
       record {
         whole = k .whole;
@@ -54,23 +55,23 @@ module _ {c ends : List ℕ} {i : ℕ} (some : 0 < i) (inside : i ≤ length c) 
         ending = λ j l n. at j l n (ℕ-discrete j (i - 1));
       }
     where
-      at : (j : ℕ) → i - 1 ≤ j → j < length c → Dec (j ≡ i - 1) → Ending c j (getD (set ends (i - 1) e) j 0)
+      at : (j : ℕ) → i - 1 ≤ j → j < length c → Dec (j ≡ i - 1) → Ending arity c j (getD (set ends (i - 1) e) j 0)
       at j l n (yes q) = rw (q, getD-set-same ends (i - 1) e 0 (omega (arith, k .long, k .few))) g
       at j l n (no q) = rw (getD-set-other ends (i - 1) j e 0 q) (k .ending j (omega arith) n)
 
--- nothing is known behind the last digit, and nothing need be
-pub start : {c ends : List ℕ} → Ends 1 c → length c ≤ size → length ends ≡ size → Known c ends (length c)
+-- nothing is known behind the last mark, and nothing need be
+pub start : {arity : ℕ → ℕ} {c ends : List ℕ} → Ends 1 (digits arity c) → length c ≤ size → length ends ≡ size → Known arity c ends (length c)
 start w f l = record { whole = w; few = f; long = l; ending = λ j h k. absurd (let z : ⊥ = omega arith in z) }
 
 -- all ends are known
-pub settled : {c ends : List ℕ} {i : ℕ} → Known c ends i → i ≤ 0 → Known c ends 0
-settled {c} {ends} {i} k h = let z : i ≡ 0 = omega arith in rw z at k
+pub settled : {arity : ℕ → ℕ} {c ends : List ℕ} {i : ℕ} → Known arity c ends i → i ≤ 0 → Known arity c ends 0
+settled {arity} {c} {ends} {i} k h = let z : i ≡ 0 = omega arith in rw z at k
 
--- m children of digit i stand one behind the other, none larger than the one before it, and the last of them begins at a
-pub record Line (c : List ℕ) (i m a : ℕ) : Type 0 where
+-- m children of mark i stand one behind the other, none larger than the one before it, and the last of them begins at a
+pub record Line (arity : ℕ → ℕ) (c : List ℕ) (i m a : ℕ) : Type 0 where
   pub some : 1 ≤ m
-  pub last-one : Passing c i (m - 1) a
-  pub falls : Fall c i m
+  pub last-one : Passing arity c i (m - 1) a
+  pub falls : Fall arity c i m
 
 -- the part that begins at a and the one behind it lie within the code, and their ends are known
 pub record Turn (c ends : List ℕ) (a : ℕ) : Type 0 where
@@ -80,27 +81,27 @@ pub record Turn (c ends : List ℕ) (a : ℕ) : Type 0 where
   pub meets : getD ends a 0 ≤ getD ends (getD ends a 0) 0
   pub within : getD ends (getD ends a 0) 0 ≤ length c
 
-pub line-first : {c : List ℕ} {i : ℕ} → i < length c → Line c i 1 (i + 1)
+pub line-first : {arity : ℕ → ℕ} {c : List ℕ} {i : ℕ} → i < length c → Line arity c i 1 (i + 1)
 line-first h = record { some = omega arith; last-one = begin h; falls = λ j l. absurd (let z : ⊥ = omega arith in z) }
 
-module _ {c ends : List ℕ} {i m a : ℕ} (known : Known c ends 0) (inside : i < length c) (l : Line c i m a) where
+module _ {arity : ℕ → ℕ} {c ends : List ℕ} {i m a : ℕ} (known : Known arity c ends 0) (inside : i < length c) (l : Line arity c i m a) where
   -- behind the last child none is larger
-  pub line-last : getD c i 0 ≤ m → FirstOf c (suc i) 0
+  pub line-last : arity (getD c i 0) ≤ m → FirstOf arity c (suc i) 0
   line-last h =
-      let n = none-larger c (known .whole) i inside (λ j s. l .falls j (omega arith)) in
+      let n = none-larger arity c (known .whole) i inside (λ j s. l .falls j (omega arith)) in
       record { none = λ e. n; some = λ s. absurd (let z : ⊥ = omega arith in z); first = λ p g. absurd (n p g) }
 
-  module _ (h : m < getD c i 0) where
-    one : Ending c a (getD ends a 0)
+  module _ (h : m < arity (getD c i 0)) where
+    one : Ending arity c a (getD ends a 0)
     one = child known (omega arith) inside (l .last-one) (omega arith)
 
     one-within : a < length c
     one-within = within known (omega arith) inside (l .last-one) (omega arith)
 
-    passed : Passing c i m (getD ends a 0)
-    passed = subst (λ (n : ℕ). Passing c i n (getD ends a 0)) (omega (arith, l .some)) (pass known (omega arith) inside (l .last-one) (omega arith))
+    passed : Passing arity c i m (getD ends a 0)
+    passed = subst (λ (n : ℕ). Passing arity c i n (getD ends a 0)) (omega (arith, l .some)) (pass known (omega arith) inside (l .last-one) (omega arith))
 
-    two : Ending c (getD ends a 0) (getD ends (getD ends a 0) 0)
+    two : Ending arity c (getD ends a 0) (getD ends (getD ends a 0) 0)
     two = child known (omega arith) inside passed h
 
     two-within : getD ends a 0 < length c
@@ -120,22 +121,22 @@ module _ {c ends : List ℕ} {i m a : ℕ} (known : Known c ends 0) (inside : i 
     counted = omega (arith, l .some)
 
     pub line-next :
-        part a (getD ends a 0) c ≽ part (getD ends a 0) (getD ends (getD ends a 0) 0) c → Line c i (m + 1) (getD ends a 0)
+        part a (getD ends a 0) c ≽ part (getD ends a 0) (getD ends (getD ends a 0) 0) c → Line arity c i (m + 1) (getD ends a 0)
     line-next g =
-        let f = falls-on c (known .whole) i inside (rw counted (l .falls)) (rw counted h) (l .last-one) one two g in
+        let f = falls-on arity c (known .whole) i inside (rw counted (l .falls)) (rw counted h) (l .last-one) one two g in
         record {
           some = omega arith;
-          last-one = subst (λ (n : ℕ). Passing c i n (getD ends a 0)) (omega arith) passed;
+          last-one = subst (λ (n : ℕ). Passing arity c i n (getD ends a 0)) (omega arith) passed;
           falls = λ j s. f j (omega (arith, l .some));
         }
 
     pub line-stops :
-        (part a (getD ends a 0) c ≽ part (getD ends a 0) (getD ends (getD ends a 0) 0) c → ⊥) → FirstOf c (suc i) (getD ends a 0 + 1)
+        (part a (getD ends a 0) c ≽ part (getD ends a 0) (getD ends (getD ends a 0) 0) c → ⊥) → FirstOf arity c (suc i) (getD ends a 0 + 1)
     line-stops n =
-        let f : Fall c i (suc (m - 1)) = rw counted (l .falls) in
-        let s : suc (m - 1) < getD c i 0 = rw counted h in
+        let f : Fall arity c i (suc (m - 1)) = rw counted (l .falls) in
+        let s : suc (m - 1) < arity (getD c i 0) = rw counted h in
         record {
           none = λ e. absurd (let z : ⊥ = omega arith in z);
-          some = λ p. larger-here c (known .whole) i inside f s (l .last-one) one two n;
-          first = no-earlier c (known .whole) i inside f s (l .last-one) one two;
+          some = λ p. larger-here arity c (known .whole) i inside f s (l .last-one) one two n;
+          first = no-earlier arity c (known .whole) i inside f s (l .last-one) one two;
         }

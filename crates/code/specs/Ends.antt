@@ -1,13 +1,13 @@
 -- Where a code ends, by open places: the form that recursion on the digits wants, and that it is document 01's. Then the laws of
 -- digits that end: their sum, and that none is a proper prefix of another. Assumes nothing.
-use mathlib.Core.Path.{_≡_, refl}
+use mathlib.Core.Path.{_≡_, refl, sym, subst}
 use mathlib.Core.Logic.{_↔_}
-use mathlib.Core.List.{List, [], _∷_, _++_}
+use mathlib.Core.List.{List, [], _∷_, _++_, map-id}
 use Prim.Native.Nat.{ℕ, zero, suc, _+_, _≤_, _<_}
 use native.Mathlib.Omega.{arith}
 use lib.ListN.{length, take}
 use lib.Seq.{take-length}
-use Rattle.code.specs.Code.{sum, EndsAt}
+use Rattle.code.specs.Code.{plain, digits, sum, EndsAt}
 
 -- w places are open: digit k fills one and opens k more, and the last digit fills the last
 abbrev pub Ends : ℕ → List ℕ → Type 0
@@ -15,6 +15,13 @@ Ends zero [] = Unit {0}
 Ends zero (k ∷ ds) = ⊥
 Ends (suc w) [] = ⊥
 Ends (suc w) (k ∷ ds) = Ends (k + w) ds
+
+-- a plain code's digits are its own
+pub digits-plain : (c : List ℕ) → digits plain c ≡ c
+digits-plain c = map-id c
+
+pub plain-ends : (w : ℕ) (c : List ℕ) → Ends w c → Ends w (digits plain c)
+plain-ends w c h = subst (Ends w) (sym (digits-plain c)) h
 
 pub ends-sum : (w : ℕ) (ds : List ℕ) → Ends w ds → sum ds + w ≡ length ds
 unfolding sum

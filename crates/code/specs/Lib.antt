@@ -6,6 +6,7 @@ pub mod Parts
 pub mod Siblings
 pub mod Ordered
 pub mod Search
+pub mod Two
 pub mod Stack
 pub mod Right
 pub mod Compare

@@ -1,4 +1,4 @@
--- Row 13 by places: the children of a digit compared one with the next. Places count from 0 here, digits from 1.
+-- Row 13 by places: the children of a mark compared one with the next. Places count from 0 here, marks from 1.
 -- Assumes nothing.
 use mathlib.Core.Path.{_≡_, sym, ap, _∙_, subst, subst₂}
 use mathlib.Core.List.{List, [], flatten}
@@ -9,13 +9,13 @@ use lib.ListN.{length, getD, take, drop, length-append}
 use lib.Seq.{take-take, getD-take, length-take-le, take-add}
 use Rattle.laws.specs.Order.{_≽_}
 use Rattle.laws.specs.Part.{part}
-use Rattle.code.specs.Code.{codes, childCodes, LargerOf}
+use Rattle.code.specs.Code.{digits, codes, childCodes, LargerOf}
 use Rattle.code.specs.Ends.{Ends}
 use Rattle.code.specs.Parts.{Ending, Passing, child-is, pass-one, enough, flatten-append}
 
-pub child-codes : (c : List ℕ) (i : ℕ) → childCodes c (suc i) ≡ take (getD c i 0) (codes (drop (suc i) c))
+pub child-codes : (arity : ℕ → ℕ) (c : List ℕ) (i : ℕ) → childCodes arity c (suc i) ≡ take (arity (getD c i 0)) (codes arity (drop (suc i) c))
 unfolding childCodes
-child-codes c i = ap (λ (n : ℕ). take (getD c n 0) (codes (drop (suc i) c))) (omega arith)
+child-codes arity c i = ap (λ (n : ℕ). take (arity (getD c n 0)) (codes arity (drop (suc i) c))) (omega arith)
 
 flatten-grows : (l : List (List ℕ)) (m n : ℕ) → m ≤ n → length (flatten (take m l)) ≤ length (flatten (take n l))
 flatten-grows l m n h =
@@ -23,31 +23,31 @@ flatten-grows l m n h =
     let f = ap (λ (i : ℕ). flatten (take i l)) e ∙ ap flatten (take-add m (n - m) l) ∙ flatten-append (take m l) (take (n - m) (drop m l)) in
     omega (arith, ap length f, length-append (flatten (take m l)) (flatten (take (n - m) (drop m l))))
 
--- none of the first m children of digit i is larger than the one before it
-abbrev pub Fall : List ℕ → ℕ → ℕ → Type 0
-Fall c i m = (j : ℕ) → suc j < m → getD (codes (drop (suc i) c)) j [] ≽ getD (codes (drop (suc i) c)) (suc j) []
+-- none of the first m children of mark i is larger than the one before it
+abbrev pub Fall : (ℕ → ℕ) → List ℕ → ℕ → ℕ → Type 0
+Fall arity c i m = (j : ℕ) → suc j < m → getD (codes arity (drop (suc i) c)) j [] ≽ getD (codes arity (drop (suc i) c)) (suc j) []
 
-module _ (c : List ℕ) (whole : Ends 1 c) (i : ℕ) (inside : i < length c) where
-  -- the codes behind digit i
+module _ (arity : ℕ → ℕ) (c : List ℕ) (whole : Ends 1 (digits arity c)) (i : ℕ) (inside : i < length c) where
+  -- the codes behind mark i
   abbrev D : List (List ℕ)
-  D = codes (drop (suc i) c)
+  D = codes arity (drop (suc i) c)
 
   abbrev k : ℕ
-  k = getD c i 0
+  k = arity (getD c i 0)
 
-  -- what a larger child is, by the codes behind the digit
+  -- what a larger child is, by the codes behind the mark
   record Here (p : ℕ) : Type 0 where
     before : ℕ
     siblings : suc before < k
     larger : getD D before [] ≽ getD D (suc before) [] → ⊥
     begins : p ≡ suc i + 1 + length (flatten (take (suc before) D))
 
-  count : length (childCodes c (suc i)) ≡ k
-  count = ap length (child-codes c i) ∙ length-take-le k D (enough c whole i inside)
+  count : length (childCodes arity c (suc i)) ≡ k
+  count = ap length (child-codes arity c i) ∙ length-take-le k D (enough arity c whole i inside)
 
-  here : {p : ℕ} → LargerOf c (suc i) p → Here p
+  here : {p : ℕ} → LargerOf arity c (suc i) p → Here p
   here {p} h =
-      let e = child-codes c i in
+      let e = child-codes arity c i in
       let s : suc (h .before) < k = omega (arith, h .siblings, count) in
       record {
         before = h .before;
@@ -59,9 +59,9 @@ module _ (c : List ℕ) (whole : Ends 1 c) (i : ℕ) (inside : i < length c) whe
         begins = h .begins ∙ ap (λ (l : List (List ℕ)). suc i + 1 + length (flatten l)) (ap (take (suc (h .before))) e ∙ take-take (suc (h .before)) k D (omega arith));
       }
 
-  there : {p : ℕ} → Here p → LargerOf c (suc i) p
+  there : {p : ℕ} → Here p → LargerOf arity c (suc i) p
   there {p} h =
-      let e = child-codes c i in
+      let e = child-codes arity c i in
       record {
         before = h .before;
         siblings = omega (arith, h .siblings, count);
@@ -73,15 +73,15 @@ module _ (c : List ℕ) (whole : Ends 1 c) (i : ℕ) (inside : i < length c) whe
       }
 
   -- where all fall, none is larger
-  pub none-larger : Fall c i k → (p : ℕ) → LargerOf c (suc i) p → ⊥
+  pub none-larger : Fall arity c i k → (p : ℕ) → LargerOf arity c (suc i) p → ⊥
   none-larger f p h = let g = here h in g .larger (f (g .before) (g .siblings))
 
-  module _ {m a b e : ℕ} (f : Fall c i (suc m)) (l : suc m < k) (p : Passing c i m a) (q : Ending c a b) (r : Ending c b e) where
-    next : Passing c i (suc m) b
+  module _ {m a b e : ℕ} (f : Fall arity c i (suc m)) (l : suc m < k) (p : Passing arity c i m a) (q : Ending arity c a b) (r : Ending arity c b e) where
+    next : Passing arity c i (suc m) b
     next = pass-one c i p q
 
     -- one more falls
-    pub falls-on : part a b c ≽ part b e c → Fall c i (suc (suc m))
+    pub falls-on : part a b c ≽ part b e c → Fall arity c i (suc (suc m))
     falls-on g j h = last (decLt (suc j) (suc m))
       where
         last : Dec (suc j < suc m) → getD D j [] ≽ getD D (suc j) []
@@ -91,7 +91,7 @@ module _ (c : List ℕ) (whole : Ends 1 c) (i : ℕ) (inside : i < length c) whe
             subst (λ (x : ℕ). getD D x [] ≽ getD D (suc x) []) z (subst₂ (λ (x y : List ℕ). x ≽ y) (sym (child-is c i p q)) (sym (child-is c i next r)) g)
 
     -- the first that does not fall, and its place
-    pub larger-here : (part a b c ≽ part b e c → ⊥) → LargerOf c (suc i) (b + 1)
+    pub larger-here : (part a b c ≽ part b e c → ⊥) → LargerOf arity c (suc i) (b + 1)
     larger-here n =
         there (record {
           before = m;
@@ -100,7 +100,7 @@ module _ (c : List ℕ) (whole : Ends 1 c) (i : ℕ) (inside : i < length c) whe
           begins = omega (arith, next .begins);
         })
 
-    pub no-earlier : (x : ℕ) → LargerOf c (suc i) x → b + 1 ≤ x
+    pub no-earlier : (x : ℕ) → LargerOf arity c (suc i) x → b + 1 ≤ x
     no-earlier x h =
         let g = here h in
         let late : suc (g .before) < suc m → ⊥ = λ s. g .larger (f (g .before) s) in

@@ -8,12 +8,13 @@ ghost use lib.ListN.{length};
 ghost use Rattle.refusal.specs.Table.{Answers};
 ghost use Rattle.laws.specs.Laid.{Laid};
 ghost use Rattle.limits.specs.Limits.{size};
-ghost use Rattle.code.specs.Code.{cap, row10, row11, row12, row13, codeRows, decode};
+ghost use Rattle.code.specs.Code.{plain, digits, cap, row10, row11, row12, row13, codeRows, decode};
 ghost use Rattle.code.specs.Ends.{Ends};
 ghost use Rattle.code.specs.Parts.{Ending};
 ghost use Rattle.code.specs.Stack.{Pushed};
 ghost use Rattle.code.specs.Compare.{lex, Falls};
 ghost use Rattle.code.specs.Search.{Known, FirstOf, Lower};
+ghost use Rattle.code.specs.Two.{arityOf};
 
 // How one code stands to another in the dictionary.
 pub enum Order {
@@ -103,9 +104,9 @@ pub fn ended(code: &[u8]) -> Check
 
 // Where the part that begins at digit i ends, from where those behind it do.
 fn end_of(code: &[u8], ends: &[u8], i: usize) -> usize
-    requires { ⌜ Known (now code) (now ends) (suc i) ⌝ }
+    requires { ⌜ Known plain (now code) (now ends) (suc i) ⌝ }
     requires { ⌜ i < length (now code) ⌝ }
-    ensures { λ r. ⌜ Ending (now (code .entry)) i r ⌝ }
+    ensures { λ r. ⌜ Ending plain (now (code .entry)) i r ⌝ }
 {
     let k = code[i];
     let mut e = i + 1;
@@ -122,7 +123,7 @@ pub fn ends_of(code: &[u8], ends: &mut [u8])
     requires { ⌜ Ends 1 (now code) ⌝ }
     requires { ⌜ length (now code) ≤ size ⌝ }
     requires { ⌜ length (now ends) ≡ size ⌝ }
-    ensures { λ _. ⌜ Known (now (code .entry)) (now (ends .exit)) 0 ⌝ }
+    ensures { λ _. ⌜ Known plain (now (code .entry)) (now (ends .exit)) 0 ⌝ }
 {
     let mut i = code.len();
     while 0 < i {
@@ -132,19 +133,20 @@ pub fn ends_of(code: &[u8], ends: &mut [u8])
     }
 }
 
-// The first digit of the first child of digit i that is larger than the sibling before it, by the digit's number; 0 where none is.
-fn larger_of(code: &[u8], ends: &[u8], i: usize) -> usize
-    requires { ⌜ Known (now code) (now ends) 0 ⌝ }
-    requires { ⌜ i < length (now code) ⌝ }
-    ensures { λ r. ⌜ FirstOf (now (code .entry)) (suc i) r ⌝ }
+// The first mark of the first child of mark i that is larger than the sibling before it, by the mark's number; 0 where none is.
+fn larger_of(named: bool, ds: &[u8], ms: &[u8], ends: &[u8], i: usize) -> usize
+    requires { ⌜ now ds ≡ digits (arityOf named) (now ms) ⌝ }
+    requires { ⌜ Known (arityOf named) (now ms) (now ends) 0 ⌝ }
+    requires { ⌜ i < length (now ms) ⌝ }
+    ensures { λ r. ⌜ FirstOf (arityOf named) (now (ms .entry)) (suc i) r ⌝ }
 {
-    let k = code[i];
+    let k = ds[i];
     let mut a = i + 1;
     let mut m = 1;
     while m < k {
         let b = ends[a] as usize;
         let e = ends[b] as usize;
-        if !falls(&code[a..b], &code[b..e]) {
+        if !falls(&ms[a..b], &ms[b..e]) {
             return b + 1;
         }
         a = b;
@@ -166,18 +168,19 @@ fn lower(a: usize, b: usize) -> usize
     if a < b { a } else { b }
 }
 
-// 13: a child's code larger than that of the sibling before it.
-pub fn ordered(code: &[u8]) -> Check
-    requires { ⌜ Ends 1 (now code) ⌝ }
-    requires { ⌜ length (now code) ≤ size ⌝ }
-    ensures { λ r. ⌜ Answers (row13 (now (code .entry)) ∷ []) r ⌝ }
+// 13: a child's code larger than that of the sibling before it, where the digits `ds` tell the parts and the marks `ms` are compared.
+pub fn ordered_marks(named: bool, ds: &[u8], ms: &[u8]) -> Check
+    requires { ⌜ now ds ≡ digits (arityOf named) (now ms) ⌝ }
+    requires { ⌜ Ends 1 (now ds) ⌝ }
+    requires { ⌜ length (now ds) ≤ size ⌝ }
+    ensures { λ r. ⌜ Answers (row13 (arityOf named) (now (ms .entry)) ∷ []) r ⌝ }
 {
     let mut ends = [0u8; SIZE];
-    ends_of(code, &mut ends);
+    ends_of(ds, &mut ends);
     let mut best = 0;
     let mut i = 0;
-    while i < code.len() {
-        let p = larger_of(code, &ends, i);
+    while i < ms.len() {
+        let p = larger_of(named, ds, ms, &ends, i);
         best = lower(best, p);
         i += 1;
     }
@@ -185,6 +188,15 @@ pub fn ordered(code: &[u8]) -> Check
         return Check::Passed;
     }
     Check::Refuse(13, best)
+}
+
+// The same of a plain code, whose marks are its digits.
+pub fn ordered(code: &[u8]) -> Check
+    requires { ⌜ Ends 1 (now code) ⌝ }
+    requires { ⌜ length (now code) ≤ size ⌝ }
+    ensures { λ r. ⌜ Answers (row13 plain (now (code .entry)) ∷ []) r ⌝ }
+{
+    ordered_marks(false, code, code)
 }
 
 // A digit code lent by itself: 3, 10, 11, 12 and 13.

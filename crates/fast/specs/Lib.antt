@@ -1,4 +1,4 @@
--- A centred code told by its digits alone. Assumes nothing.
+-- A centred code told by its marks alone. Assumes nothing.
 pub mod Middle
 pub mod Lift
 pub mod Turn
@@ -12,5 +12,6 @@ pub mod Race
 pub mod Spot
 pub mod Over
 pub mod Scan
+pub mod Kinds
 pub mod Answer
 pub mod Examples

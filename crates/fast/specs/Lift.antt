@@ -1,4 +1,4 @@
--- A forest with its first tallest tree put in front: what its heights, its digits and its arcs are. Assumes nothing.
+-- A forest with its first tallest tree put in front: what its heights, its marks and its arcs are. Assumes nothing.
 use mathlib.Core.Path.{_≡_, refl, ap, ap₂, sym, _∙_}
 use mathlib.Core.Logic.{ite, if-pos, if-neg}
 use mathlib.Core.List.{List, [], _∷_, _++_, flatten, append-assoc, append-nil, List·Permᴰ, List·Permᴰ·trans, Permᴰ·refl, Permᴰ·append-left}
@@ -11,8 +11,9 @@ use Rattle.laws.specs.Order.{Falling}
 use Rattle.laws.specs.Sorting.{trans≽}
 use Rattle.laws.specs.Perms.{front}
 use Rattle.tree.specs.Forest.{Forest, none, tree, vertices, hung}
-use Rattle.tree.specs.Decoding.{width, shape}
-use Rattle.tree.specs.Ordered.{strings, strings-shape, Down}
+use Rattle.tree.specs.Label.{Marks}
+use Rattle.tree.specs.Decoding.{width, shape, marks}
+use Rattle.tree.specs.Ordered.{strings, strings-marks, Down}
 use Rattle.path.specs.Heights.{tall}
 use Rattle.fast.specs.Middle.{top, peak, second, heights}
 
@@ -51,7 +52,7 @@ falling-past c d [] f = tt
 falling-past c d (e ∷ l) f = (trans≽ c d e (f .0) (f .1 .0), f .1 .1)
 
 -- the tree i of f, with its root and what hangs below it, and the others
-pub record Lifted (f : Forest) (i : ℕ) : Type 0 where
+pub record Lifted (M : Marks) (label : ℕ → M .Label) (f : Forest) (i : ℕ) : Type 0 where
   pub root : ℕ
   pub below : Forest
   pub others : Forest
@@ -59,14 +60,14 @@ pub record Lifted (f : Forest) (i : ℕ) : Type 0 where
   pub next : tall others ≡ second (talls f)
   pub before : List ℕ
   pub after : List ℕ
-  pub here : shape f ≡ before ++ (width below ∷ (shape below ++ after))
-  pub left : shape others ≡ before ++ after
+  pub here : marks M label f ≡ before ++ (M .mark (width below) (label root) ∷ (marks M label below ++ after))
+  pub left : marks M label others ≡ before ++ after
   pub wide : suc (width others) ≡ width f
-  pub begins : flatten (take i (strings f)) ≡ before
-  pub ends : flatten (take (suc i) (strings f)) ≡ before ++ (width below ∷ shape below)
-  pub falls : Falling (strings f) → Falling (strings others)
-  pub falls-behind : (c : List ℕ) → Falling (c ∷ strings f) → Falling (c ∷ strings others)
-  pub down : Down f → Falling (strings below) × Down below × Down others
+  pub begins : flatten (take i (strings M label f)) ≡ before
+  pub ends : flatten (take (suc i) (strings M label f)) ≡ before ++ (M .mark (width below) (label root) ∷ marks M label below)
+  pub falls : Falling (strings M label f) → Falling (strings M label others)
+  pub falls-behind : (c : List ℕ) → Falling (c ∷ strings M label f) → Falling (c ∷ strings M label others)
+  pub down : Down M label f → Falling (strings M label below) × Down M label below × Down M label others
   pub names : List·Permᴰ (vertices f) (vertices (tree root below others))
   pub same : (p : ℕ) → List·Permᴰ (hung p f) (hung p (tree root below others))
 
@@ -95,9 +96,12 @@ second-below (h ∷ l) = step (decLt h (top l)) (second-below l)
     step (yes g) r = omega arith
     step (no g) r = omega arith
 
-module _ (v : ℕ) (d f : Forest) where
-  lift-here : tall f ≤ suc (tall d) → Lifted (tree v d f) 0
-  unfolding tall talls shape width strings flatten
+module _ (M : Marks) (label : ℕ → M .Label) (v : ℕ) (d f : Forest) where
+  abbrev here-mark : ℕ
+  here-mark = M .mark (width d) (label v)
+
+  lift-here : tall f ≤ suc (tall d) → Lifted M label (tree v d f) 0
+  unfolding tall talls marks width strings flatten
   lift-here l = record {
     root = v;
     below = d;
@@ -105,40 +109,40 @@ module _ (v : ℕ) (d f : Forest) where
     first = omega arith;
     next = sym (second-here (suc (tall d)) (talls f) (rw top-talls l) ∙ top-talls f);
     before = [];
-    after = shape f;
+    after = marks M label f;
     here = refl;
     left = refl;
     wide = refl;
     begins = refl;
-    ends = ap (λ l. width d ∷ l) (append-nil (flatten (strings d)) ∙ strings-shape d);
-    falls = falling-tail (width d ∷ flatten (strings d)) (strings f);
-    falls-behind = λ c. falling-past c (width d ∷ flatten (strings d)) (strings f);
+    ends = ap (λ l. here-mark ∷ l) (append-nil (flatten (strings M label d)) ∙ strings-marks M label d);
+    falls = falling-tail (here-mark ∷ flatten (strings M label d)) (strings M label f);
+    falls-behind = λ c. falling-past c (here-mark ∷ flatten (strings M label d)) (strings M label f);
     down = λ o. o;
     names = Permᴰ·refl (vertices (tree v d f));
     same = λ p. Permᴰ·refl (hung p (tree v d f));
   }
 
-  lift-past : {i : ℕ} → suc (tall d) < tall f → Lifted f i → Lifted (tree v d f) (suc i)
-  unfolding tall talls shape width strings flatten vertices hung
+  lift-past : {i : ℕ} → suc (tall d) < tall f → Lifted M label f i → Lifted M label (tree v d f) (suc i)
+  unfolding tall talls marks width strings flatten vertices hung
   lift-past {i} l t =
-      let b : flatten (take (suc i) (strings (tree v d f))) ≡ width d ∷ (shape d ++ t .before) = ap₂ (λ x y. width d ∷ (x ++ y)) (strings-shape d) (t .begins) in
-      let e : flatten (take (suc (suc i)) (strings (tree v d f))) ≡ (width d ∷ (shape d ++ t .before)) ++ (width (t .below) ∷ shape (t .below)) =
-      ap₂ (λ x y. width d ∷ (x ++ y)) (strings-shape d) (t .ends) ∙ sym (append-assoc (width d ∷ shape d) (t .before) (width (t .below) ∷ shape (t .below))) in
+      let b : flatten (take (suc i) (strings M label (tree v d f))) ≡ here-mark ∷ (marks M label d ++ t .before) = ap₂ (λ x y. here-mark ∷ (x ++ y)) (strings-marks M label d) (t .begins) in
+      let e : flatten (take (suc (suc i)) (strings M label (tree v d f))) ≡ (here-mark ∷ (marks M label d ++ t .before)) ++ (M .mark (width (t .below)) (label (t .root)) ∷ marks M label (t .below)) =
+      ap₂ (λ x y. here-mark ∷ (x ++ y)) (strings-marks M label d) (t .ends) ∙ sym (append-assoc (here-mark ∷ marks M label d) (t .before) (M .mark (width (t .below)) (label (t .root)) ∷ marks M label (t .below))) in
       record {
         root = t .root;
         below = t .below;
         others = tree v d (t .others);
         first = omega (arith, t .first);
         next = ap (max (suc (tall d))) (t .next) ∙ sym (second-past (suc (tall d)) (talls f) (rw top-talls l));
-        before = width d ∷ (shape d ++ t .before);
+        before = here-mark ∷ (marks M label d ++ t .before);
         after = t .after;
-        here = ap (λ l. width d ∷ (shape d ++ l)) (t .here) ∙ sym (append-assoc (width d ∷ shape d) (t .before) (width (t .below) ∷ (shape (t .below) ++ t .after)));
-        left = ap (λ l. width d ∷ (shape d ++ l)) (t .left) ∙ sym (append-assoc (width d ∷ shape d) (t .before) (t .after));
+        here = ap (λ l. here-mark ∷ (marks M label d ++ l)) (t .here) ∙ sym (append-assoc (here-mark ∷ marks M label d) (t .before) (M .mark (width (t .below)) (label (t .root)) ∷ (marks M label (t .below) ++ t .after)));
+        left = ap (λ l. here-mark ∷ (marks M label d ++ l)) (t .left) ∙ sym (append-assoc (here-mark ∷ marks M label d) (t .before) (t .after));
         wide = ap suc (t .wide);
         begins = b;
         ends = e;
-        falls = t .falls-behind (width d ∷ flatten (strings d));
-        falls-behind = λ c g. (g .0, t .falls-behind (width d ∷ flatten (strings d)) (g .1));
+        falls = t .falls-behind (here-mark ∷ flatten (strings M label d));
+        falls-behind = λ c g. (g .0, t .falls-behind (here-mark ∷ flatten (strings M label d)) (g .1));
         down = λ (a, b, o). let (x, y, z) = t .down o in (x, y, (a, b, z));
         names = List·Permᴰ·trans (Permᴰ·append-left (v ∷ vertices d) (t .names)) (front (v ∷ vertices d) (t .root ∷ vertices (t .below)) (vertices (t .others)));
         same = λ p. List·Permᴰ·trans
@@ -147,11 +151,11 @@ module _ (v : ℕ) (d f : Forest) where
       }
 
 -- the first tallest put in front
-pub lift : (f : Forest) → 0 < tall f → Lifted f (peak (talls f))
+pub lift : (M : Marks) (label : ℕ → M .Label) (f : Forest) → 0 < tall f → Lifted M label f (peak (talls f))
 unfolding talls tall
-lift none l = let z : ⊥ = omega arith in absurd z
-lift (tree v d f) l = step (decLt (suc (tall d)) (tall f)) (λ h. lift f h)
+lift M label none l = let z : ⊥ = omega arith in absurd z
+lift M label (tree v d f) l = step (decLt (suc (tall d)) (tall f)) (λ h. lift M label f h)
   where
-    step : Dec (suc (tall d) < tall f) → (0 < tall f → Lifted f (peak (talls f))) → Lifted (tree v d f) (peak (suc (tall d) ∷ talls f))
-    step (yes h) r = rw (peak-past (suc (tall d)) (talls f) (rw top-talls h)) (lift-past v d f h (r (omega arith)))
-    step (no n) r = rw (peak-here (suc (tall d)) (talls f) (rw top-talls (omega arith))) (lift-here v d f (omega arith))
+    step : Dec (suc (tall d) < tall f) → (0 < tall f → Lifted M label f (peak (talls f))) → Lifted M label (tree v d f) (peak (suc (tall d) ∷ talls f))
+    step (yes h) r = rw (peak-past (suc (tall d)) (talls f) (rw top-talls h)) (lift-past M label v d f h (r (omega arith)))
+    step (no n) r = rw (peak-here (suc (tall d)) (talls f) (rw top-talls (omega arith))) (lift-here M label v d f (omega arith))

@@ -11,6 +11,7 @@ use lib.ListN.{length, getD, drop}
 use lib.Seq.{drop-cons, drop-length}
 use Rattle.code.specs.Code.{codes}
 use Rattle.code.specs.Compare.{Falls, falling, rising}
+use Rattle.tree.specs.Label.{Marks}
 use Rattle.fast.specs.Middle.{top, peak, second, tops, branch, turned, other, Middle}
 use Rattle.fast.specs.Stack.{heights-length, Branches}
 use Rattle.fast.specs.Lift.{second-below, peak-here, peak-past, second-here, second-past}
@@ -112,38 +113,38 @@ unfolding top second
 some-left [] n = absurd (n refl)
 some-left (x ∷ l) n = omega arith
 
-module _ {c hs : List ℕ} {from j first next at : ℕ} (r : Race hs from j first next at) (l : j ≤ from) (is : Branches c hs from) where
-  here : drop j hs ≡ tops c
+module _ {M : Marks} {c hs : List ℕ} {from j first next at : ℕ} (r : Race hs from j first next at) (l : j ≤ from) (is : Branches M c hs from) where
+  here : drop j hs ≡ tops M c
   here = let n : j ≡ from = omega (arith, r .after) in ap (λ (a : ℕ). drop a hs) n ∙ is .stand
 
-  first-is : first ≡ top (tops c)
+  first-is : first ≡ top (tops M c)
   first-is = r .top-is ∙ ap top here
 
-  second-is : next ≡ second (tops c)
+  second-is : next ≡ second (tops M c)
   second-is = r .next-is ∙ ap second here
 
   -- equally tall
-  pub race-even : first ≡ next → Tells (Middle c) true
+  pub race-even : first ≡ next → Tells (Middle M c) true
   race-even e = holds (inl (omega (arith, first-is, second-is)))
 
   -- too far apart
-  pub race-apart : (first ≡ next → ⊥) → (first ≡ next + 1 → ⊥) → Tells (Middle c) false
+  pub race-apart : (first ≡ next → ⊥) → (first ≡ next + 1 → ⊥) → Tells (Middle M c) false
   race-apart n m = denies (λ x. ⊎-elim (λ e. n (omega (arith, first-is, second-is))) (λ e. m (omega (arith, e .0, first-is, second-is))) x)
 
   module _ (n : first ≡ next → ⊥) where
-    pub race-place : at - from ≡ peak (tops c)
+    pub race-place : at - from ≡ peak (tops M c)
     race-place = omega (arith, r .at-is, r .after, ap peak here)
 
-    pub race-inside : at - from < length (codes (drop 1 c))
+    pub race-inside : at - from < length (codes (M .arity) (drop 1 c))
     race-inside =
-        let s : 0 < length (tops c) = some-left (tops c) (λ e. n (omega (arith, first-is, second-is))) in
-        omega (arith, race-place, peak-inside (tops c) s, heights-length (drop 1 c))
+        let s : 0 < length (tops M c) = some-left (tops M c) (λ e. n (omega (arith, first-is, second-is))) in
+        omega (arith, race-place, peak-inside (tops M c) s, heights-length (M .arity) (drop 1 c))
 
     -- one taller: the codes decide
-    pub race-close : {b : Bool} → first ≡ next + 1 → Falls c (turned c (branch c (at - from)) (branch c (suc (at - from)))) b → Tells (Middle c) b
+    pub race-close : {b : Bool} → first ≡ next + 1 → Falls c (turned M c (branch M c (at - from)) (branch M c (suc (at - from)))) b → Tells (Middle M c) b
     unfolding other
     race-close e f = decide (rw race-place at f)
       where
-        decide : {b : Bool} → Falls c (turned c (branch c (peak (tops c))) (branch c (suc (peak (tops c))))) b → Tells (Middle c) b
+        decide : {b : Bool} → Falls c (turned M c (branch M c (peak (tops M c))) (branch M c (suc (peak (tops M c))))) b → Tells (Middle M c) b
         decide (falling g) = holds (inr (omega (arith, first-is, second-is), g))
         decide (rising k) = denies (λ x. ⊎-elim (λ q. n (omega (arith, first-is, second-is))) (λ q. k (q .1)) x)

@@ -1,7 +1,7 @@
--- A tree with its trees below the root rearranged, or with the first child made the root; and the code there, by digits (`other-code`).
+-- A tree with its trees below the root rearranged, or with the first child made the root; and the code there, by marks (`other-is`).
 -- Assumes nothing.
 use mathlib.Core.Path.{_≡_, refl, ap, ap₂, sym, _∙_}
-use mathlib.Core.List.{List, [], _∷_, _++_, flatten, append-assoc, append-nil, List·Permᴰ, List·Permᴰ·cons, List·Permᴰ·swap, List·Permᴰ·trans, Permᴰ·symm}
+use mathlib.Core.List.{List, [], _∷_, _++_, map, flatten, append-assoc, append-nil, List·Permᴰ, List·Permᴰ·cons, List·Permᴰ·swap, List·Permᴰ·trans, Permᴰ·symm}
 use Prim.Native.Nat.{ℕ, suc, _-_}
 use native.Mathlib.Omega.{arith}
 use lib.ListN.{length, getD, take, drop, length-append}
@@ -11,15 +11,13 @@ use Rattle.laws.specs.Sorting.{sort-stays}
 use Rattle.laws.specs.Perms.{perm-in, perm-length, front}
 use Rattle.laws.specs.Once.{Once, once-perm}
 use Rattle.code.specs.Code.{codes}
-use Rattle.tree.specs.Skeleton.{rooted}
 use Rattle.tree.specs.Forest.{Forest, tree, vertices, hung, Rooted}
 use Rattle.tree.specs.Forests.{count-vertices, distinct-once}
-use Rattle.tree.specs.Label.{joinₗ}
+use Rattle.tree.specs.Label.{Marks, joinₗ, rootedₗ, digits}
 use Rattle.tree.specs.Codes.{branches, rooted-join}
-use Rattle.tree.specs.Base.{base, rooted-base}
-use Rattle.tree.specs.Decoding.{width, shape}
-use Rattle.tree.specs.Ordered.{strings, strings-length, strings-shape, codes-forest, first-codes, Down, down-branches}
-use Rattle.fast.specs.Middle.{peak, heights, branch, rest, turned, other}
+use Rattle.tree.specs.Decoding.{width, shape, marks, marks-digits}
+use Rattle.tree.specs.Ordered.{strings, strings-length, strings-marks, codes-forest, first-codes, Down, down-branches}
+use Rattle.fast.specs.Middle.{peak, heights, more, fewer, branch, rest, turned, other}
 use Rattle.fast.specs.Lift.{Lifted, talls, heights-forest}
 
 -- the same tree with another root, or another order of its vertices
@@ -53,67 +51,79 @@ turned-round {r = r} s x d g is =
     List·Permᴰ·trans (List·Permᴰ·swap refl refl) (List·Permᴰ·cons refl (List·Permᴰ·cons refl (swap-parts (hung x d) (hung r g)))) in
     moved s x (tree r g d) (rw is π) (rw is σ)
 
-abbrev bare : ℕ → Unit {0}
-bare v = tt
+module _ (M : Marks) (label : ℕ → M .Label) where
+  -- the trees below a vertex go down as they stand, and so at every vertex below
+  abbrev pub Falls : Forest → Type 0
+  Falls f = Falling (strings M label f) × Down M label f
 
--- the trees below a vertex go down as they stand, and so at every vertex below
-abbrev pub Falls : Forest → Type 0
-Falls f = Falling (strings f) × Down f
+  -- the code of a vertex over such a forest is the forest's marks
+  joined : (a : M .Label) (f : Forest) → Falls f → joinₗ M a (branches M label f) ≡ M .mark (width f) a ∷ marks M label f
+  unfolding joinₗ
+  joined a f (h, o) =
+      ap (λ x. M .mark (length x) a ∷ flatten (sort x)) (down-branches M label f o)
+      ∙ ap₂ (λ n x. M .mark n a ∷ x) (strings-length M label f) (ap flatten (sort-stays (strings M label f) h) ∙ strings-marks M label f)
 
--- the code of a vertex over such a forest is the forest's digits
-joined : (f : Forest) → Falls f → joinₗ base tt (branches base bare f) ≡ width f ∷ shape f
-unfolding joinₗ
-joined f (h, o) =
-    ap (λ x. length x ∷ flatten (sort x)) (down-branches bare f o)
-    ∙ ap₂ (λ n x. n ∷ x) (strings-length f) (ap flatten (sort-stays (strings f) h) ∙ strings-shape f)
+  pub code-is : {N : ℕ} {E : List ℕ} {r : ℕ} (s : Rooted N E r) → Falls (s .forest) → rootedₗ M label N E r ≡ M .mark (width (s .forest)) (label r) ∷ marks M label (s .forest)
+  code-is {N} {E} {r} s o = rooted-join M label N E r s ∙ joined (label r) (s .forest) o
 
-pub code-is : {N : ℕ} {E : List ℕ} {r : ℕ} (s : Rooted N E r) → Falls (s .forest) → rooted N E r ≡ width (s .forest) ∷ shape (s .forest)
-code-is {N} {E} {r} s o = sym (rooted-base bare N E r) ∙ rooted-join base bare N E r s ∙ joined (s .forest) o
+  -- the code where one more tree stands among those that go down
+  pub code-more : {N : ℕ} {E : List ℕ} {x : ℕ} (s : Rooted N E x) (r : ℕ) (g d : Forest) → s .forest ≡ tree r g d → Falls g → Falls d
+      → rootedₗ M label N E x ≡ M .mark (suc (width d)) (label x) ∷ flatten (insert (M .mark (width g) (label r) ∷ marks M label g) (strings M label d))
+  unfolding joinₗ branches sort
+  code-more {N} {E} {x} s r g d is a b =
+      rooted-join M label N E x s
+      ∙ ap (λ f. joinₗ M (label x) (branches M label f)) is
+      ∙ ap₂ (λ y l. M .mark (suc (length l)) (label x) ∷ flatten (insert y (sort l))) (joined (label r) g a) (down-branches M label d (b .1))
+      ∙ ap₂ (λ n l. M .mark (suc n) (label x) ∷ flatten (insert (M .mark (width g) (label r) ∷ marks M label g) l)) (strings-length M label d) (sort-stays (strings M label d) (b .0))
 
--- the code where one more tree stands among those that go down
-pub code-more : {N : ℕ} {E : List ℕ} {x : ℕ} (s : Rooted N E x) (r : ℕ) (g d : Forest) → s .forest ≡ tree r g d → Falls g → Falls d
-    → rooted N E x ≡ suc (width d) ∷ flatten (insert (width g ∷ shape g) (strings d))
-unfolding joinₗ branches sort
-code-more {N} {E} {x} s r g d is a b =
-    sym (rooted-base bare N E x)
-    ∙ rooted-join base bare N E x s
-    ∙ ap (λ f. joinₗ base tt (branches base bare f)) is
-    ∙ ap₂ (λ y l. suc (length l) ∷ flatten (insert y (sort l))) (joined g a) (down-branches bare d (b .1))
-    ∙ ap₂ (λ n l. suc n ∷ flatten (insert (width g ∷ shape g) l)) (strings-length d) (sort-stays (strings d) (b .0))
+  codes-whole : (f : Forest) → codes (M .arity) (marks M label f) ≡ strings M label f
+  unfolding codes
+  codes-whole f = ap (codes (M .arity)) (sym (append-nil (marks M label f))) ∙ codes-forest M label f [] ∙ append-nil (strings M label f)
 
--- `turned` where the digits stand apart
-turned-at : (k : ℕ) (a : List ℕ) (m : ℕ) (b z : List ℕ)
-    → turned (k ∷ (a ++ (m ∷ (b ++ z)))) (suc (length a)) (suc (length (a ++ (m ∷ b)))) ≡ suc m ∷ flatten (insert ((k - 1) ∷ (a ++ z)) (take m (codes (b ++ z))))
+  pub heights-whole : (f : Forest) → heights (map (M .arity) (marks M label f)) ≡ talls f
+  unfolding heights digits
+  heights-whole f = ap heights (marks-digits M label f ∙ sym (append-nil (shape f))) ∙ heights-forest f [] ∙ append-nil (talls f)
+
+-- `turned` where the marks stand apart
+turned-at : (M : Marks) (k : ℕ) (a : List ℕ) (m : ℕ) (b z : List ℕ)
+    → turned M (k ∷ (a ++ (m ∷ (b ++ z)))) (suc (length a)) (suc (length (a ++ (m ∷ b)))) ≡ more M m ∷ flatten (insert (fewer M k ∷ (a ++ z)) (take (M .arity m) (codes (M .arity) (b ++ z))))
 unfolding turned rest
-turned-at k a m b z =
-    let digit : getD (a ++ (m ∷ (b ++ z))) (length a) 0 ≡ m = getD-append-seam a m (b ++ z) 0 in
+turned-at M k a m b z =
+    let mark : getD (a ++ (m ∷ (b ++ z))) (length a) 0 ≡ m = getD-append-seam a m (b ++ z) 0 in
     let below : drop (suc (length a)) (a ++ (m ∷ (b ++ z))) ≡ b ++ z =
     ap (drop (suc (length a))) (sym (append-assoc a (m ∷ []) (b ++ z))) ∙ drop-at (a ++ (m ∷ [])) (b ++ z) (suc (length a)) (omega (arith, length-append a (m ∷ []))) in
     let n : suc (length a) - 1 ≡ length a = omega arith in
     let before : take (suc (length a) - 1) (a ++ (m ∷ (b ++ z))) ≡ a = ap (λ i. take i (a ++ (m ∷ (b ++ z)))) n ∙ take-append-seam a (m ∷ (b ++ z)) in
     let after : drop (length (a ++ (m ∷ b))) (a ++ (m ∷ (b ++ z))) ≡ z = ap (drop (length (a ++ (m ∷ b)))) (sym (append-assoc a (m ∷ b) z)) ∙ drop-append-seam (a ++ (m ∷ b)) z in
-    rw (digit, below, before, after)
+    rw (mark, below, before, after)
 
-codes-whole : (f : Forest) → codes (shape f) ≡ strings f
-unfolding codes
-codes-whole f = ap codes (sym (append-nil (shape f))) ∙ codes-forest f [] ∙ append-nil (strings f)
+module _ (M : Marks) (label : ℕ → M .Label) (a : M .Label) (f : Forest) (t : Lifted M label f (peak (talls f))) where
+  -- the marks of a vertex over f, of the first tallest tree's root, and of the vertex over the others
+  abbrev whole : ℕ
+  whole = M .mark (width f) a
 
-pub heights-whole : (f : Forest) → heights (shape f) ≡ talls f
-unfolding heights
-heights-whole f = ap heights (sym (append-nil (shape f))) ∙ heights-forest f [] ∙ append-nil (talls f)
+  abbrev tallest : ℕ
+  tallest = M .mark (width (t .below)) (label (t .root))
 
-module _ (f : Forest) (t : Lifted f (peak (talls f))) where
+  more-is : more M tallest ≡ M .mark (suc (width (t .below))) (label (t .root))
+  more-is = ap₂ (λ n b. M .mark (suc n) b) (M .arity-mark (width (t .below)) (label (t .root))) (M .atom-mark (width (t .below)) (label (t .root)))
+
+  fewer-is : fewer M whole ≡ M .mark (width (t .others)) a
+  fewer-is = let w : width f - 1 ≡ width (t .others) = omega (arith, t .wide) in ap₂ (λ n b. M .mark (n - 1) b) (M .arity-mark (width f) a) (M .atom-mark (width f) a) ∙ ap (λ n. M .mark n a) w
+
   -- the other code by the forest
-  pub other-is : other (width f ∷ shape f) ≡ suc (width (t .below)) ∷ flatten (insert (width (t .others) ∷ shape (t .others)) (strings (t .below)))
+  pub other-is : other M (M .mark (width f) a ∷ marks M label f)
+      ≡ M .mark (suc (width (t .below))) (label (t .root)) ∷ flatten (insert (M .mark (width (t .others)) a ∷ marks M label (t .others)) (strings M label (t .below)))
   unfolding other branch
   other-is =
       let i : ℕ = peak (talls f) in
-      let b : suc (length (flatten (take i (codes (shape f))))) ≡ suc (length (t .before)) = ap (λ l. suc (length l)) (ap (λ l. flatten (take i l)) (codes-whole f) ∙ t .begins) in
-      let e : suc (length (flatten (take (suc i) (codes (shape f))))) ≡ suc (length (t .before ++ (width (t .below) ∷ shape (t .below)))) =
-      ap (λ l. suc (length l)) (ap (λ l. flatten (take (suc i) l)) (codes-whole f) ∙ t .ends) in
-      let w : width f - 1 ≡ width (t .others) = omega (arith, t .wide) in
-      ap (λ i. turned (width f ∷ shape f) (suc (length (flatten (take i (codes (shape f)))))) (suc (length (flatten (take (suc i) (codes (shape f))))))) (ap peak (heights-whole f))
-      ∙ ap₂ (turned (width f ∷ shape f)) b e
-      ∙ ap (λ l. turned (width f ∷ l) (suc (length (t .before))) (suc (length (t .before ++ (width (t .below) ∷ shape (t .below)))))) (t .here)
-      ∙ turned-at (width f) (t .before) (width (t .below)) (shape (t .below)) (t .after)
-      ∙ ap₂ (λ y l. suc (width (t .below)) ∷ flatten (insert y l)) (ap₂ (λ n l. n ∷ l) w (sym (t .left))) (first-codes (t .below) (t .after))
+      let b : suc (length (flatten (take i (codes (M .arity) (marks M label f))))) ≡ suc (length (t .before)) = ap (λ l. suc (length l)) (ap (λ l. flatten (take i l)) (codes-whole M label f) ∙ t .begins) in
+      let e : suc (length (flatten (take (suc i) (codes (M .arity) (marks M label f))))) ≡ suc (length (t .before ++ (tallest ∷ marks M label (t .below)))) =
+      ap (λ l. suc (length l)) (ap (λ l. flatten (take (suc i) l)) (codes-whole M label f) ∙ t .ends) in
+      ap (λ i. turned M (whole ∷ marks M label f) (suc (length (flatten (take i (codes (M .arity) (marks M label f)))))) (suc (length (flatten (take (suc i) (codes (M .arity) (marks M label f))))))) (ap peak (heights-whole M label f))
+      ∙ ap₂ (turned M (whole ∷ marks M label f)) b e
+      ∙ ap (λ l. turned M (whole ∷ l) (suc (length (t .before))) (suc (length (t .before ++ (tallest ∷ marks M label (t .below)))))) (t .here)
+      ∙ turned-at M whole (t .before) tallest (marks M label (t .below)) (t .after)
+      ∙ ap₂ (λ y l. y ∷ flatten l) more-is
+      (ap₂ insert (ap₂ (λ n l. n ∷ l) fewer-is (sym (t .left)))
+      (ap (λ n. take n (codes (M .arity) (marks M label (t .below) ++ t .after))) (M .arity-mark (width (t .below)) (label (t .root))) ∙ first-codes M label (t .below) (t .after)))

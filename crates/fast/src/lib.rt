@@ -1,5 +1,6 @@
-// Whether a right rooted code is a centred one, tested on its digits alone: nothing is decoded, sorted or copied. The test is `Middle` of
-// specs/Middle.antt, and specs/Theorems.antt proves that it is document 01's definition.
+// Whether a right rooted code is a centred one, tested on its marks alone: nothing is decoded, sorted or copied. The test is `Middle` of
+// specs/Middle.antt, and specs/Theorems.antt proves that it is document 01's definition. `ds` are the digits that the marks `code` tell; a
+// plain code's marks are its digits, and one slice is lent as both.
 use code::Order;
 use code::compare;
 use limits::SIZE;
@@ -11,12 +12,13 @@ ghost use lib.ListN.{length, getD, drop};
 ghost use Rattle.laws.specs.Part.{part};
 ghost use Rattle.refusal.specs.Table.{Clear, Answers};
 ghost use Rattle.limits.specs.Limits.{size};
-ghost use Rattle.code.specs.Code.{codes, codeRows};
+ghost use Rattle.code.specs.Code.{plain, digits, codes, codeRows};
 ghost use Rattle.code.specs.Ends.{Ends};
 ghost use Rattle.code.specs.Ordered.{Ordered};
-ghost use Rattle.code.specs.Right.{Right};
+ghost use Rattle.code.specs.Right.{Rightₗ};
 ghost use Rattle.code.specs.Compare.{lex, Falls};
-ghost use Rattle.form.specs.Form.{centred, row14, formRows};
+ghost use Rattle.form.specs.Form.{centred, row14, formRows, centredₗ, row14ₗ};
+ghost use Rattle.fast.specs.Kinds.{kinds, limits, unit};
 ghost use Rattle.fast.specs.Middle.{top, rest, turned, branch, Middle};
 ghost use Rattle.fast.specs.Skip.{Skips};
 ghost use Rattle.fast.specs.Stack.{Branches};
@@ -28,17 +30,36 @@ ghost use Rattle.fast.specs.Spot.{Spot};
 // Places for where the trees on a stack begin, and where the digits end; above each place of the stack.
 const STARTS: usize = SIZE + 1;
 
+// Atoms that a mark can name, and the neighbours that the first of them may have.
+const ATOMS: u8 = 3;
+
+const BONDS: u8 = 4;
+
+// How many neighbours the vertex of mark m may have.
+fn most(named: bool, limit: u8, m: u8) -> u8
+    ensures { λ r. ⌜ r ≡ limits named limit m ⌝ }
+{
+    if named { BONDS - m % ATOMS } else { limit }
+}
+
+// How far the mark of a vertex with one child more is from a mark.
+fn step(named: bool) -> u8
+    ensures { λ r. ⌜ r ≡ unit named ⌝ }
+{
+    if named { ATOMS } else { 1 }
+}
+
 // Where the codes that begin at digit `from` end, so many of them. `open` counts the places that are still to be filled.
-fn skip(code: &[u8], from: usize, many: usize) -> usize
-    requires { ⌜ Ends 1 (now code) ⌝ }
-    requires { ⌜ from ≤ length (now code) ⌝ }
-    requires { ⌜ many ≤ length (codes (drop from (now code))) ⌝ }
-    ensures { λ r. ⌜ Skips (now (code .entry)) from many r ⌝ }
+fn skip(ds: &[u8], from: usize, many: usize) -> usize
+    requires { ⌜ Ends 1 (now ds) ⌝ }
+    requires { ⌜ from ≤ length (now ds) ⌝ }
+    requires { ⌜ many ≤ length (codes plain (drop from (now ds))) ⌝ }
+    ensures { λ r. ⌜ Skips plain (now (ds .entry)) from many r ⌝ }
 {
     let mut open = many;
     let mut i = from;
     while 0 < open {
-        open = open - 1 + code[i] as usize;
+        open = open - 1 + ds[i] as usize;
         i += 1;
     }
     i
@@ -62,14 +83,14 @@ fn falls_at(code: &[u8], a: usize, b: usize, e: usize) -> bool
     code::falls(&code[a + 1..b], &code[b + 1..e])
 }
 
-// How tall a digit is whose children are the trees from `at` to `end`; 0 where one of them is larger than the one before it.
-fn joined(code: &[u8], hs: &[u8], starts: &[u8], at: usize, end: usize) -> u8
-    requires { ⌜ Placed (now code) (now starts) (getD (now starts) at 0) at ⌝ }
+// How tall a mark's tree is whose children are the trees from `at` to `end`; 0 where one of them is larger than the one before it.
+fn joined(named: bool, code: &[u8], hs: &[u8], starts: &[u8], at: usize, end: usize) -> u8
+    requires { ⌜ Placed (kinds named .arity) (now code) (now starts) (getD (now starts) at 0) at ⌝ }
     requires { ⌜ at ≤ end ⌝ }
     requires { ⌜ end ≤ size ⌝ }
     requires { ⌜ length (now hs) ≡ size ⌝ }
     requires { ⌜ top (part at end (now hs)) ≤ size ⌝ }
-    ensures { λ r. ⌜ Joins (now (code .entry)) (now (hs .entry)) (getD (now (starts .entry)) at 0) at end r ⌝ }
+    ensures { λ r. ⌜ Joins (kinds named .arity) (now (code .entry)) (now (hs .entry)) (getD (now (starts .entry)) at 0) at end r ⌝ }
 {
     if end <= at {
         return 1;
@@ -92,32 +113,42 @@ fn joined(code: &[u8], hs: &[u8], starts: &[u8], at: usize, end: usize) -> u8
     best + 1
 }
 
-// Whether the digits are a right code, where all but the root's are read.
-fn rooted(limit: u8, code: &[u8], hs: &[u8], starts: &[u8], at: usize) -> bool
-    requires { ⌜ Scan limit (now code) (now hs) (now starts) 1 at ⌝ }
+// Whether the marks are a right code, where all but the root's are read.
+fn rooted(
+    named: bool,
+    limit: u8,
+    ds: &[u8],
+    code: &[u8],
+    hs: &[u8],
+    starts: &[u8],
+    at: usize,
+) -> bool
+    requires { ⌜ now ds ≡ digits (kinds named .arity) (now code) ⌝ }
+    requires { ⌜ Scan (kinds named) (limits named limit) (now code) (now hs) (now starts) 1 at ⌝ }
     requires { ⌜ length (now code) ≤ size ⌝ }
-    ensures { λ r. ⌜ Tells (Right size limit (now (code .entry))) r ⌝ }
+    ensures { λ r. ⌜ Tells (Rightₗ (kinds named .arity) (limits named limit) size (now (code .entry))) r ⌝ }
 {
-    let k = code[0];
-    if limit < k {
+    let k = ds[0];
+    if most(named, limit, code[0]) < k {
         return false;
     }
     if at + k as usize != SIZE {
         return false;
     }
-    if joined(code, hs, starts, at, SIZE) == 0 {
+    if joined(named, code, hs, starts, at, SIZE) == 0 {
         return false;
     }
     true
 }
 
-// Reads the digits from the last to the first. The trees behind a digit stand on a stack that grows down from the end of `hs` and `starts`:
-// how tall each is, and where it begins. The result is where the root's branches stand, above SIZE where the digits are no right code.
-fn scan(limit: u8, code: &[u8], hs: &mut [u8], starts: &mut [u8]) -> usize
+// Reads the marks from the last to the first. The trees behind a mark stand on a stack that grows down from the end of `hs` and `starts`:
+// how tall each is, and where it begins. The result is where the root's branches stand, above SIZE where the marks are no right code.
+fn scan(named: bool, limit: u8, ds: &[u8], code: &[u8], hs: &mut [u8], starts: &mut [u8]) -> usize
+    requires { ⌜ now ds ≡ digits (kinds named .arity) (now code) ⌝ }
     requires { ⌜ 1 ≤ limit ⌝ }
     requires { ⌜ length (now hs) ≡ size ⌝ }
     requires { ⌜ length (now starts) ≡ suc size ⌝ }
-    ensures { λ r. ⌜ Scanned limit (now (code .entry)) (now (hs .exit)) r ⌝ }
+    ensures { λ r. ⌜ Scanned (kinds named) (limits named limit) (now (code .entry)) (now (hs .exit)) r ⌝ }
 {
     let n = code.len();
     if n == 0 {
@@ -131,15 +162,15 @@ fn scan(limit: u8, code: &[u8], hs: &mut [u8], starts: &mut [u8]) -> usize
     let mut at = SIZE;
     while 1 < i {
         i -= 1;
-        let k = code[i];
-        if limit <= k {
+        let k = ds[i];
+        if most(named, limit, code[i]) <= k {
             return STARTS;
         }
         let end = at + k as usize;
         if SIZE < end {
             return STARTS;
         }
-        let h = joined(code, hs, starts, at, end);
+        let h = joined(named, code, hs, starts, at, end);
         if h == 0 {
             return STARTS;
         }
@@ -147,7 +178,7 @@ fn scan(limit: u8, code: &[u8], hs: &mut [u8], starts: &mut [u8]) -> usize
         hs[at] = h;
         starts[at] = i as u8;
     }
-    if !rooted(limit, code, hs, starts, at) {
+    if !rooted(named, limit, ds, code, hs, starts, at) {
         return STARTS;
     }
     at
@@ -184,16 +215,16 @@ fn compare_three(u: &[u8], a: &[u8], b: &[u8], d: &[u8]) -> Order
 }
 
 // Whether what is left where the branch from x to e is taken off stands at or after the code from y to z.
-fn covers(code: &[u8], x: usize, e: usize, y: usize, z: usize) -> bool
+fn covers(named: bool, code: &[u8], x: usize, e: usize, y: usize, z: usize) -> bool
     requires { ⌜ 1 ≤ x ⌝ }
     requires { ⌜ x < y ⌝ }
     requires { ⌜ y < z ⌝ }
     requires { ⌜ z ≤ length (now code) ⌝ }
     requires { ⌜ e ≤ length (now code) ⌝ }
-    requires { ⌜ 1 ≤ getD (now code) 0 0 ⌝ }
-    ensures { λ r. ⌜ Falls (rest (now (code .entry)) x e) (part y z (now (code .entry))) r ⌝ }
+    requires { ⌜ 1 ≤ kinds named .arity (getD (now code) 0 0) ⌝ }
+    ensures { λ r. ⌜ Falls (rest (kinds named) (now (code .entry)) x e) (part y z (now (code .entry))) r ⌝ }
 {
-    let left = code[0] - 1;
+    let left = code[0] - step(named);
     let child = code[y];
     if left < child {
         return false;
@@ -209,20 +240,21 @@ fn covers(code: &[u8], x: usize, e: usize, y: usize, z: usize) -> bool
 }
 
 // Where what is left is put among the children of x: before the first that it stands at or after.
-fn spot(code: &[u8], x: usize, e: usize) -> usize
-    requires { ⌜ Ends 1 (now code) ⌝ }
+fn spot(named: bool, ds: &[u8], code: &[u8], x: usize, e: usize) -> usize
+    requires { ⌜ now ds ≡ digits (kinds named .arity) (now code) ⌝ }
+    requires { ⌜ Ends 1 (now ds) ⌝ }
     requires { ⌜ 1 ≤ x ⌝ }
     requires { ⌜ x < length (now code) ⌝ }
-    requires { ⌜ Skips (now code) x 1 e ⌝ }
-    requires { ⌜ 1 ≤ getD (now code) 0 0 ⌝ }
-    ensures { λ r. ⌜ Spot (now (code .entry)) x e r ⌝ }
+    requires { ⌜ Skips (kinds named .arity) (now code) x 1 e ⌝ }
+    requires { ⌜ 1 ≤ kinds named .arity (getD (now code) 0 0) ⌝ }
+    ensures { λ r. ⌜ Spot (kinds named) (now (code .entry)) x e r ⌝ }
 {
-    let k = code[x];
+    let k = ds[x];
     let mut y = x + 1;
     let mut m = 0;
     while m < k {
-        let z = skip(code, y, 1);
-        if covers(code, x, e, y, z) {
+        let z = skip(ds, y, 1);
+        if covers(named, code, x, e, y, z) {
             return y;
         }
         y = z;
@@ -231,16 +263,16 @@ fn spot(code: &[u8], x: usize, e: usize) -> usize
     y
 }
 
-// Whether the digits from y - x on stand at or after what is left, with the children from y to e behind it.
-fn over_rest(code: &[u8], x: usize, y: usize, e: usize) -> bool
+// Whether the marks from y - x on stand at or after what is left, with the children from y to e behind it.
+fn over_rest(named: bool, code: &[u8], x: usize, y: usize, e: usize) -> bool
     requires { ⌜ 1 ≤ x ⌝ }
     requires { ⌜ x < y ⌝ }
     requires { ⌜ y ≤ e ⌝ }
     requires { ⌜ e ≤ length (now code) ⌝ }
-    requires { ⌜ 1 ≤ getD (now code) 0 0 ⌝ }
-    ensures { λ r. ⌜ Falls (drop (y - x) (now (code .entry))) (rest (now (code .entry)) x e ++ part y e (now (code .entry))) r ⌝ }
+    requires { ⌜ 1 ≤ kinds named .arity (getD (now code) 0 0) ⌝ }
+    ensures { λ r. ⌜ Falls (drop (y - x) (now (code .entry))) (rest (kinds named) (now (code .entry)) x e ++ part y e (now (code .entry))) r ⌝ }
 {
-    let left = code[0] - 1;
+    let left = code[0] - step(named);
     let here = code[y - x];
     if here < left {
         return false;
@@ -255,47 +287,49 @@ fn over_rest(code: &[u8], x: usize, y: usize, e: usize) -> bool
     }
 }
 
-// Whether the digits behind the root stand at or after those behind x in the code at x.
-fn over(code: &[u8], x: usize, y: usize, e: usize) -> bool
+// Whether the marks behind the root stand at or after those behind x in the code at x.
+fn over(named: bool, code: &[u8], x: usize, y: usize, e: usize) -> bool
     requires { ⌜ 1 ≤ x ⌝ }
     requires { ⌜ x < y ⌝ }
     requires { ⌜ y ≤ e ⌝ }
     requires { ⌜ e ≤ length (now code) ⌝ }
-    requires { ⌜ 1 ≤ getD (now code) 0 0 ⌝ }
-    ensures { λ r. ⌜ Falls (drop 1 (now (code .entry))) (part (suc x) y (now (code .entry)) ++ (rest (now (code .entry)) x e ++ part y e (now (code .entry)))) r ⌝ }
+    requires { ⌜ 1 ≤ kinds named .arity (getD (now code) 0 0) ⌝ }
+    ensures { λ r. ⌜ Falls (drop 1 (now (code .entry))) (part (suc x) y (now (code .entry)) ++ (rest (kinds named) (now (code .entry)) x e ++ part y e (now (code .entry)))) r ⌝ }
 {
     match compare(&code[1..y - x], &code[x + 1..y]) {
         Order::Less => false,
-        Order::Equal => over_rest(code, x, y, e),
+        Order::Equal => over_rest(named, code, x, y, e),
         Order::Greater => true,
     }
 }
 
 // Whether the code is not smaller than the one at the root of branch p.
-fn above(code: &[u8], p: usize) -> bool
-    requires { ⌜ Ends 1 (now code) ⌝ }
-    requires { ⌜ p < length (codes (drop 1 (now code))) ⌝ }
-    ensures { λ r. ⌜ Falls (now (code .entry)) (turned (now (code .entry)) (branch (now (code .entry)) p) (branch (now (code .entry)) (suc p))) r ⌝ }
+fn above(named: bool, ds: &[u8], code: &[u8], p: usize) -> bool
+    requires { ⌜ now ds ≡ digits (kinds named .arity) (now code) ⌝ }
+    requires { ⌜ Ends 1 (now ds) ⌝ }
+    requires { ⌜ p < length (codes (kinds named .arity) (drop 1 (now code))) ⌝ }
+    ensures { λ r. ⌜ Falls (now (code .entry)) (turned (kinds named) (now (code .entry)) (branch (kinds named) (now (code .entry)) p) (branch (kinds named) (now (code .entry)) (suc p))) r ⌝ }
 {
-    let x = skip(code, 1, p);
-    let here = code[0];
+    let x = skip(ds, 1, p);
+    let left = code[0] - step(named);
     let there = code[x];
-    if here <= there {
+    if left < there {
         return false;
     }
-    if there + 1 < here {
+    if there < left {
         return true;
     }
-    let e = skip(code, x, 1);
-    let y = spot(code, x, e);
-    over(code, x, y, e)
+    let e = skip(ds, x, 1);
+    let y = spot(named, ds, code, x, e);
+    over(named, code, x, y, e)
 }
 
 // Whether the root is in the centre with no larger code there: by its two tallest branches, whose heights stand from `from` on.
-fn middle(code: &[u8], hs: &[u8], from: usize) -> bool
-    requires { ⌜ Ends 1 (now code) ⌝ }
-    requires { ⌜ Branches (now code) (now hs) from ⌝ }
-    ensures { λ r. ⌜ Tells (Middle (now (code .entry))) r ⌝ }
+fn middle(named: bool, ds: &[u8], code: &[u8], hs: &[u8], from: usize) -> bool
+    requires { ⌜ now ds ≡ digits (kinds named .arity) (now code) ⌝ }
+    requires { ⌜ Ends 1 (now ds) ⌝ }
+    requires { ⌜ Branches (kinds named) (now code) (now hs) from ⌝ }
+    ensures { λ r. ⌜ Tells (Middle (kinds named) (now (code .entry))) r ⌝ }
 {
     let mut first = 0;
     let mut next = 0;
@@ -320,32 +354,43 @@ fn middle(code: &[u8], hs: &[u8], from: usize) -> bool
     if first - 1 != next {
         return false;
     }
-    above(code, at - from)
+    above(named, ds, code, at - from)
 }
 
 // 14: a right code, whose branches' heights stand from `from` on, that is not the centred one.
-fn judged(code: &[u8], hs: &[u8], from: usize) -> Check
-    requires { ⌜ Ends 1 (now code) ⌝ }
-    requires { ⌜ Ordered (now code) ⌝ }
-    requires { ⌜ Branches (now code) (now hs) from ⌝ }
-    ensures { λ r. ⌜ Answers (row14 centred (now (code .entry)) ∷ []) r ⌝ }
+fn judged(named: bool, ds: &[u8], code: &[u8], hs: &[u8], from: usize) -> Check
+    requires { ⌜ now ds ≡ digits (kinds named .arity) (now code) ⌝ }
+    requires { ⌜ Ends 1 (now ds) ⌝ }
+    requires { ⌜ Ordered (kinds named .arity) (now code) ⌝ }
+    requires { ⌜ Branches (kinds named) (now code) (now hs) from ⌝ }
+    ensures { λ r. ⌜ Answers (row14ₗ (kinds named) (centredₗ (kinds named)) (now (code .entry)) ∷ []) r ⌝ }
 {
-    if middle(code, hs, from) {
+    if middle(named, ds, code, hs, from) {
         return Check::Passed;
     }
     Check::Refuse(14, 0)
 }
 
-// 14: a right rooted code that is not the centred one.
+// 14: a right code of marks that is not the centred one; the digits `ds` tell how many children each mark has.
+pub fn centred_marks(named: bool, limit: u8, ds: &[u8], code: &[u8]) -> Check
+    requires { ⌜ now ds ≡ digits (kinds named .arity) (now code) ⌝ }
+    requires { ⌜ 1 ≤ limit ⌝ }
+    requires { ⌜ Rightₗ (kinds named .arity) (limits named limit) size (now code) ⌝ }
+    ensures { λ r. ⌜ Answers (row14ₗ (kinds named) (centredₗ (kinds named)) (now (code .entry)) ∷ []) r ⌝ }
+{
+    let mut hs = [0u8; SIZE];
+    let mut starts = [0u8; STARTS];
+    let from = scan(named, limit, ds, code, &mut hs, &mut starts);
+    judged(named, ds, code, &hs, from)
+}
+
+// The same of a plain code, whose marks are its digits.
 pub fn centred(limit: u8, code: &[u8]) -> Check
     requires { ⌜ 1 ≤ limit ⌝ }
     requires { ⌜ Clear (codeRows size limit (now code)) ⌝ }
     ensures { λ r. ⌜ Answers (row14 centred (now (code .entry)) ∷ []) r ⌝ }
 {
-    let mut hs = [0u8; SIZE];
-    let mut starts = [0u8; STARTS];
-    let from = scan(limit, code, &mut hs, &mut starts);
-    judged(code, &hs, from)
+    centred_marks(false, limit, code, code)
 }
 
 // Digits lent by themselves that are to be a centred code: 3, 10 to 13, and 14. Which of 3 to 13 a wrong code has is looked for again.
@@ -355,9 +400,9 @@ pub fn check(limit: u8, code: &[u8]) -> Check
 {
     let mut hs = [0u8; SIZE];
     let mut starts = [0u8; STARTS];
-    let from = scan(limit, code, &mut hs, &mut starts);
+    let from = scan(false, limit, code, code, &mut hs, &mut starts);
     if SIZE < from {
         return code::check(limit, code);
     }
-    judged(code, &hs, from)
+    judged(false, code, code, &hs, from)
 }

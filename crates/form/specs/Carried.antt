@@ -10,7 +10,7 @@ use Rattle.code.specs.Code.{digit}
 use Rattle.tree.specs.Skeleton.{degree, IsTree, rooted, Renumbering}
 use Rattle.tree.specs.Forest.{Rooted}
 use Rattle.tree.specs.Grow.{rooted-tree}
-use Rattle.tree.specs.Label.{joinₗ}
+use Rattle.tree.specs.Label.{Marks, joinₗ, rootedₗ, Keeps}
 use Rattle.tree.specs.Codes.{neighbours-perm, near, rooted-join}
 use Rattle.tree.specs.Degree.{roots-length}
 use Rattle.tree.specs.Sorted.{branches-length}
@@ -27,10 +27,15 @@ root-digit N E r t =
     ∙ branches-length base (λ v. tt) (t .forest)
     ∙ sym (perm-length (neighbours-perm r (t .same)) ∙ ap length (near r (t .forest) (t .apart)) ∙ roots-length (t .forest))
 
+-- where vertices have labels, and they are carried too
+pub rooted-carriedₗ : (M : Marks) (N : ℕ) (E F : List ℕ) (l m : ℕ → M .Label) → IsTree N E → (ρ : Renumbering N E F) → Keeps M N E F l m ρ → (v : ℕ) → 1 ≤ v → v ≤ N
+    → rootedₗ M l N E v ≡ rootedₗ M m N F (ρ .to v)
+rooted-carriedₗ M N E F l m t ρ k v a b = same-code M N E F v l m (rooted-tree N E v t a b) ρ k
+
 module _ (N : ℕ) (E F : List ℕ) (t : IsTree N E) (ρ : Renumbering N E F) where
-  pub rooted-carried : (v : ℕ) → 1 ≤ v → v ≤ N → rooted N E v ≡ rooted N F (ρ .to v)
+  rooted-carried : (v : ℕ) → 1 ≤ v → v ≤ N → rooted N E v ≡ rooted N F (ρ .to v)
   rooted-carried v h k =
-      sym (rooted-base (λ v. tt) N E v) ∙ same-code base N E F v (λ v. tt) (λ v. tt) (rooted-tree N E v t h k) ρ (λ v a b. refl) ∙ rooted-base (λ v. tt) N F (ρ .to v)
+      sym (rooted-base (λ v. tt) N E v) ∙ rooted-carriedₗ base N E F (λ v. tt) (λ v. tt) t ρ (λ v a b. refl) v h k ∙ rooted-base (λ v. tt) N F (ρ .to v)
 
   pub degree-carried : (v : ℕ) → 1 ≤ v → v ≤ N → degree E v ≡ degree F (ρ .to v)
   degree-carried v h k =

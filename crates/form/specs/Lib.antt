@@ -2,6 +2,7 @@
 pub mod Form
 pub mod One
 pub mod Carried
+pub mod Labelled
 pub mod Forms
 pub mod Accepted
 pub mod Theorems

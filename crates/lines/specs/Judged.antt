@@ -5,7 +5,7 @@ use Prim.Native.Nat.{ℕ, _≤_}
 use lib.ListN.{length}
 use Rattle.refusal.specs.Table.{Clear, row3}
 use Rattle.limits.specs.Limits.{size}
-use Rattle.code.specs.Code.{row10, row11, row12, row13}
+use Rattle.code.specs.Code.{plain, row10, row11, row12, row13}
 use Rattle.form.specs.Form.{centred, row14, formRows}
 use Rattle.lines.specs.Line.{DigitRow, digitRow, judged}
 use Rattle.lines.specs.Damage.{Code}
@@ -13,7 +13,7 @@ use Rattle.lines.specs.Lawful.{lawful}
 
 -- rows 10 to 13, and 14 where they are not a centred code, as rows about digits; R: neighbours of a vertex, at most
 abbrev pub digitTable : ℕ → List DigitRow
-digitTable R = map digitRow (row10 R ∷ row11 ∷ row12 ∷ row13 ∷ row14 centred ∷ [])
+digitTable R = map digitRow (row10 R ∷ row11 ∷ row12 ∷ row13 plain ∷ row14 centred ∷ [])
 
 -- they are what is refused of digits that are to be a centred code
 pub same-table : (R : ℕ) (c : List ℕ) → row3 size (length c) ∷ judged (digitTable R) c ≡ formRows centred size R c

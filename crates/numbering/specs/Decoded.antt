@@ -10,17 +10,17 @@ use native.Mathlib.Omega.{arith}
 use lib.ListN.{length, getD, length-append}
 use lib.Seq.{getD-at}
 use Rattle.refusal.specs.Table.{Clear}
-use Rattle.code.specs.Code.{digit, childCodes, decode, digitRows}
+use Rattle.code.specs.Code.{plain, digit, childCodes, decode, digitRows}
 use Rattle.code.specs.Ordered.{Ordered}
 use Rattle.tree.specs.Skeleton.{Arc, arcs, neighbours, children, codeAt, IsRooted}
 use Rattle.tree.specs.Forest.{Forest, none, tree, count}
 use Rattle.tree.specs.Codes.{roots, codes-of}
 use Rattle.tree.specs.Decoding.{width, shape, shape-length, number, number-count, edgesOf}
 use Rattle.tree.specs.Right.{read-code}
-use Rattle.tree.specs.Base.{base, code-base}
-use Rattle.tree.specs.Ordered.{strings, strings-shape, down-branches, number-branches, code-ordered}
+use Rattle.tree.specs.Base.{base, code-base, marks-base}
+use Rattle.tree.specs.Ordered.{strings, strings-marks, down-branches, number-branches, code-ordered}
 use Rattle.tree.specs.Accepted.{digits-pass}
-use Rattle.numbering.specs.Standing.{Found, find, Known, whole, at-root, at-other, exact-good, its-digit, its-codes, its-order}
+use Rattle.numbering.specs.Standing.{bare, Found, find, Known, whole, at-root, at-other, exact-good, its-digit, its-codes, its-order}
 
 -- the first digits of codes that stand one behind the other, from digit j on
 unfoldable pub starts : ℕ → List (List ℕ) → List ℕ
@@ -29,7 +29,7 @@ starts j (c ∷ cs) = j ∷ starts (j + length c) cs
 
 -- where the codes of the children of digit i begin: the first behind the digit itself, each other behind the one before it
 unfoldable pub begins : List ℕ → ℕ → List ℕ
-begins c i = starts (i + 1) (childCodes c i)
+begins c i = starts (i + 1) (childCodes plain c i)
 
 -- the parent of vertex i, as the edges have it: the first end of edge i - 1. The root has none, and no vertex is 0
 unfoldable pub parent : List ℕ → ℕ → ℕ
@@ -48,16 +48,16 @@ pub record IsVertex (c : List ℕ) (i : ℕ) : Type 0 where
   -- they are as many as its digit
   pub many : length (begins c i) ≡ digit c i
   -- what hangs at them has its children's codes, in order
-  pub coded : map (codeAt (length c) (arcs (decode c)) i) (begins c i) ≡ childCodes c i
+  pub coded : map (codeAt (length c) (arcs (decode c)) i) (begins c i) ≡ childCodes plain c i
 
 -- ---- proofs
 
-starts-roots : (j : ℕ) (f : Forest) → starts j (strings f) ≡ roots (number j f)
+starts-roots : (j : ℕ) (f : Forest) → starts j (strings base bare f) ≡ roots (number j f)
 unfolding starts strings roots number
 starts-roots j none = refl
 starts-roots j (tree v d f) =
-    let e : j + suc (length (flatten (strings d))) ≡ suc j + count d = omega (arith, ap length (strings-shape d), shape-length d) in
-    ap (λ l. j ∷ l) (ap (λ n. starts n (strings f)) e ∙ starts-roots (suc j + count d) f)
+    let e : j + suc (length (flatten (strings base bare d))) ≡ suc j + count d = omega (arith, ap length (strings-marks base bare d ∙ marks-base bare d), shape-length d) in
+    ap (λ l. j ∷ l) (ap (λ n. starts n (strings base bare f)) e ∙ starts-roots (suc j + count d) f)
 
 number-width : (j : ℕ) (f : Forest) → length (roots (number j f)) ≡ width f
 unfolding roots number width
@@ -72,17 +72,16 @@ module _ (c : List ℕ) {p i : ℕ} (k : Known c p i) where
   begins-many : length (begins c i) ≡ digit c i
   begins-many = ap length begins-roots ∙ number-width (suc i) (k .below) ∙ sym (its-digit c k)
 
-  begins-coded : Ordered c → map (codeAt (length c) (arcs (decode c)) i) (begins c i) ≡ childCodes c i
+  begins-coded : Ordered plain c → map (codeAt (length c) (arcs (decode c)) i) (begins c i) ≡ childCodes plain c i
   begins-coded o =
       let A : List Arc = arcs (decode c) in
       let f : Forest = k .below in
-      let l : ℕ → Unit {0} = λ v. tt in
       let n : length c ≡ length (k .front) + suc (length (shape f) + length (k .rest)) = ap length (k .digits) ∙ (simp length-append) in
       ap (map (codeAt (length c) A i)) begins-roots
-      ∙ sym (λ t. map (λ w. code-base l (length c) A i w t) (roots (number (suc i) f)))
-      ∙ codes-of base l A (length c) i (number (suc i) f) (omega (arith, shape-length f, number-count (suc i) f)) (exact-good A i (suc i) f (omega arith) (k .near))
-      ∙ number-branches l (suc i) f
-      ∙ down-branches l f (its-order c k o .1)
+      ∙ sym (λ t. map (λ w. code-base bare (length c) A i w t) (roots (number (suc i) f)))
+      ∙ codes-of base bare A (length c) i (number (suc i) f) (omega (arith, shape-length f, number-count (suc i) f)) (exact-good A i (suc i) f (omega arith) (k .near))
+      ∙ number-branches bare (suc i) f
+      ∙ down-branches base bare f (its-order c k o .1)
       ∙ sym (its-codes c k)
 
 module _ (c : List ℕ) (n : ℕ) (y : Found c (decode c) (arcs (decode c)) (suc (suc n))) where
@@ -100,7 +99,7 @@ module _ (c : List ℕ) (n : ℕ) (y : Found c (decode c) (arcs (decode c)) (suc
       ap (λ l. getD l (2 * (suc (suc n) - 2) + 1) 0) (y .part .edges ∙ sym (append-assoc (y .part .before) (y .up ∷ []) (suc (suc n) ∷ others)))
       ∙ getD-at (y .part .before ++ (y .up ∷ [])) (suc (suc n)) others 0 (2 * (suc (suc n) - 2) + 1) (omega (arith, y .part .passed, length-append (y .part .before) (y .up ∷ [])))
 
-  other : Ordered c → IsVertex c (suc (suc n))
+  other : Ordered plain c → IsVertex c (suc (suc n))
   unfolding number at-other
   other o =
       let k : Known c (y .up) (suc (suc n)) = at-other c y in

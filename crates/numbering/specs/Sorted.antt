@@ -12,6 +12,7 @@ use Rattle.laws.specs.Order.{_≽_, dec≽, insert, sort}
 use Rattle.laws.specs.Sorting.{trans≽, below≽}
 use Rattle.code.specs.Code.{sum}
 use Rattle.code.specs.Counting.{sum-append}
+use Rattle.code.specs.Two.{map-flatten}
 use Rattle.numbering.specs.Order.{insertBy, sortBy, place, looked, pairs, orderBy, marksBy}
 
 pub flatten-length : (cs : List (List ℕ)) → length (flatten cs) ≡ sum (map length cs)
@@ -129,11 +130,6 @@ pairs-more (d ∷ cs) c =
     omega (arith, pairs-more cs c)
 
 -- ---- marks
-
-map-flatten : (m : ℕ → ℕ) (cs : List (List ℕ)) → map m (flatten cs) ≡ flatten (map (map m) cs)
-unfolding flatten
-map-flatten m [] = refl
-map-flatten m (c ∷ cs) = map-append m c (flatten cs) ∙ ap (λ l. map m c ++ l) (map-flatten m cs)
 
 -- the marks of the vertices in their order are sorted likewise
 pub order-marks : (m : ℕ → ℕ) (K : ℕ → ℕ → List ℕ) (n p v : ℕ) → map m (orderBy m K n p v) ≡ marksBy m K n p v

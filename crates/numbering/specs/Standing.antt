@@ -10,14 +10,19 @@ use native.Mathlib.Omega.{arith}
 use lib.ListN.{length, getD, take, drop, length-append}
 use lib.Seq.{getD-at, drop-at}
 use Rattle.laws.specs.Order.{Falling}
-use Rattle.code.specs.Code.{codes, childCodes, digit, decode}
+use Rattle.code.specs.Code.{plain, codes, childCodes, digit, decode}
 use Rattle.code.specs.Ordered.{Ordered}
 use Rattle.tree.specs.Skeleton.{Arc, arcs, neighbours, children}
 use Rattle.tree.specs.Forest.{Forest, none, tree, vertices, count, hung}
 use Rattle.tree.specs.Codes.{roots, root-in, neighbours-none, neighbours-past, neighbours-append, far, near, full, Good, but, but-none, but-first}
 use Rattle.tree.specs.Decoding.{width, shape, shape-length, number, number-count, edgesOf, edges-hung, decode-forest}
 use Rattle.tree.specs.Right.{number-in, edges-length}
+use Rattle.tree.specs.Base.{base, marks-base}
 use Rattle.tree.specs.Ordered.{strings, first-codes, Down, ordered-forest}
+
+-- no labels
+abbrev pub bare : ℕ → Unit {0}
+bare v = tt
 
 -- ---- neighbours
 
@@ -229,17 +234,21 @@ module _ (c : List ℕ) where
         ap (drop (suc (length (k .front)))) (k .digits ∙ (sym (append-assoc (k .front) (width (k .below) ∷ []) (shape (k .below) ++ k .rest))))
         ∙ drop-at (k .front ++ (width (k .below) ∷ [])) (shape (k .below) ++ k .rest) (suc (length (k .front))) n
 
-    pub its-codes : childCodes c i ≡ strings (k .below)
+    -- the codes that its digits make
+    first : take (width (k .below)) (codes plain (shape (k .below) ++ k .rest)) ≡ strings base bare (k .below)
+    first = rw marks-base at (first-codes base bare (k .below) (k .rest))
+
+    pub its-codes : childCodes plain c i ≡ strings base bare (k .below)
     unfolding childCodes
     its-codes =
-        ap₂ (λ n l. take n (codes l)) its-digit (ap (λ n. drop n c) (sym (k .place)) ∙ behind)
-        ∙ first-codes (k .below) (k .rest)
+        ap₂ (λ n l. take n (codes plain l)) its-digit (ap (λ n. drop n c) (sym (k .place)) ∙ behind)
+        ∙ first
 
-    pub its-order : Ordered c → Falling (strings (k .below)) × Down (k .below)
+    pub its-order : Ordered plain c → Falling (strings base bare (k .below)) × Down base bare (k .below)
     its-order o =
         let (a, b) = tail (k .front) (width (k .below) ∷ (shape (k .below) ++ k .rest)) (rw (k .digits) at o) in
-        (rw first-codes at a, ordered-forest (k .below) (k .rest) .0 b .0)
+        (rw first at a, (rw marks-base at (ordered-forest base bare (k .below) (k .rest))) .0 b .0)
       where
-        tail : (x y : List ℕ) → Ordered (x ++ y) → Ordered y
+        tail : (x y : List ℕ) → Ordered plain (x ++ y) → Ordered plain y
         tail [] y o = o
         tail (n ∷ x) y o = tail x y (o .1)

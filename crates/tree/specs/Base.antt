@@ -2,19 +2,22 @@
 -- on degrees. Assumes nothing.
 use mathlib.Core.Path.{_≡_, refl, sym, _∙_}
 use mathlib.Core.Logic.{_↔_}
-use mathlib.Core.List.{List, [], _∷_, map, map-id, List·Memᴰ}
-use Prim.Native.Nat.{ℕ, zero, suc, _+_, _-_, _≤_}
+use mathlib.Core.List.{List, [], _∷_, map, map-id}
+use Prim.Native.Nat.{ℕ, zero, suc, _+_, _≤_}
 use native.Mathlib.Omega.{arith}
-use lib.ListN.{length, getD}
-use Rattle.laws.specs.Places.{at-in, place, place-at}
+use lib.ListN.{length}
+use Rattle.laws.specs.Places.{place-at}
 use Rattle.code.specs.Code.{digit, sum, cap}
 use Rattle.code.specs.Ends.{Ends, ends-open}
 use Rattle.tree.specs.Skeleton.{Arc, arcs, children, join, codeAt, rooted, IsRooted}
+use Rattle.tree.specs.Forest.{Forest}
 use Rattle.tree.specs.Label.{Marks, joinₗ, codeₗ, rootedₗ, digits, IsRootedₗ, Fits}
+use Rattle.tree.specs.Decoding.{shape, marks, marks-digits}
+use Rattle.tree.specs.Degree.{fits-capped}
 
 -- one label, and the digit for the mark
 abbrev pub base : Marks
-base = record { Label = Unit {0}; mark = λ k a. k; arity = λ m. m; atom = λ m. tt; arity-mark = λ k a. refl; atom-mark = λ k a. refl }
+base = record { Label = Unit {0}; mark = λ k a. k; arity = λ m. m; atom = λ m. tt; arity-mark = λ k a. refl; atom-mark = λ k a. refl; mark-of = λ m. refl }
 
 pub code-base : (l : ℕ → Unit {0}) (n : ℕ) (A : List Arc) (p v : ℕ) → codeₗ base l n A p v ≡ codeAt n A p v
 unfolding codeₗ codeAt join joinₗ
@@ -50,24 +53,12 @@ is-rooted c = (
   },
 )
 
+pub marks-base : (l : ℕ → Unit {0}) (f : Forest) → marks base l f ≡ shape f
+marks-base l f = sym (digits-base (marks base l f)) ∙ marks-digits base l f
+
 -- every digit respects the caps
 pub caps : (R : ℕ) (c : List ℕ) → Ends 1 c → Fits base (λ a. R) c ↔ ((p : ℕ) → 1 ≤ p → p ≤ length c → digit c p ≤ cap R p)
 unfolding sum
 caps R [] h = absurd h
-caps R (k ∷ ds) h = (there, back)
-  where
-    there : (k ≤ R) × ((d : ℕ) → List·Memᴰ d ds → d + 1 ≤ R) → (p : ℕ) → 1 ≤ p → p ≤ suc (length ds) → digit (k ∷ ds) p ≤ cap R p
-    there f zero a b = let z : ⊥ = omega arith in absurd z
-    there f (suc zero) a b = f .0
-    there f (suc (suc p)) a b =
-        let e : suc (suc p) - 1 ≡ suc p = omega arith in
-        rw e (omega (arith, f .1 (getD ds p 0) (at-in ds p 0 (omega arith))))
-
-    back : ((p : ℕ) → 1 ≤ p → p ≤ suc (length ds) → digit (k ∷ ds) p ≤ cap R p) → (k ≤ R) × ((d : ℕ) → List·Memᴰ d ds → d + 1 ≤ R)
-    back g = (
-      g 1 (omega arith) (omega arith),
-      λ d m.
-          let (i, e) = place-at d ds m in
-          let n : suc (suc (place d ds)) - 1 ≡ suc (place d ds) = omega arith in
-          omega (arith, rw n at (g (suc (suc (place d ds))) (omega arith) (omega arith)), g 1 (omega arith) (omega arith), ends-open (k + 0) ds h 0 (omega arith)),
-    )
+caps R (k ∷ ds) h =
+    fits-capped base (λ a. R) k ds (λ g d m. let (i, e) = place-at d ds m in omega (arith, g 1 (omega arith) (omega arith), ends-open (k + 0) ds h 0 (omega arith)))

@@ -2,13 +2,14 @@
 use mathlib.Core.Path.{_≡_, refl, ap, _∙_}
 use mathlib.Core.Logic.{_↔_, ⊎-elim}
 use mathlib.Core.List.{List, [], _∷_, _++_, List·Memᴰ, List·Memᴰ·head, List·Memᴰ·tail, List·Memᴰ·append-cases, List·Memᴰ·cases-cons, List·Memᴰ·not-nil, Memᴰ·append-left, Memᴰ·append-right}
-use Prim.Native.Nat.{ℕ, suc, _+_, _≤_}
+use Prim.Native.Nat.{ℕ, zero, suc, _+_, _-_, _≤_}
 use native.Mathlib.Omega.{arith}
-use lib.ListN.{length}
+use lib.ListN.{length, getD}
 use Rattle.laws.specs.Perms.{perm-length}
+use Rattle.laws.specs.Places.{at-in, place, place-at}
 use Rattle.tree.specs.Skeleton.{Arc, arcs, neighbours, degree}
 use Rattle.tree.specs.Forest.{Forest, none, tree, vertices, Rooted}
-use Rattle.tree.specs.Label.{Marks, rootedₗ, Valences, Fits}
+use Rattle.tree.specs.Label.{Marks, rootedₗ, Valences, Fits, Capped}
 use Rattle.tree.specs.Codes.{roots, neighbours-perm, near, Good, good}
 use Rattle.tree.specs.Decoding.{width, marks}
 use Rattle.tree.specs.Sorted.{sorted, rooted-marks}
@@ -72,3 +73,24 @@ module _ (M : Marks) (most : M .Label → ℕ) (label : ℕ → M .Label) where
         ),
         λ (h, k) v i j. ⊎-elim (λ q. rw q (omega arith)) (low-degrees A r f g .1 (low-marks f .0 k) v) (List·Memᴰ·cases-cons (t .all v i j)),
       )
+
+-- the bound on the marks is the bound by places, where each vertex but the root may have one neighbour
+pub fits-capped : (M : Marks) (most : M .Label → ℕ) (m : ℕ) (ms : List ℕ) → (Capped M most (m ∷ ms) → (d : ℕ) → List·Memᴰ d ms → 1 ≤ most (M .atom d))
+    → Fits M most (m ∷ ms) ↔ Capped M most (m ∷ ms)
+fits-capped M most m ms one = (there, back)
+  where
+    there : Fits M most (m ∷ ms) → Capped M most (m ∷ ms)
+    there f zero a b = let z : ⊥ = omega arith in absurd z
+    there f (suc zero) a b = f .0
+    there f (suc (suc p)) a b =
+        let e : suc (suc p) - 1 ≡ suc p = omega arith in
+        rw e (omega (arith, f .1 (getD ms p 0) (at-in ms p 0 (omega arith))))
+
+    back : Capped M most (m ∷ ms) → Fits M most (m ∷ ms)
+    back g = (
+      g 1 (omega arith) (omega arith),
+      λ d k.
+          let (i, e) = place-at d ms k in
+          let n : suc (suc (place d ms)) - 1 ≡ suc (place d ms) = omega arith in
+          omega (arith, rw (n, e) at (g (suc (suc (place d ms))) (omega arith) (omega arith)), one g d k),
+    )

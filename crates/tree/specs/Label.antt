@@ -2,12 +2,16 @@
 -- 01's codes are those with one label, and a digit for a mark (`Base`).
 --
 -- Decoding needs nothing of its own: it reads the digits off the marks. Nor does the renumbering of a skeleton: that it keeps the labels
--- is said beside it. Assumes nothing.
+-- is said beside it.
+--
+-- In order: marks; the code; what it tells; the bound on neighbours, and what is refused of marks. Assumes nothing.
 use mathlib.Core.Path.{_≡_}
 use mathlib.Core.List.{List, [], _∷_, map, flatten, List·Memᴰ}
-use Prim.Native.Nat.{ℕ, zero, suc, _+_, _-_, _≤_}
+use Prim.Native.Nat.{ℕ, zero, suc, _+_, _-_, _≤_, _<_}
 use lib.ListN.{length, getD}
 use Rattle.laws.specs.Order.{sort}
+use Rattle.refusal.specs.Table.{Row}
+use Rattle.code.specs.Code.{digit, cap, row10, row11, row12, row13}
 use Rattle.tree.specs.Skeleton.{Arc, arcs, degree, children, IsTree, Renumbering}
 
 -- how a vertex is written, by the number of its children and its label, and how the two are read off again
@@ -18,6 +22,7 @@ pub record Marks : Type 1 where
   pub atom : ℕ → Label
   pub arity-mark : (k : ℕ) (a : Label) → arity (mark k a) ≡ k
   pub atom-mark : (k : ℕ) (a : Label) → atom (mark k a) ≡ a
+  pub mark-of : (m : ℕ) → mark (arity m) (atom m) ≡ m
 
 module _ (M : Marks) where
   -- the mark of a vertex with the label a, then its children's codes, largest first
@@ -62,3 +67,15 @@ module _ (M : Marks) where
   abbrev pub Fits : (M .Label → ℕ) → List ℕ → Type 0
   Fits most [] = ⊥
   Fits most (m ∷ ms) = (M .arity m ≤ most (M .atom m)) × ((d : ℕ) → List·Memᴰ d ms → M .arity d + 1 ≤ most (M .atom d))
+
+  -- and by places
+  abbrev pub Capped : (M .Label → ℕ) → List ℕ → Type 0
+  Capped most c = (p : ℕ) → 1 ≤ p → p ≤ length c → M .arity (digit c p) ≤ cap (most (M .atom (digit c p))) p
+
+  -- 20: a vertex has more neighbours than its label allows; the place is its mark
+  abbrev pub row20 : (M .Label → ℕ) → List ℕ → Row
+  row20 most c = record { number = 20; applies = λ p. (1 ≤ p) × (p ≤ length c) × (cap (most (M .atom (digit c p))) p < M .arity (digit c p)) }
+
+  -- what is refused of marks, where no vertex has more than R neighbours
+  abbrev pub markRows : ℕ → (M .Label → ℕ) → List ℕ → List Row
+  markRows R most c = row10 R (digits c) ∷ row20 most c ∷ row11 (digits c) ∷ row12 (digits c) ∷ row13 (M .arity) c ∷ []

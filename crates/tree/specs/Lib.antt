@@ -15,6 +15,7 @@ pub mod Right
 pub mod Degree
 pub mod General
 pub mod Base
+pub mod Atoms
 pub mod Theorems
 pub mod Ordered
 pub mod Accepted

@@ -8,7 +8,7 @@ use lib.ListN.{length, getD, drop}
 use Rattle.laws.specs.Order.{_≽_}
 use Rattle.laws.specs.Part.{part, part-length}
 use Rattle.laws.specs.Sorting.{refl≽}
-use Rattle.code.specs.Code.{codes}
+use Rattle.code.specs.Code.{plain, codes}
 use Rattle.code.specs.Search.{Known}
 use Rattle.code.specs.Compare.{lex, lex-says, Compares, less, equal, greater}
 use Rattle.code.specs.declared.Order.{Order}
@@ -33,14 +33,14 @@ less-apart p q = let z : _≡_ {A = ℕ} 0 1 = cc in omega arith
 pub greater-apart : {o : Order} → o ≡ Greater → o ≡ Equal → ⊥
 greater-apart p q = let z : _≡_ {A = ℕ} 0 1 = cc in omega arith
 
-module _ {c ends deep : List ℕ} {u v : ℕ} (k : Known c ends 0) (d : Deep c deep) (in-u : u < length c) (in-v : v < length c) where
+module _ {c ends deep : List ℕ} {u v : ℕ} (k : Known plain c ends 0) (d : Deep c deep) (in-u : u < length c) (in-v : v < length c) where
   depth-is : (i : ℕ) → i < length c → depth c (suc i) ≡ getD deep i 0
   depth-is i h = let e : suc i - 1 ≡ i = omega arith in ap (λ (x : ℕ). getD (depths c) x 0) e ∙ sym (d .each i h)
 
   subtree-is : (i : ℕ) → i < length c → subtree c (suc i) ≡ part i (getD ends i 0) c
   subtree-is i h =
       let e : suc i - 1 ≡ i = omega arith in
-      ap (λ (x : ℕ). getD (codes (drop x c)) 0 []) e ∙ ap (λ (x : List (List ℕ)). getD x 0 []) (k .ending i (omega arith) h .part)
+      ap (λ (x : ℕ). getD (codes plain (drop x c)) 0 []) e ∙ ap (λ (x : List (List ℕ)). getD x 0 []) (k .ending i (omega arith) h .part)
 
   pub depths-differ : (getD deep u 0 ≡ getD deep v 0 → ⊥) → Tells c (suc u) (suc v) false
   depths-differ n = different (λ h. n (sym (depth-is u in-u) ∙ h .0 ∙ depth-is v in-v))

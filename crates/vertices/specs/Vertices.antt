@@ -7,7 +7,7 @@ use mathlib.Core.Path.{_≡_}
 use mathlib.Core.List.{List, [], _∷_, _++_}
 use Prim.Native.Nat.{ℕ, suc, _-_}
 use lib.ListN.{length, getD, drop, replicate}
-use Rattle.code.specs.Code.{codes}
+use Rattle.code.specs.Code.{plain, codes}
 use Rattle.vertices.specs.Numbering.{ByAppearance}
 
 -- How many edges each vertex is away from the root. W: the places still open, nearest first, each by the depth of the vertex that is to
@@ -26,7 +26,7 @@ depth c v = getD (depths c) (v - 1) 0
 
 -- the code of vertex v with all that hangs on it: the first of those that the digits from v on make
 abbrev pub subtree : List ℕ → ℕ → List ℕ
-subtree c v = getD (codes (drop (v - 1) c)) 0 []
+subtree c v = getD (codes plain (drop (v - 1) c)) 0 []
 
 -- u and v have equal depth and equal subtree code
 abbrev pub Alike : List ℕ → ℕ → ℕ → Type 0

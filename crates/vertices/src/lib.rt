@@ -10,6 +10,7 @@ ghost use lib.ListN.{length, take};
 ghost use Rattle.laws.specs.Laid.{Laid};
 ghost use Rattle.limits.specs.Limits.{size};
 ghost use Rattle.code.specs.Ends.{Ends};
+ghost use Rattle.code.specs.Code.{plain};
 ghost use Rattle.code.specs.Search.{Known};
 ghost use Rattle.vertices.specs.Classes.{classOf, alike?, classes};
 ghost use Rattle.vertices.specs.Search.{Deep, Tells};
@@ -35,7 +36,7 @@ fn depths_of(code: &[u8], deep: &mut [u8])
 
 // Whether the vertices of digits u and v have equal depth and equal subtree code. Codes of different lengths are told apart unread.
 fn alike(code: &[u8], ends: &[u8], deep: &[u8], u: usize, v: usize) -> bool
-    requires { ⌜ Known (now code) (now ends) 0 ⌝ }
+    requires { ⌜ Known plain (now code) (now ends) 0 ⌝ }
     requires { ⌜ Deep (now code) (now deep) ⌝ }
     requires { ⌜ u < length (now code) ⌝ }
     requires { ⌜ v < length (now code) ⌝ }
@@ -60,7 +61,7 @@ fn alike(code: &[u8], ends: &[u8], deep: &[u8], u: usize, v: usize) -> bool
 
 // The class of the first vertex before that of digit v which is like it; `new` where there is none.
 fn class_of(code: &[u8], ends: &[u8], deep: &[u8], known: &[u8], v: usize, new: u8) -> u8
-    requires { ⌜ Known (now code) (now ends) 0 ⌝ }
+    requires { ⌜ Known plain (now code) (now ends) 0 ⌝ }
     requires { ⌜ Deep (now code) (now deep) ⌝ }
     requires { ⌜ v < length (now code) ⌝ }
     requires { ⌜ v ≤ length (now known) ⌝ }

@@ -1,13 +1,14 @@
 -- `code::end_of` meets its contract: the loop passes the children of the digit one by one. Assumes nothing.
 use Prim.Native.Nat.{_-_, _≤_}
 use native.Mathlib.Omega.{arith}
+use Rattle.code.specs.Code.{plain}
 use Rattle.code.specs.Parts.{Passing}
 use Rattle.code.proofs.Scanning.{begin, within, pass, last}
 use Rattle.code.proofs.end_of.Statement.{statement}
 use Rattle.code.proofs.end_of.Tie as tie
 
 abbrev Inv-loop : tie.InvT-loop
-Inv-loop code ends i k e₀ m₀ e m = (m ≤ k) × Passing code i m e
+Inv-loop code ends i k e₀ m₀ e m = (m ≤ k) × Passing plain code i m e
 
 abbrev μ-loop : tie.MeasureT-loop
 μ-loop code ends i k e₀ m₀ e m = k - m

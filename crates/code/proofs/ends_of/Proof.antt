@@ -2,14 +2,17 @@
 use mathlib.Core.Path.{_≡_, refl, sym, _∙_}
 use Prim.Native.Nat.{_≤_}
 use native.Mathlib.Omega.{arith}
+use denote.Ref.{now}
 use lib.ListN.{length}
+use Rattle.code.specs.Code.{plain}
+use Rattle.code.specs.Ends.{plain-ends}
 use Rattle.code.specs.Search.{Known}
 use Rattle.code.proofs.Scanning.{start, down, learn, settled}
 use Rattle.code.proofs.ends_of.Statement.{statement}
 use Rattle.code.proofs.ends_of.Tie as tie
 
 abbrev Inv-loop : tie.InvT-loop
-Inv-loop code ends₀ i₀ ends i = (i ≤ length code) × ((length ends ≡ length ends₀) × Known code ends i)
+Inv-loop code ends₀ i₀ ends i = (i ≤ length code) × ((length ends ≡ length ends₀) × Known plain code ends i)
 
 abbrev μ-loop : tie.MeasureT-loop
 μ-loop code ends₀ i₀ ends i = i
@@ -20,7 +23,7 @@ ends-of-spec =
     (tie.spec
     Inv-loop
     μ-loop
-    (λ c. let s = c .before .before in (omega arith, (refl, start (s .pre .0) (s .pre .1 .0) (s .pre .1 .1))))
+    (λ c. let s = c .before .before in (omega arith, (refl, start (plain-ends 1 (now (s .args .code)) (s .pre .0)) (s .pre .1 .0) (s .pre .1 .1))))
     (λ c. omega arith)
     (λ c κs. (down (omega arith) (omega arith) (c .before .before .loop .inv .1 .1), omega arith))
     (λ c. omega (arith, c .end-of .ensures .within))

@@ -1,34 +1,11 @@
--- `code::ordered` meets its contract: the loop keeps the lowest place of a larger child of the digits passed. Assumes nothing.
-use mathlib.Core.Path.{refl, sym}
-use Prim.Native.Nat.{_-_, _≤_}
-use native.Mathlib.Omega.{arith}
+-- `code::ordered` meets its contract: a plain code's marks are its digits. Assumes nothing.
+use mathlib.Core.Path.{sym}
+use denote.Ref.{now}
 use borrow.Author.Needs.{needs}
-use lib.ListN.{length}
-use Rattle.code.specs.Search.{Known}
-use Rattle.code.proofs.Lowest.{Best, best-none, best-next, all-fall, one-rises}
+use Rattle.code.specs.Ends.{digits-plain}
 use Rattle.code.proofs.ordered.Statement.{statement}
 use Rattle.code.proofs.ordered.Tie as tie
 
-abbrev Inv-loop : tie.InvT-loop
-Inv-loop code ends best₀ i₀ best i = (i ≤ length code) × (Known code ends 0 × Best code i best)
-
-abbrev μ-loop : tie.MeasureT-loop
-μ-loop code ends best₀ i₀ best i = length code - i
-
 pub ordered-spec : {M : Type 1} → statement M
 ordered-spec =
-    tie.close
-    (tie.spec
-    Inv-loop
-    μ-loop
-    (λ c. refl)
-    (λ c κs. (c .before .before .pre .0, (c .before .before .pre .1, refl)))
-    (λ c. (omega arith, (c .before .ends-of .ensures, best-none _)))
-    (λ c. sym (c .before .before .loop .inv .1 .0 .long))
-    (λ c κs. (c .before .before .loop .inv .1 .0, omega arith))
-    (λ c κs. search needs)
-    (λ c. omega arith)
-    (λ c. omega arith)
-    (λ c. (omega arith, (c .before .before .before .before .loop .inv .1 .0, best-next (c .before .before .before .before .loop .inv .1 .1) (c .before .larger-of .ensures) (c .lower .ensures))))
-    (λ c. all-fall (c .before .before .loop .inv .1 .1) (omega arith) (c .if1 .taken))
-    (λ c. one-rises (c .before .before .loop .inv .1 .1) (omega arith) (c .if1 .left)))
+    tie.close (tie.spec (λ c κs. let s = c .before in (sym (digits-plain (now (s .args .code))), s .pre)) (λ c. search needs))

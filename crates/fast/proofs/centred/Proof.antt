@@ -1,9 +1,10 @@
--- `fast::centred` meets its contract. Assumes nothing.
+-- `fast::centred` meets its contract: a plain code's marks are its digits. Assumes nothing.
+use mathlib.Core.Path.{sym}
 use denote.Ref.{now}
-use borrow.Author.Needs.{needs}
 use Rattle.limits.specs.Limits.{size}
-use Rattle.code.specs.Right.{clear-right}
-use Rattle.fast.specs.Scan.{right-scanned}
+use Rattle.code.specs.Ends.{digits-plain}
+use Rattle.code.specs.Right.{clear-right, right-plain}
+use Rattle.fast.specs.Answer.{plain-answer}
 use Rattle.fast.proofs.centred.Statement.{statement}
 use Rattle.fast.proofs.centred.Tie as tie
 
@@ -11,12 +12,7 @@ pub centred-spec : {M : Type 1} → statement M
 centred-spec =
     tie.close
     (tie.spec
-    (λ c. search needs)
-    (λ c. search needs)
-    (λ c κs. search needs)
-    (λ c. search needs)
-    (λ c κs. let d = c .before .before .before in
-    let s = d .before .before .before .before in
-    let (k, b) = d .scan .ensures .good (right-scanned (d .scan .ensures) (clear-right size (s .args .limit) (now (s .args .code)) (s .pre .1))) in
-    (k .ends, (k .ordered, b)))
-    (λ c. search needs))
+    (λ c κs. let s = c .before in
+    let code = now (s .args .code) in
+    (sym (digits-plain code), (s .pre .0, right-plain size (s .args .limit) code .1 (clear-right size (s .args .limit) code (s .pre .1)))))
+    (λ c. plain-answer (now (c .before .before .args .code)) (c .centred-marks .ensures)))

@@ -7,15 +7,16 @@ use lib.ListN.{getD}
 use borrow.Author.Tests.{not-true, not-false}
 use Rattle.code.specs.Compare.{was-falling, was-rising}
 use Rattle.fast.specs.Stack.{top-more, top-same, top-last}
+use Rattle.fast.specs.Kinds.{kinds}
 use Rattle.fast.specs.Placed.{Joins, Joining, join-none, join-start, join-first, join-second, join-within, join-next, join-stop, join-last}
 use Rattle.fast.proofs.joined.Statement.{statement}
 use Rattle.fast.proofs.joined.Tie as tie
 
 abbrev Inv-loop : tie.InvT-loop
-Inv-loop code hs starts at end j₀ best₀ j best = Joining code hs (getD starts at 0) at end j best
+Inv-loop named code hs starts at end j₀ best₀ j best = Joining (kinds named .arity) code hs (getD starts at 0) at end j best
 
 abbrev μ-loop : tie.MeasureT-loop
-μ-loop code hs starts at end j₀ best₀ j best = j
+μ-loop named code hs starts at end j₀ best₀ j best = j
 
 abbrev start : tie.At-loop Inv-loop μ-loop → tie.Start Inv-loop μ-loop
 start c = c .before .before .before .before .before .before
@@ -28,7 +29,7 @@ joined-spec =
     μ-loop
     (λ c. let a = c .before .before .before .before .args in
     let n : a .at ≡ a .end = omega arith in
-    subst (λ (e : ℕ). Joins (now (a .code)) (now (a .hs)) (getD (now (a .starts)) (a .at) 0) (a .at) e 1) n (join-none (now (a .code)) (now (a .hs)) (getD (now (a .starts)) (a .at) 0) (a .at)))
+    subst (λ (e : ℕ). Joins (kinds (a .named) .arity) (now (a .code)) (now (a .hs)) (getD (now (a .starts)) (a .at) 0) (a .at) e 1) n (join-none (kinds (a .named) .arity) (now (a .code)) (now (a .hs)) (getD (now (a .starts)) (a .at) 0) (a .at)))
     (λ c. omega arith)
     (λ c. omega arith)
     (λ c. join-start (omega arith) (omega arith))

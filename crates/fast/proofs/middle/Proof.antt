@@ -5,10 +5,10 @@ use Rattle.fast.proofs.middle.Statement.{statement}
 use Rattle.fast.proofs.middle.Tie as tie
 
 abbrev Inv-loop : tie.InvT-loop
-Inv-loop code hs from first₀ next₀ at₀ j₀ first next at j = Race hs from j first next at
+Inv-loop named ds code hs from first₀ next₀ at₀ j₀ first next at j = Race hs from j first next at
 
 abbrev μ-loop : tie.MeasureT-loop
-μ-loop code hs from first₀ next₀ at₀ j₀ first next at j = j
+μ-loop named ds code hs from first₀ next₀ at₀ j₀ first next at j = j
 
 pub middle-spec : {M : Type 1} → statement M
 middle-spec =
@@ -16,7 +16,7 @@ middle-spec =
     (tie.spec
     Inv-loop
     μ-loop
-    (λ c. race-start (c .before .before .pre .1 .inside))
+    (λ c. race-start (c .before .before .before .pre .1 .1 .inside))
     (λ c. omega arith)
     (λ c. omega arith)
     (λ c. omega arith)
@@ -25,12 +25,12 @@ middle-spec =
     (λ c. race-low (c .before .before .before .before .loop .inv) (omega arith) (omega arith) (omega arith))
     (λ c. omega arith)
     (λ c. race-first (c .before .before .before .loop .inv) (omega arith) (omega arith))
-    (λ c. let l = c .before .before in race-even (l .loop .inv) (omega arith) (l .before .before .before .pre .1) (c .if3 .taken))
+    (λ c. let l = c .before .before in race-even (l .loop .inv) (omega arith) (l .before .before .before .before .pre .1 .1) (c .if3 .taken))
     (λ c. let l = c .before .before in omega (arith, race-high (l .loop .inv)))
     (λ c. let l = c .before .before .before in
-    race-apart (l .loop .inv) (omega arith) (l .before .before .before .pre .1) (c .before .if3 .left) (λ e. let z : _ = c .if4 .taken in z (omega arith)))
+    race-apart (l .loop .inv) (omega arith) (l .before .before .before .before .pre .1 .1) (c .before .if3 .left) (λ e. let z : _ = c .if4 .taken in z (omega arith)))
     (λ c. let l = c .before .before .before in omega (arith, l .loop .inv .at-is))
     (λ c κs. let l = c .before .before .before in
-    (l .before .before .before .pre .0, race-inside (l .loop .inv) (omega arith) (l .before .before .before .pre .1) (c .before .if3 .left)))
+    (l .before .before .before .before .pre .0, (l .before .before .before .before .pre .1 .0, race-inside (l .loop .inv) (omega arith) (l .before .before .before .before .pre .1 .1) (c .before .if3 .left))))
     (λ c. let l = c .before .before .before .before in
-    race-close (l .loop .inv) (omega arith) (l .before .before .before .pre .1) (c .before .before .if3 .left) (omega (arith, race-high (l .loop .inv))) (c .above .ensures)))
+    race-close (l .loop .inv) (omega arith) (l .before .before .before .before .pre .1 .1) (c .before .before .if3 .left) (omega (arith, race-high (l .loop .inv))) (c .above .ensures)))

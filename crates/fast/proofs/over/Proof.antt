@@ -3,6 +3,7 @@ use mathlib.Core.Path.{sym, _∙_}
 use native.Mathlib.Omega.{arith}
 use denote.Ref.{now}
 use borrow.Author.Needs.{needs}
+use Rattle.fast.specs.Kinds.{kinds}
 use Rattle.fast.specs.Over.{over-not, over-so, over-by}
 use Rattle.fast.proofs.over.Statement.{statement}
 use Rattle.fast.proofs.over.Tie as tie
@@ -25,8 +26,8 @@ over-spec =
     (λ c κs. search needs)
     (λ c. search needs)
     (λ c. let a = c .before .before .before .before .before .before .args in
-    over-not (now (a .code)) (a .x) (a .y) (a .e) (omega arith) (omega arith) (omega arith) (omega arith) _ (sym (c .before .before .compare .ensures) ∙ c .enum-told .given .1))
+    over-not (kinds (a .named)) (now (a .code)) (a .x) (a .y) (a .e) (omega arith) (omega arith) (omega arith) (omega arith) _ (sym (c .before .before .compare .ensures) ∙ c .enum-told .given .1))
     (λ c. let a = c .before .before .before .before .before .before .before .args in
-    over-by (now (a .code)) (a .x) (a .y) (a .e) (omega arith) (omega arith) (omega arith) (omega arith) _ (sym (c .before .before .before .compare .ensures) ∙ c .before .enum-told2 .given .1) (c .over-rest .ensures))
+    over-by (kinds (a .named)) (now (a .code)) (a .x) (a .y) (a .e) (omega arith) (omega arith) (omega arith) (omega arith) _ (sym (c .before .before .before .compare .ensures) ∙ c .before .enum-told2 .given .1) (c .over-rest .ensures))
     (λ c. let a = c .before .before .before .before .before .before .args in
-    over-so (now (a .code)) (a .x) (a .y) (a .e) (omega arith) (omega arith) (omega arith) (omega arith) _ (sym (c .before .before .compare .ensures) ∙ c .enum-told3 .given .1)))
+    over-so (kinds (a .named)) (now (a .code)) (a .x) (a .y) (a .e) (omega arith) (omega arith) (omega arith) (omega arith) _ (sym (c .before .before .compare .ensures) ∙ c .enum-told3 .given .1)))

@@ -4,6 +4,7 @@ use native.Mathlib.Omega.{arith}
 use denote.Ref.{now}
 use lib.ListN.{length, getD}
 use borrow.Author.Needs.{needs}
+use Rattle.code.specs.Code.{plain}
 use Rattle.code.specs.Parts.{Ending}
 use Rattle.vertices.proofs.Telling.{depths-differ, lengths-differ, codes-differ, codes-agree, less-apart, greater-apart}
 use Rattle.vertices.proofs.alike.Statement.{statement}
@@ -13,13 +14,13 @@ abbrev start : tie.Else1 → tie.Start
 start c = c .before .before .before .before .before .before
 
 -- where the part of a vertex ends
-ending : (c : tie.Start) (i : ℕ) → i < length (now (c .args .code)) → Ending (now (c .args .code)) i (getD (now (c .args .ends)) i 0)
+ending : (c : tie.Start) (i : ℕ) → i < length (now (c .args .code)) → Ending plain (now (c .args .code)) i (getD (now (c .args .ends)) i 0)
 ending c i h = c .pre .0 .ending i (omega arith) h
 
-ending-u : (c : tie.Else1) → Ending (now (start c .args .code)) (start c .args .u) (getD (now (start c .args .ends)) (start c .args .u) 0)
+ending-u : (c : tie.Else1) → Ending plain (now (start c .args .code)) (start c .args .u) (getD (now (start c .args .ends)) (start c .args .u) 0)
 ending-u c = ending (start c) (start c .args .u) (start c .pre .1 .1 .0)
 
-ending-v : (c : tie.Else1) → Ending (now (start c .args .code)) (start c .args .v) (getD (now (start c .args .ends)) (start c .args .v) 0)
+ending-v : (c : tie.Else1) → Ending plain (now (start c .args .code)) (start c .args .v) (getD (now (start c .args .ends)) (start c .args .v) 0)
 ending-v c = ending (start c) (start c .args .v) (start c .pre .1 .1 .1)
 
 pub alike-spec : {M : Type 1} → statement M

@@ -7,6 +7,7 @@ use native.Mathlib.Omega.{arith}
 use denote.Ref.{now}
 use lib.ListN.{length}
 use Rattle.laws.specs.Laid.{Laid}
+use Rattle.code.specs.Code.{plain}
 use Rattle.code.specs.Search.{Known}
 use Rattle.vertices.specs.Classes.{alike?, classes}
 use Rattle.vertices.specs.Search.{Deep}
@@ -15,7 +16,7 @@ use Rattle.vertices.proofs.write_classes.Statement.{statement}
 use Rattle.vertices.proofs.write_classes.Tie as tie
 
 abbrev Inv-loop : tie.InvT-loop
-Inv-loop code out₀ ends deep top₀ i₀ out top i = Known code ends 0 × (Deep code deep × Writing (alike? code) (length code) out₀ out top i)
+Inv-loop code out₀ ends deep top₀ i₀ out top i = Known plain code ends 0 × (Deep code deep × Writing (alike? code) (length code) out₀ out top i)
 
 abbrev μ-loop : tie.MeasureT-loop
 μ-loop code out₀ ends deep top₀ i₀ out top i = length code - i
