@@ -21,7 +21,7 @@ pub fn rooted(n: usize, edges: &[u8], root: usize, out: &mut [u8])
     let mut rows = [[0u8; 4]; 64];
     let mut degs = [0u8; 64];
     skeleton::fill(n, edges, &mut rows, &mut degs);
-    coder::rooted(&rows, &degs, n, root, out);
+    ordering::rooted(&rows, &degs, n, root, out);
 }
 
 // The larger of the first n digits of two codes is left in the first.
@@ -46,10 +46,10 @@ pub fn centred(n: usize, edges: &[u8], out: &mut [u8])
     let m = centre::centre(&rows, &degs, n);
     let u = m.first;
     let v = m.second;
-    coder::rooted(&rows, &degs, n, u, out);
+    ordering::rooted(&rows, &degs, n, u, out);
     if u != v {
         let mut other = [0u8; 64];
-        coder::rooted(&rows, &degs, n, v, &mut other);
+        ordering::rooted(&rows, &degs, n, v, &mut other);
         raise(out, &other, n);
     }
 }
@@ -88,7 +88,7 @@ pub fn n_tuple(n: usize, edges: &[u8], out: &mut [u8])
         let k = degs[v];
         v += 1;
         if k == d {
-            coder::rooted(&rows, &degs, n, v, &mut other);
+            ordering::rooted(&rows, &degs, n, v, &mut other);
             raise(&mut best, &other, n);
         }
     }

@@ -38,7 +38,7 @@ centred-spec =
     let E = now (s .args .edges) in
     let f = c .before .before .before .before .before .before .before .before .before .before .before .before .before .before .before .before .before .before .before .before .fill .ensures in
     let z = c .before .before .before .before .before .before .before .before .before .before .before .before .before .before .before .before .before .centre .ensures E t f in
-    two-middles t z _ (c .before .before .before .before .before .before .before .before .before .before .before .before .before .rooted .ensures E t f) (c .before .before .before .before .before .before .rooted2 .ensures E t f) (c .before .before .raise .ensures))
+    two-middles t z _ (c .before .before .before .before .before .before .before .before .before .before .before .before .before .rooted .ensures E t f .0) (c .before .before .before .before .before .before .rooted2 .ensures E t f .0) (c .before .before .raise .ensures))
     (λ c. search needs)
     (λ c.
     let s = c .before .before .before .before .before .before .before .before .before .before .before .before .before .before .before in
@@ -46,4 +46,4 @@ centred-spec =
     let E = now (s .args .edges) in
     let f = c .before .before .before .before .before .before .before .before .before .before .fill .ensures in
     let z = c .before .before .before .before .before .before .before .centre .ensures E t f in
-    one-middle t z (c .if1 .left) (c .before .before .before .rooted .ensures E t f)))
+    one-middle t z (c .if1 .left) (c .before .before .before .rooted .ensures E t f .0)))

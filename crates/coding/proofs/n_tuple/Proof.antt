@@ -52,7 +52,7 @@ slice-aggregate-raise-2 c =
     let E = now (s .args .edges) in
     let f = c .before .before .before .before .before .before .before .before .before .before .before .before .fill .ensures in
     let l : c .before .before .before .before .before .before .before .before .before .loop .v < s .args .n = omega (arith, c .before .before .before .before .before .before .before .before .loop-test .taken) in
-    sym (coded-long t (s .pre .0 .few) i l (c .before .before .before .rooted .ensures E t f))
+    sym (coded-long t (s .pre .0 .few) i l (c .before .before .before .rooted .ensures E t f .0))
 
 raise-requires : tie.Need-raise-requires Inv-loop μ-loop
 raise-requires c κs =
@@ -62,7 +62,7 @@ raise-requires c κs =
     let E = now (s .args .edges) in
     let f = c .before .before .before .before .before .before .before .before .before .before .before .before .fill .ensures in
     let l : c .before .before .before .before .before .before .before .before .before .loop .v < s .args .n = omega (arith, c .before .before .before .before .before .before .before .before .loop-test .taken) in
-    let k = coded-long t (s .pre .0 .few) i l (c .before .before .before .rooted .ensures E t f) in
+    let k = coded-long t (s .pre .0 .few) i l (c .before .before .before .rooted .ensures E t f .0) in
     (omega (arith, s .pre .0 .few, i .long), omega (arith, s .pre .0 .few, k))
 
 loop-less : tie.Need-loop-less Inv-loop μ-loop
@@ -76,7 +76,7 @@ loop-again c =
     let E = now (s .args .edges) in
     let f = c .before .before .before .before .before .before .before .before .before .before .before .before .before .before .fill .ensures in
     let l : c .before .before .before .before .before .before .before .before .before .before .before .loop .v < s .args .n = omega (arith, c .before .before .before .before .before .before .before .before .before .before .loop-test .taken) in
-    best-next t (s .pre .0 .few) i l (sym (degree-at f l) ∙ c .before .before .before .before .before .before .before .before .before .if1 .taken) (c .before .before .before .before .before .rooted .ensures E t f) (c .before .raise .ensures)
+    best-next t (s .pre .0 .few) i l (sym (degree-at f l) ∙ c .before .before .before .before .before .before .before .before .before .if1 .taken) (c .before .before .before .before .before .rooted .ensures E t f .0) (c .before .raise .ensures)
 
 loop-less-2 : tie.Need-loop-less-2 Inv-loop μ-loop
 loop-less-2 c = omega (arith, c .before .loop-test .taken)

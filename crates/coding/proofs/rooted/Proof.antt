@@ -15,4 +15,4 @@ rooted-spec =
     (λ c.
     let s = c .before .before .before .before .before .before .before .before .before .before .before in
     let t = s .pre .0 .tree in
-    rooted-written (s .args .root) t (s .pre .1 .0) (s .pre .1 .1) (c .before .before .rooted .ensures (now (s .args .edges)) t (c .before .before .before .before .before .before .fill .ensures))))
+    rooted-written (s .args .root) t (s .pre .1 .0) (s .pre .1 .1) (c .before .before .rooted .ensures (now (s .args .edges)) t (c .before .before .before .before .before .before .fill .ensures) .0)))
