@@ -16,7 +16,8 @@ use Rattle.code.specs.Ordered.{Ordered}
 use Rattle.code.specs.Right.{Right, right-clear, clear-right}
 use Rattle.tree.specs.Label.{Marks, digits}
 use Rattle.tree.specs.Base.{base}
-use Rattle.form.specs.Form.{centred, row14, formRows, centredₗ, Own, row14ₗ}
+use Rattle.form.specs.Form.{centred, row14, formRows}
+use Rattle.form.specs.Labelled.{centredₗ, Own, row14ₗ}
 use Rattle.fast.specs.Middle.{Middle}
 use Rattle.fast.specs.Race.{Tells, was-held, was-denied}
 use Rattle.fast.specs.Theorems.{rooted-centredₗ, own-base}

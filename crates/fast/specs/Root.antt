@@ -20,7 +20,7 @@ use Rattle.path.specs.Path.{IsCentre}
 use Rattle.path.specs.Heights.{tall}
 use Rattle.path.specs.Balance as Balance
 use Rattle.path.specs.Theorems as Paths
-use Rattle.form.specs.Form.{centredₗ}
+use Rattle.form.specs.Labelled.{centredₗ}
 use Rattle.fast.specs.Middle.{peak, second, other, Middle}
 use Rattle.fast.specs.Lift.{Lifted, talls, top-talls, second-below, lift}
 use Rattle.fast.specs.Turn.{Falls, moved, turned-round, code-is, code-more, other-is, heights-whole}

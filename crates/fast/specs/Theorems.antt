@@ -13,8 +13,8 @@ use Rattle.tree.specs.Label.{Marks, rootedₗ, digits, labels, IsRootedₗ}
 use Rattle.tree.specs.Base.{base, rooted-base, digits-base}
 use Rattle.tree.specs.General.{decode-code, decoded-tree}
 use Rattle.tree.specs.Ordered.{code-orderedₗ}
-use Rattle.form.specs.Form.{Centred, centred, centredₗ, Own}
-use Rattle.form.specs.Labelled.{centred-formₗ, is-rootedₗ}
+use Rattle.form.specs.Form.{Centred, centred}
+use Rattle.form.specs.Labelled.{centredₗ, Own, centred-formₗ, is-rootedₗ}
 use Rattle.fast.specs.Middle.{Middle}
 use Rattle.fast.specs.Root.{middle-iff, centred-at, at-centred}
 

@@ -19,8 +19,8 @@ use Rattle.tree.specs.Label.{Marks, digits, labels, Valences, markRows}
 use Rattle.tree.specs.Base.{base, digits-base}
 use Rattle.tree.specs.General.{decoded-tree as decoded-treeₗ}
 use Rattle.tree.specs.Accepted.{code-passes, marks-accepted, right-marks}
-use Rattle.form.specs.Form.{formRows, Own, row14ₗ, formRowsₗ}
-use Rattle.form.specs.Labelled.{IsFormₗ, is-rootedₗ, form-againₗ, form-decidedₗ}
+use Rattle.form.specs.Form.{formRows}
+use Rattle.form.specs.Labelled.{Own, row14ₗ, formRowsₗ, IsFormₗ, is-rootedₗ, form-againₗ, form-decidedₗ}
 use Rattle.form.specs.Forms.{IsForm, labelled, is-rooted, form-again}
 
 -- a right rooted code decodes to a skeleton

@@ -1,6 +1,6 @@
 -- Document 01, "Codes": the N-tuple code and the centred code, and row 14 of "Refusal numbers" for digits of either form.
 --
--- In order: the two codes, and the row, for document 01's codes; then where vertices have labels. `at v` is the code at the root v; for the codes of document 01 it is `rooted N E v`. What a longest path and the centre are is in the
+-- `at v` is the code at the root v; for the codes of document 01 it is `rooted N E v`. What a longest path and the centre are is in the
 -- crate `path`. Assumes nothing.
 use mathlib.Core.Path.{_≡_}
 use mathlib.Core.Logic.{_⊎_}
@@ -8,10 +8,9 @@ use mathlib.Core.List.{List, [], _∷_, _++_}
 use Prim.Native.Nat.{ℕ, _≤_}
 use lib.ListN.{length}
 use Rattle.laws.specs.Order.{_≽_}
-use Rattle.refusal.specs.Table.{Row, row3}
+use Rattle.refusal.specs.Table.{Row}
 use Rattle.code.specs.Code.{decode, codeRows}
 use Rattle.tree.specs.Skeleton.{degree, rooted}
-use Rattle.tree.specs.Label.{Marks, rootedₗ, digits, labels, markRows}
 use Rattle.path.specs.Path.{IsCentre}
 
 -- "Of the rooted codes over all roots of maximum degree, the largest."
@@ -49,24 +48,3 @@ row14 form c = record { number = 14; applies = λ p. (p ≡ 0) × (form (length 
 -- what is refused of digits that are to be of a form
 abbrev pub formRows : (ℕ → List ℕ → List ℕ → Type 0) → ℕ → ℕ → List ℕ → List Row
 formRows form most R c = codeRows most R c ++ (row14 form c ∷ [])
-
--- ---- the same where vertices have labels: `form N E l c` says that c is the code of the skeleton with the edges E and the labels l
-
-module _ (M : Marks) where
-  abbrev pub nTupleₗ : ℕ → List ℕ → (ℕ → M .Label) → List ℕ → Type 0
-  nTupleₗ N E l c = NTuple N E (rootedₗ M l N E) c
-
-  abbrev pub centredₗ : ℕ → List ℕ → (ℕ → M .Label) → List ℕ → Type 0
-  centredₗ N E l c = Centred N E (rootedₗ M l N E) c
-
-  -- c is the code of what it decodes to
-  abbrev pub Own : (ℕ → List ℕ → (ℕ → M .Label) → List ℕ → Type 0) → List ℕ → Type 0
-  Own form c = form (length c) (decode (digits M c)) (labels M c) c
-
-  -- 14: a right rooted code is not of the form asked for
-  abbrev pub row14ₗ : (ℕ → List ℕ → (ℕ → M .Label) → List ℕ → Type 0) → List ℕ → Row
-  row14ₗ form c = record { number = 14; applies = λ p. (p ≡ 0) × (Own form c → ⊥) }
-
-  -- what is refused of marks that are to be of a form
-  abbrev pub formRowsₗ : (ℕ → List ℕ → (ℕ → M .Label) → List ℕ → Type 0) → ℕ → ℕ → (M .Label → ℕ) → List ℕ → List Row
-  formRowsₗ form size R most c = (row3 size (length c) ∷ markRows M R most c) ++ (row14ₗ form c ∷ [])

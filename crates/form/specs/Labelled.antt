@@ -1,25 +1,45 @@
 -- What the N-tuple code and the centred code have in common where vertices have labels (`IsFormₗ`), and what follows from that alone;
 -- `Forms` has it for document 01's codes, where there is one label.
 --
--- In order: the form, and that both are one; what the code of a tree is and decodes to; that equal codes come from the same skeleton with
--- the same labels; whether marks are of the form. Assumes nothing.
+-- In order: the two codes, and row 14; the form, and that both are one; what the code of a tree is and decodes to; that equal codes come
+-- from the same skeleton with the same labels; whether marks are of the form. Assumes nothing.
 use mathlib.Core.Path.{_≡_, ap, sym, _∙_, subst}
 use mathlib.Core.Logic.{_↔_, ⊎-elim}
-use mathlib.Core.List.{List, List-discrete}
+use mathlib.Core.List.{List, [], _∷_, _++_, List-discrete}
 use Prim.Native.Nat.{ℕ, _≤_}
 use native.Mathlib.Decide.{ℕ-discrete}
 use lib.ListN.{length}
+use Rattle.refusal.specs.Table.{Row, row3}
 use Rattle.code.specs.Code.{decode}
 use Rattle.code.specs.Ends.{Ends}
 use Rattle.tree.specs.Skeleton.{IsTree, Renumbering}
-use Rattle.tree.specs.Label.{Marks, rootedₗ, digits, labels, Keeps, IsRootedₗ}
+use Rattle.tree.specs.Label.{Marks, rootedₗ, digits, labels, Keeps, IsRootedₗ, markRows}
 use Rattle.tree.specs.General.{size, decoded-tree, code-decode, equal-codes}
 use Rattle.path.specs.Theorems.{centre-inside}
-use Rattle.form.specs.Form.{nTupleₗ, centredₗ, Own}
+use Rattle.form.specs.Form.{NTuple, Centred}
 use Rattle.form.specs.One.{one-n-tuple, one-centred, some-n-tuple, some-centred}
 use Rattle.form.specs.Carried.{rooted-carriedₗ, carry-n-tuple, carry-centred}
 
 module _ (M : Marks) where
+  -- c is the N-tuple code, or the centred code, of the skeleton with the edges E and the labels l
+  abbrev pub nTupleₗ : ℕ → List ℕ → (ℕ → M .Label) → List ℕ → Type 0
+  nTupleₗ N E l c = NTuple N E (rootedₗ M l N E) c
+
+  abbrev pub centredₗ : ℕ → List ℕ → (ℕ → M .Label) → List ℕ → Type 0
+  centredₗ N E l c = Centred N E (rootedₗ M l N E) c
+
+  -- c is the code of what it decodes to
+  abbrev pub Own : (ℕ → List ℕ → (ℕ → M .Label) → List ℕ → Type 0) → List ℕ → Type 0
+  Own form c = form (length c) (decode (digits M c)) (labels M c) c
+
+  -- 14: a right rooted code is not of the form asked for
+  abbrev pub row14ₗ : (ℕ → List ℕ → (ℕ → M .Label) → List ℕ → Type 0) → List ℕ → Row
+  row14ₗ form c = record { number = 14; applies = λ p. (p ≡ 0) × (Own form c → ⊥) }
+
+  -- what is refused of marks that are to be of a form
+  abbrev pub formRowsₗ : (ℕ → List ℕ → (ℕ → M .Label) → List ℕ → Type 0) → ℕ → ℕ → (M .Label → ℕ) → List ℕ → List Row
+  formRowsₗ form size R most c = (row3 size (length c) ∷ markRows M R most c) ++ (row14ₗ form c ∷ [])
+
   -- c is the rooted code of the tree at one of its vertices
   abbrev pub AtRootₗ : ℕ → List ℕ → (ℕ → M .Label) → List ℕ → Type 0
   AtRootₗ N E l c = (r : ℕ) × ((1 ≤ r) × (r ≤ N)) × (c ≡ rootedₗ M l N E r)
@@ -39,7 +59,7 @@ module _ (M : Marks) where
     -- and the same skeleton under other numbers, with the same labels, has it too
     pub carried : (N : ℕ) (E F : List ℕ) (l m : ℕ → M .Label) (c : List ℕ) → IsTree N E → Alike N E F l m → form N E l c → form N F m c
 
-  pub n-tuple-formₗ : IsFormₗ (nTupleₗ M)
+  pub n-tuple-formₗ : IsFormₗ nTupleₗ
   n-tuple-formₗ = record {
     one = λ N E l t x y. one-n-tuple t x y;
     some = λ N E l t. some-n-tuple N E (rootedₗ M l N E) t;
@@ -47,7 +67,7 @@ module _ (M : Marks) where
     carried = λ N E F l m c t (ρ, k) x. carry-n-tuple N E F t ρ (rootedₗ M l N E) (rootedₗ M m N F) (rooted-carriedₗ M N E F l m t ρ k) x;
   }
 
-  pub centred-formₗ : IsFormₗ (centredₗ M)
+  pub centred-formₗ : IsFormₗ centredₗ
   centred-formₗ = record {
     one = λ N E l t x y. one-centred t x y;
     some = λ N E l t. some-centred N E (rootedₗ M l N E) t;
