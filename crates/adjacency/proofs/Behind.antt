@@ -6,9 +6,10 @@ use Prim.Native.Nat.{ℕ, _≤_}
 use native.Mathlib.Omega.{arith}
 use lib.ListN.{length, take, drop, replicate, length-append, length-replicate}
 use lib.Seq.{length-take-le, take-at}
-use Rattle.laws.specs.Laid.{laidOver}
+use Rattle.laws.specs.document.Laid.{laidOver}
 use Rattle.refusal.specs.declared.Check.{Check}
-use Rattle.refusal.specs.Table.{Row, Clear, Answers, passes, fails}
+use Rattle.refusal.specs.document.Table.{Row, Clear}
+use Rattle.refusal.specs.Checks.{Answers, passes, fails}
 use Rattle.refusal.specs.Laws.{clear-right, refusal-behind}
 use Rattle.adjacency.proofs.Writing.{laid-all}
 

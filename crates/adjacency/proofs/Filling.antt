@@ -8,11 +8,12 @@ use native.Mathlib.Omega.{arith}
 use native.Mathlib.Numerals.{add-one}
 use lib.Seq.{take-all}
 use lib.ListN.{drop-of-length-le, length, take, drop, set, length-append, length-take, length-drop, length-set}
-use Rattle.limits.specs.Limits.{aSize}
-use Rattle.laws.specs.Laid.{laidOver}
-use Rattle.code.specs.Code.{sum}
-use Rattle.adjacency.specs.Mixed.{left, digits, product}
-use Rattle.adjacency.specs.Adjacency.{from, powers, put, rows, tied, columns, aEdges}
+use Rattle.limits.specs.document.Limits.{aSize}
+use Rattle.laws.specs.document.Laid.{laidOver}
+use Rattle.digit_code.specs.document.Code.{sum}
+use Rattle.adjacency.specs.Mixed.{product}
+use Rattle.adjacency.specs.document.Mixed.{left, mixedDigits}
+use Rattle.adjacency.specs.document.Adjacency.{from, powers, put, rows, tied, columns, aEdges}
 use Rattle.adjacency.specs.Ascend.{put-none, put-one}
 use Rattle.adjacency.specs.Power.{pows, product-pows, sum-rows, tied-length}
 use Rattle.adjacency.specs.Parts.{Column}
@@ -118,7 +119,7 @@ pub record Taking (n x : ℕ) (old : List ℕ) (i s k : ℕ) (out : List ℕ) : 
   pub high : i ≤ n
   pub shift : s ≡ sum (from i (n - i))
   pub few : s ≤ 55
-  pub rest : aEdges n x ≡ done ++ columns i (digits (pows i (n - i)) x)
+  pub rest : aEdges n x ≡ done ++ columns i (mixedDigits (pows i (n - i)) x)
   pub count : k ≡ length done
   pub long : length out ≡ length old
   pub lies : out ≡ laidOver done old
@@ -138,8 +139,8 @@ taking-none n x old h l =
       lies = sym (laid-none old);
     }
 
-column-step : (i m x y : ℕ) → left (pows (suc i) m) x ≡ y → columns i (digits (pows i (suc m)) x) ≡ tied (suc i) (rows 1 i (y % 2 ^ i)) ++ columns (suc i) (digits (pows (suc i) m) x)
-unfolding from digits columns
+column-step : (i m x y : ℕ) → left (pows (suc i) m) x ≡ y → columns i (mixedDigits (pows i (suc m)) x) ≡ tied (suc i) (rows 1 i (y % 2 ^ i)) ++ columns (suc i) (mixedDigits (pows (suc i) m) x)
+unfolding from mixedDigits columns
 column-step i m x y e = rw (← e)
 
 module _ {n x : ℕ} {old : List ℕ} {i s k : ℕ} {out : List ℕ} (t : Taking n x old i s k out) (h : i < n) (small : n ≤ aSize) where
@@ -153,7 +154,7 @@ module _ {n x : ℕ} {old : List ℕ} {i s k : ℕ} {out : List ℕ} (t : Taking
   abbrev taken : ℕ
   taken = (x / 2 ^ (s - i)) % ((1 * 2 ^ i) % 2 ^ 64)
 
-  column-is : columns i (digits (pows i (n - i)) x) ≡ tied (suc i) (rows 1 i taken) ++ columns (i + 1) (digits (pows (i + 1) (n - (i + 1))) x)
+  column-is : columns i (mixedDigits (pows i (n - i)) x) ≡ tied (suc i) (rows 1 i taken) ++ columns (i + 1) (mixedDigits (pows (i + 1) (n - (i + 1))) x)
   column-is =
       let e : n - i ≡ suc (n - suc i) = omega arith in
       let d : s - i ≡ sum (from (suc i) (n - suc i)) = omega (arith, t .shift, sum-step) in
@@ -161,7 +162,7 @@ module _ {n x : ℕ} {old : List ℕ} {i s k : ℕ} {out : List ℕ} (t : Taking
       let w : i < 64 = omega arith in
       rw (add-one i, e, shift-one w) (column-step i (n - suc i) x (x / 2 ^ (s - i)) p)
 
-  split-edges : aEdges n x ≡ (t .done ++ tied (suc i) (rows 1 i taken)) ++ columns (i + 1) (digits (pows (i + 1) (n - (i + 1))) x)
+  split-edges : aEdges n x ≡ (t .done ++ tied (suc i) (rows 1 i taken)) ++ columns (i + 1) (mixedDigits (pows (i + 1) (n - (i + 1))) x)
   split-edges = t .rest ∙ ap (λ l. t .done ++ l) column-is ∙ sym (append-assoc (t .done) (tied (suc i) (rows 1 i taken)) _)
 
   module _ (room : length (aEdges n x) ≤ length old) where
@@ -205,7 +206,7 @@ module _ {n x : ℕ} {old : List ℕ} {i s k : ℕ} {out : List ℕ} (t : Taking
       taking-more = rw (nothing-behind k out, append-nil) (next (rw (to-the-end k out) at c))
 
 pub taking-all : {n x : ℕ} {old : List ℕ} {i s k : ℕ} {out : List ℕ} → Taking n x old i s k out → n ≤ i → out ≡ laidOver (aEdges n x) old
-unfolding from digits columns
+unfolding from mixedDigits columns
 taking-all {n} {x} {old} {i} t h =
     let e : n - i ≡ 0 = omega arith in
     let d : aEdges n x ≡ t .done = t .rest ∙ rw (e, append-nil) in

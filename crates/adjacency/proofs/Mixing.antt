@@ -8,10 +8,11 @@ use native.Mathlib.Numerals.{add-one}
 use lib.Dec.{lit<}
 use lib.ListN.{length, getD, take, drop, set, length-set, length-drop, take-append-drop}
 use lib.Seq.{drop-cons, take-suc, set-at, length-take-le}
-use Rattle.limits.specs.Limits.{zeroSize}
-use Rattle.laws.specs.Laid.{laidOver}
-use Rattle.adjacency.specs.Mixed.{mixed, left, digits, mixed-le}
-use Rattle.adjacency.specs.Adjacency.{from, zeroA, factorial, zeroCam}
+use Rattle.limits.specs.document.Limits.{zeroSize}
+use Rattle.laws.specs.document.Laid.{laidOver}
+use Rattle.adjacency.specs.Mixed.{mixed-le}
+use Rattle.adjacency.specs.document.Mixed.{mixed, left, mixedDigits}
+use Rattle.adjacency.specs.document.Adjacency.{from, zeroA, factorial, zeroCam}
 use Rattle.adjacency.specs.Entries.{Entries, none, more}
 use Rattle.adjacency.specs.Zero.{less, below-entries, zero-range, zero-length}
 
@@ -82,10 +83,10 @@ pub record Unranked (n x : ℕ) (old : List ℕ) (i : ℕ) (out : List ℕ) (v :
   pub high : i ≤ n
   pub rest : v ≡ left (from i (n - i)) x
   pub long : length out ≡ length old
-  pub lies : out ≡ take (i - 1) old ++ (map suc (digits (from i (n - i)) x) ++ drop (n - 1) old)
+  pub lies : out ≡ take (i - 1) old ++ (map suc (mixedDigits (from i (n - i)) x) ++ drop (n - 1) old)
 
 pub unranked-none : (n x : ℕ) (old : List ℕ) → 1 ≤ n → Unranked n x old n old x
-unfolding left digits from
+unfolding left mixedDigits from
 unranked-none n x old h =
     let e : n - n ≡ 0 = omega arith in
     record { low = h; high = omega arith; rest = rw e refl; long = refl; lies = rw e (sym (take-append-drop (n - 1) old)) }
@@ -97,12 +98,12 @@ set-front old R k y h =
 pub unranked-more :
     {n x : ℕ} {old : List ℕ} {i : ℕ} {out : List ℕ} {v : ℕ} → Unranked n x old i out v → 1 < i → n ≤ length old + 1
     → Unranked n x old (i - 1) (set out (i - 1 - 1) (v % (i - 1) + 1)) (v / (i - 1))
-unfolding left digits from
+unfolding left mixedDigits from
 unranked-more {n} {x} {old} {i} {out} {v} u l h =
     let e : n - (i - 1) ≡ suc (n - i) = omega (arith, u .high) in
     let f : suc (i - 1) ≡ i = omega arith in
     let g : i - 1 ≡ suc (i - 1 - 1) = omega arith in
-    let lies : out ≡ take (suc (i - 1 - 1)) old ++ (map suc (digits (from i (n - i)) x) ++ drop (n - 1) old) = rw (← g) (u .lies) in
+    let lies : out ≡ take (suc (i - 1 - 1)) old ++ (map suc (mixedDigits (from i (n - i)) x) ++ drop (n - 1) old) = rw (← g) (u .lies) in
     record {
       low = omega arith;
       high = omega (arith, u .high);
@@ -111,8 +112,8 @@ unranked-more {n} {x} {old} {i} {out} {v} u l h =
       lies = rw (e, f, add-one, ← u .rest, lies) (set-front old _ (i - 1 - 1) (suc (v % (i - 1))) (omega (arith, u .high)));
     }
 
-zero-cam : (n x : ℕ) → zeroCam n x ≡ map suc (digits (from 1 (n - 1)) x)
-unfolding zeroCam digits from
+zero-cam : (n x : ℕ) → zeroCam n x ≡ map suc (mixedDigits (from 1 (n - 1)) x)
+unfolding zeroCam mixedDigits from
 zero-cam zero x = refl
 zero-cam (suc zero) x = refl
 zero-cam (suc (suc n)) x =

@@ -4,8 +4,8 @@ use mathlib.Core.List.{List, [], _∷_, _++_, append-nil}
 use Prim.Native.Nat.{ℕ, zero, suc, _+_, _/_, _≤_, _<_}
 use native.Mathlib.Omega.{arith}
 use lib.ListN.{length}
-use Rattle.skeleton.specs.Edges.{Edge, one, other, before}
-use Rattle.adjacency.specs.Adjacency.{lower, OneLower}
+use Rattle.edge_list.specs.document.Edges.{Edge, firstEnd, secondEnd, before}
+use Rattle.adjacency.specs.document.Adjacency.{lower, OneLower}
 use Rattle.adjacency.specs.Lower.{lower-nil, lower-one, lower-other, lower-pass, lower-none, lower-more, lower-all, lower-within}
 use Rattle.adjacency.specs.Parts.{found, Gives, Only}
 
@@ -29,7 +29,7 @@ down-none a b v p q = record { is = lower-pass a b v [] p q ∙ lower-nil v; sma
 
 -- ---- the edges before p
 
-pub lower-next : (E : List ℕ) (p : ℕ) {v u : ℕ} → Edge E p → Gives (one E p) (other E p) v u → lower (before E (p + 1)) v ≡ lower (before E p) v ++ found u
+pub lower-next : (E : List ℕ) (p : ℕ) {v u : ℕ} → Edge E p → Gives (firstEnd E p) (secondEnd E p) v u → lower (before E (p + 1)) v ≡ lower (before E p) v ++ found u
 lower-next E p {v} h d = lower-more E p v h ∙ rw (d .is)
 
 -- w is what they give
@@ -42,7 +42,7 @@ pub record Sofar (E : List ℕ) (v p w : ℕ) : Type 0 where
 pub sofar-none : (E : List ℕ) (v : ℕ) → Sofar E v 1 0
 sofar-none E v = record { low = omega arith; high = omega arith; is = lower-none E v; small = omega arith }
 
-module _ {E : List ℕ} {v p w : ℕ} (s : Sofar E v p w) (h : Edge E p) {u : ℕ} (d : Gives (one E p) (other E p) v u) where
+module _ {E : List ℕ} {v p w : ℕ} (s : Sofar E v p w) (h : Edge E p) {u : ℕ} (d : Gives (firstEnd E p) (secondEnd E p) v u) where
   now : lower (before E (p + 1)) v ≡ found w ++ found u
   now = lower-next E p h d ∙ ap (λ l. l ++ found u) (s .is)
 

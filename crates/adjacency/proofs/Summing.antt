@@ -7,12 +7,13 @@ use native.Mathlib.Omega.{arith}
 use native.Mathlib.Numerals.{add-one}
 use lib.Pow.{pow-mono, pow-lt}
 use lib.ListN.{length}
-use Rattle.limits.specs.Limits.{aSize}
-use Rattle.code.specs.Code.{sum}
-use Rattle.tree.specs.Skeleton.{IsSkeleton}
-use Rattle.skeleton.specs.Edges.{Edge, one, other, before}
-use Rattle.adjacency.specs.Mixed.{mixed, mixed-le}
-use Rattle.adjacency.specs.Adjacency.{from, lower, bits, bin, powers, aZero}
+use Rattle.limits.specs.document.Limits.{aSize}
+use Rattle.digit_code.specs.document.Code.{sum}
+use Rattle.skeleton.specs.document.Skeleton.{IsSkeleton}
+use Rattle.edge_list.specs.document.Edges.{Edge, firstEnd, secondEnd, before}
+use Rattle.adjacency.specs.Mixed.{mixed-le}
+use Rattle.adjacency.specs.document.Mixed.{mixed}
+use Rattle.adjacency.specs.document.Adjacency.{from, lower, columnSum, bin, powers, aZero}
 use Rattle.adjacency.specs.Lower.{lower-none, lower-all}
 use Rattle.adjacency.specs.Power.{pows}
 use Rattle.adjacency.specs.Taken.{columns-below, a-range}
@@ -26,24 +27,24 @@ shift-one {k} h = rw one-mul (mod-eq-of-lt (pow-lt h))
 
 -- ---- BIN
 
-bits-append : (l m : List ℕ) → bits (l ++ m) ≡ bits l + bits m
-unfolding bits sum
+bits-append : (l m : List ℕ) → columnSum (l ++ m) ≡ columnSum l + columnSum m
+unfolding columnSum sum
 bits-append [] m = omega arith
 bits-append (x ∷ l) m = let e = bits-append l m in omega arith
 
-bits-one : (u : ℕ) → bits (u ∷ []) ≡ 2 ^ (u - 1)
-unfolding bits sum
+bits-one : (u : ℕ) → columnSum (u ∷ []) ≡ 2 ^ (u - 1)
+unfolding columnSum sum
 bits-one u = omega arith
 
-bits-none : bits [] ≡ 0
-unfolding bits sum
+bits-none : columnSum [] ≡ 0
+unfolding columnSum sum
 bits-none = refl
 
 -- b is what the edges before p give
 pub record Summed (E : List ℕ) (v p b : ℕ) : Type 0 where
   pub low : 1 ≤ p
   pub high : p ≤ length E / 2 + 1
-  pub is : b ≡ bits (lower (before E p) v)
+  pub is : b ≡ columnSum (lower (before E p) v)
   pub small : b + 1024 ≤ 1024 * p
 
 pub summed-none : (E : List ℕ) (v : ℕ) → Summed E v 1 0
@@ -52,13 +53,13 @@ summed-none E v = record { low = omega arith; high = omega arith; is = rw (lower
 pub power-small : {u : ℕ} → u ≤ aSize → 2 ^ (u - 1) ≤ 1024
 power-small {u} h = pow-mono (let k : u - 1 ≤ 10 = omega arith in k)
 
-module _ {E : List ℕ} {v p b : ℕ} (s : Summed E v p b) (h : Edge E p) {u : ℕ} (d : Gives (one E p) (other E p) v u) where
+module _ {E : List ℕ} {v p b : ℕ} (s : Summed E v p b) (h : Edge E p) {u : ℕ} (d : Gives (firstEnd E p) (secondEnd E p) v u) where
   pub summed-miss : u ≡ 0 → Summed E v (p + 1) b
   summed-miss z =
       record {
         low = omega arith;
         high = omega (arith, h .1);
-        is = s .is ∙ sym (ap bits (lower-next E p h d ∙ rw (z, append-nil)));
+        is = s .is ∙ sym (ap columnSum (lower-next E p h d ∙ rw (z, append-nil)));
         small = omega (arith, s .small);
       }
 
@@ -71,8 +72,8 @@ module _ {E : List ℕ} {v p b : ℕ} (s : Summed E v p b) (h : Edge E p) {u : �
         small = omega (arith, s .small, power-small (let j : u ≤ aSize = omega (arith, d .small) in j));
       }
 
-pub summed-all : {E : List ℕ} {v p b : ℕ} → Summed E v p b → length E / 2 < p → b ≡ bits (lower E v)
-summed-all {E} {v} {p} s h = s .is ∙ ap bits (lower-all E p v (omega arith))
+pub summed-all : {E : List ℕ} {v p b : ℕ} → Summed E v p b → length E / 2 < p → b ≡ columnSum (lower E v)
+summed-all {E} {v} {p} s h = s .is ∙ ap columnSum (lower-all E p v (omega arith))
 
 -- ---- A0
 
@@ -107,7 +108,7 @@ rated-all {N} {i = i} r h = let e : N - i ≡ 0 = omega arith in rw e at (r .is)
 
 -- one column more, as the machine has it
 pub rated-next :
-    {R N : ℕ} {E : List ℕ} {i x b : ℕ} → IsSkeleton aSize R N E → Rated N E i x → i < N → b ≡ bits (lower E (i + 1))
+    {R N : ℕ} {E : List ℕ} {i x b : ℕ} → IsSkeleton aSize R N E → Rated N E i x → i < N → b ≡ columnSum (lower E (i + 1))
     → Rated N E (i + 1) ((x * 2 ^ i) % 2 ^ 64 + b) × ((x * 2 ^ i) % 2 ^ 64 + b < 2 ^ 55)
 rated-next {N = N} {E} {i} {x} {b} s r h e =
     let f : bin E i ≡ b = rw (← add-one i) (sym e) in

@@ -6,8 +6,8 @@ use native.Mathlib.Omega.{arith}
 use native.Mathlib.Numerals.{add-one}
 use lib.ListN.{length, getD, take, drop, set, length-append, length-drop}
 use lib.Seq.{drop-cons, set-append-seam, drop-length, drop-drop, take-append-seam, drop-append-seam, length-take-le}
-use Rattle.laws.specs.Laid.{laidOver}
-use Rattle.adjacency.specs.Adjacency.{from, lower, entry, entryEdges}
+use Rattle.laws.specs.document.Laid.{laidOver}
+use Rattle.adjacency.specs.document.Adjacency.{from, lower, entry, entryEdges}
 use Rattle.adjacency.specs.Coded.{map-from-length}
 use Rattle.adjacency.specs.Made.{made-length}
 

@@ -7,12 +7,12 @@ use native.Mathlib.Decide.{ℕ-discrete}
 use native.Mathlib.Omega.{arith}
 use lib.Count.{ones}
 use lib.ListN.{length}
-use Rattle.refusal.specs.Table.{Row, Clear, Outside, row3}
+use Rattle.refusal.specs.document.Table.{Row, Clear, Outside, row3}
 use Rattle.refusal.specs.Laws.{clear-one, clear-both, clear-left, never, others, at-least}
-use Rattle.tree.specs.Skeleton.{arcs, IsSkeleton}
-use Rattle.skeleton.specs.Edges.{row6}
-use Rattle.skeleton.specs.Theorems.{accepted}
-use Rattle.adjacency.specs.Adjacency.{factorial, zeroCam, aEdges, row4, row5-ones, madeRows, camRows, zeroRows, aRows}
+use Rattle.skeleton.specs.document.Skeleton.{arcs, IsSkeleton}
+use Rattle.edge_list.specs.document.Edges.{row6}
+use Rattle.edge_list.specs.Theorems.{accepted}
+use Rattle.adjacency.specs.document.Adjacency.{factorial, zeroCam, aEdges, row4-number, row5-ones, madeRows, camRows, zeroRows, aRows}
 use Rattle.adjacency.specs.Plain.{plain-at}
 use Rattle.adjacency.specs.Made.{entries-clear, edgeFront}
 use Rattle.adjacency.specs.Zero as Zero
@@ -39,7 +39,7 @@ zero-accepted most R N x = (there, back)
 
 -- 3, 4 and 5 of an A0
 abbrev pub aFront : ℕ → ℕ → ℕ → List Row
-aFront most N x = row3 most N ∷ row4 (2 ^ (N * (N - 1) / 2)) x ∷ row5-ones N x ∷ []
+aFront most N x = row3 most N ∷ row4-number (2 ^ (N * (N - 1) / 2)) x ∷ row5-ones N x ∷ []
 
 -- where they are clear, it makes N-1 edges
 pub a-long : (most N x : ℕ) → Clear (aFront most N x) → length (aEdges N x) ≡ 2 * (N - 1)

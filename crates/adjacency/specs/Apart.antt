@@ -5,23 +5,23 @@ use mathlib.Core.List.{List, [], _∷_, List·Memᴰ, List·Memᴰ·head, List·
 use Prim.Native.Nat.{ℕ, suc, _<_}
 use native.Mathlib.Decide.{ℕ-discrete, decLt}
 use native.Mathlib.Omega.{arith}
-use Rattle.laws.specs.Once.{Once}
+use Rattle.laws.specs.document.Once.{Once}
 use Rattle.refusal.specs.Laws.{never, others}
-use Rattle.tree.specs.Skeleton.{Arc, arcs, Walk, here, along, IsSkeleton}
-use Rattle.skeleton.specs.Edges.{Edge, one, other, before}
-use Rattle.skeleton.specs.Theorems.{accepted}
-use Rattle.adjacency.specs.Adjacency.{lower}
+use Rattle.skeleton.specs.document.Skeleton.{Arc, arcs, Walk, here, along, IsSkeleton}
+use Rattle.edge_list.specs.document.Edges.{Edge, firstEnd, secondEnd, before}
+use Rattle.edge_list.specs.Theorems.{accepted}
+use Rattle.adjacency.specs.document.Adjacency.{lower}
 use Rattle.adjacency.specs.Lower.{lower-nil, lower-odd, lower-one, lower-other, lower-pass, lower-arc}
 use Rattle.adjacency.specs.Columns.{Plain, none, odd, more}
 use Rattle.adjacency.specs.Plain.{plain, next-one, next-other}
 
 -- 8 applies nowhere
 abbrev Apart : List ℕ → Type 0
-Apart E = (p : ℕ) → Edge E p → Walk (arcs (before E p)) (one E p) (other E p) → ⊥
+Apart E = (p : ℕ) → Edge E p → Walk (arcs (before E p)) (firstEnd E p) (secondEnd E p) → ⊥
 
 -- edge p goes from u to v or from v to u
 abbrev Joins : List ℕ → ℕ → ℕ → ℕ → Type 0
-Joins E p u v = ((one E p ≡ u) × (other E p ≡ v)) ⊎ ((one E p ≡ v) × (other E p ≡ u))
+Joins E p u v = ((firstEnd E p ≡ u) × (secondEnd E p ≡ v)) ⊎ ((firstEnd E p ≡ v) × (secondEnd E p ≡ u))
 
 -- ---- one edge in front
 

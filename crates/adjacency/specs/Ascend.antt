@@ -10,8 +10,8 @@ use native.Mathlib.Decide.{ℕ-discrete}
 use native.Mathlib.Omega.{arith}
 use lib.Count.{ones, ones-step}
 use lib.ListN.{length}
-use Rattle.code.specs.Code.{sum}
-use Rattle.adjacency.specs.Adjacency.{bits, put, rows}
+use Rattle.digit_code.specs.document.Code.{sum}
+use Rattle.adjacency.specs.document.Adjacency.{columnSum, put, rows}
 
 -- ascending, from r up and below t
 pub data Asc (t : ℕ) : ℕ → List ℕ → Type 0 where
@@ -29,8 +29,8 @@ part : ℕ → List ℕ → ℕ
 part r [] = 0
 part r (x ∷ S) = 2 ^ (x - r) + part r S
 
-part-bits : (S : List ℕ) → bits S ≡ part 1 S
-unfolding part bits sum
+part-bits : (S : List ℕ) → columnSum S ≡ part 1 S
+unfolding part columnSum sum
 part-bits [] = refl
 part-bits (x ∷ S) = ap (λ y. 2 ^ (x - 1) + y) (part-bits S)
 
@@ -128,13 +128,13 @@ part-rows r (suc k) b h = step (b % 2) refl (part-rows (suc r) k (b / 2) (let l 
 
 -- ---- with the lowest row 1
 
-pub rows-bits : (k : ℕ) (S : List ℕ) → Asc (suc k) 1 S → rows 1 k (bits S) ≡ S
+pub rows-bits : (k : ℕ) (S : List ℕ) → Asc (suc k) 1 S → rows 1 k (columnSum S) ≡ S
 rows-bits k S s = rw (part-bits S) (rows-part 1 k S (let e : 1 + k ≡ suc k = omega arith in rw e s))
 
-pub bits-lt : (k : ℕ) (S : List ℕ) → Asc (suc k) 1 S → bits S < 2 ^ k
+pub bits-lt : (k : ℕ) (S : List ℕ) → Asc (suc k) 1 S → columnSum S < 2 ^ k
 bits-lt k S s = rw (part-bits S) (part-lt 1 k S (let e : 1 + k ≡ suc k = omega arith in rw e s))
 
-pub bits-rows : (k b : ℕ) → b < 2 ^ k → bits (rows 1 k b) ≡ b
+pub bits-rows : (k b : ℕ) → b < 2 ^ k → columnSum (rows 1 k b) ≡ b
 bits-rows k b h = part-bits (rows 1 k b) ∙ part-rows 1 k b h
 
 -- each one of the number is a row

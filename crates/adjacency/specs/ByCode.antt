@@ -6,10 +6,10 @@ use mathlib.Core.List.{List, [], _∷_, _++_, List·Memᴰ, List·Memᴰ·head, 
 use Prim.Native.Nat.{ℕ, zero, suc, _-_, _≤_}
 use native.Mathlib.Omega.{arith}
 use lib.ListN.{length, replicate}
-use Rattle.code.specs.Code.{edgesFrom, decode}
-use Rattle.code.specs.Ends.{Ends}
-use Rattle.tree.specs.Theorems.{decoded-tree}
-use Rattle.adjacency.specs.Adjacency.{Physical, entryEdges}
+use Rattle.digit_code.specs.document.Code.{edgesFrom, decode}
+use Rattle.digit_code.specs.Ends.{Ends}
+use Rattle.skeleton.specs.Theorems.{decoded-tree}
+use Rattle.adjacency.specs.document.Adjacency.{Physical, entryEdges}
 use Rattle.adjacency.specs.Entries.{Entries, none, more, cam-physical}
 use Rattle.adjacency.specs.Made.{made-length}
 

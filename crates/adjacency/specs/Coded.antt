@@ -6,7 +6,7 @@ use Prim.Native.Nat.{ℕ, zero, suc, _+_, _-_, _≤_, _<_}
 use native.Mathlib.Decide.{ℕ-discrete, decLt}
 use native.Mathlib.Omega.{arith}
 use lib.ListN.{length, getD}
-use Rattle.adjacency.specs.Adjacency.{from, lower, Physical, entry, cam}
+use Rattle.adjacency.specs.document.Adjacency.{from, lower, Physical, entry, cam}
 use Rattle.adjacency.specs.Lower.{lower-nil, lower-odd, lower-one, lower-other, lower-pass}
 use Rattle.adjacency.specs.Columns.{Plain, none, odd, more}
 use Rattle.adjacency.specs.Entries.{Entries}

@@ -9,8 +9,8 @@ use native.Mathlib.Decide.{ℕ-discrete, decLt}
 use native.Mathlib.Omega.{arith}
 use lib.ListN.{length, getD}
 use Rattle.laws.specs.Perms.{front}
-use Rattle.tree.specs.Skeleton.{arcs}
-use Rattle.adjacency.specs.Adjacency.{from, lower, Physical, entry, cam, entryEdges, camEdges, tied}
+use Rattle.skeleton.specs.document.Skeleton.{arcs}
+use Rattle.adjacency.specs.document.Adjacency.{from, lower, Physical, entry, cam, entryEdges, camEdges, tied}
 use Rattle.adjacency.specs.Lower.{lower-nil, lower-odd, lower-one, lower-other, lower-pass}
 
 -- n columns, that of vertex i + 1 first; f says the rows

@@ -6,9 +6,9 @@ use mathlib.Core.List.{List, [], _∷_, map}
 use Prim.Native.Nat.{ℕ, zero, suc, _+_, _-_, _≤_, _<_}
 use native.Mathlib.Omega.{arith}
 use lib.ListN.{length, getD}
-use Rattle.refusal.specs.Table.{Clear, Outside}
+use Rattle.refusal.specs.document.Table.{Clear, Outside}
 use Rattle.refusal.specs.Laws.{never}
-use Rattle.adjacency.specs.Adjacency.{from, lower, Physical, entry, cam, entryEdges, camEdges, row6-cam}
+use Rattle.adjacency.specs.document.Adjacency.{from, lower, Physical, entry, cam, entryEdges, camEdges, row6-cam}
 use Rattle.adjacency.specs.Lower.{lower-nil, lower-one, lower-pass}
 
 -- "1 <= CAM(i) <= i", of entries that begin with number i

@@ -4,10 +4,10 @@ use mathlib.Core.Path.{_≡_, refl}
 use mathlib.Core.List.{List, [], _∷_}
 use Prim.Native.Nat.{ℕ}
 use native.Mathlib.Decide.{ℕ-discrete, decLt}
-use Rattle.code.specs.Code.{sum}
-use Rattle.tree.specs.Skeleton.{arcs, neighbours}
-use Rattle.adjacency.specs.Mixed.{mixed, digits, left}
-use Rattle.adjacency.specs.Adjacency.{from, lower, entry, cam, entryEdges, camEdges, zeroA, zeroCam, bits, powers, aZero, rows, tied, columns, aEdges}
+use Rattle.digit_code.specs.document.Code.{sum}
+use Rattle.skeleton.specs.document.Skeleton.{arcs, neighbours}
+use Rattle.adjacency.specs.document.Mixed.{mixed, mixedDigits, left}
+use Rattle.adjacency.specs.document.Adjacency.{from, lower, entry, cam, entryEdges, camEdges, zeroA, zeroCam, columnSum, powers, aZero, rows, tied, columns, aEdges}
 
 abbrev given : List ℕ
 given = 1 ∷ 2 ∷ 2 ∷ 3 ∷ 1 ∷ 6 ∷ []
@@ -21,7 +21,7 @@ unfolding from lower entry cam arcs neighbours ℕ-discrete decLt
 its-cam = refl
 
 its-aZero : aZero 7 edges ≡ 1646688
-unfolding from lower arcs neighbours mixed bits powers aZero sum ℕ-discrete decLt
+unfolding from lower arcs neighbours mixed columnSum powers aZero sum ℕ-discrete decLt
 its-aZero = refl
 
 -- "the values are 0 to (N-1)!-1": a chain of four, numbered along, has the last
@@ -31,14 +31,14 @@ of-chain = refl
 
 -- decoded
 from-zeroA : zeroCam 7 545 ≡ given
-unfolding from zeroCam digits left
+unfolding from zeroCam mixedDigits left
 from-zeroA = refl
 
 from-aZero : aEdges 7 1646688 ≡ camEdges given
-unfolding from entryEdges digits left powers rows tied columns aEdges
+unfolding from entryEdges mixedDigits left powers rows tied columns aEdges
 from-aZero = refl
 
 -- two rows in one column, ascending
 two-rows : aEdges 3 3 ≡ 1 ∷ 3 ∷ 2 ∷ 3 ∷ []
-unfolding from digits left powers rows tied columns aEdges
+unfolding from mixedDigits left powers rows tied columns aEdges
 two-rows = refl

@@ -1,6 +1,5 @@
 -- CAM, 0A and A0: a skeleton by the neighbours that its vertices have among the lower numbers. Assumes nothing.
 pub mod Mixed
-pub mod Adjacency
 pub mod Examples
 pub mod Lower
 pub mod Entries
@@ -20,3 +19,4 @@ pub mod Listed
 pub mod Accepted
 pub mod Theorems
 pub mod ByCode
+pub mod document

@@ -4,8 +4,8 @@ use mathlib.Core.Logic.{_⊎_, inl, inr}
 use mathlib.Core.List.{List, [], _∷_, _++_}
 use Prim.Native.Nat.{ℕ, suc, _≤_, _<_}
 use native.Mathlib.Omega.{arith}
-use Rattle.adjacency.specs.Mixed.{digits}
-use Rattle.adjacency.specs.Adjacency.{entryEdges, camEdges, powers, tied, columns, aEdges}
+use Rattle.adjacency.specs.document.Mixed.{mixedDigits}
+use Rattle.adjacency.specs.document.Adjacency.{entryEdges, camEdges, powers, tied, columns, aEdges}
 use Rattle.adjacency.specs.Entries.{Entries}
 use Rattle.adjacency.specs.Ascend.{Asc}
 use Rattle.adjacency.specs.Taken.{row-asc}
@@ -50,4 +50,4 @@ cam-listed c e = listed-entries 0 0 (let z : 0 ≤ 1 = omega arith in z) e
 -- what any number decodes to as an A0
 pub a-listed : (N x : ℕ) → Listed 0 0 (aEdges N x)
 unfolding aEdges
-a-listed N x = listed-columns 1 (digits (powers N) x) 0 0 (omega arith)
+a-listed N x = listed-columns 1 (mixedDigits (powers N) x) 0 0 (omega arith)

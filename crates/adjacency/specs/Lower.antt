@@ -6,10 +6,10 @@ use Prim.Native.Nat.{ℕ, zero, suc, _+_, _-_, _*_, _/_, _≤_, _<_}
 use native.Mathlib.Decide.{ℕ-discrete, decLt}
 use native.Mathlib.Omega.{arith}
 use lib.ListN.{length, length-append}
-use Rattle.tree.specs.Skeleton.{Arc, arcs, neighbours}
-use Rattle.skeleton.specs.Edges.{Edge, one, other, before}
-use Rattle.skeleton.specs.Prefix.{arcs-more, arcs-all, arcs-none, neighbours-hit, neighbours-miss, neighbours-nil, neighbours-append}
-use Rattle.adjacency.specs.Adjacency.{lower}
+use Rattle.skeleton.specs.document.Skeleton.{Arc, arcs, neighbours}
+use Rattle.edge_list.specs.document.Edges.{Edge, firstEnd, secondEnd, before}
+use Rattle.edge_list.specs.Prefix.{arcs-more, arcs-all, arcs-none, neighbours-hit, neighbours-miss, neighbours-nil, neighbours-append}
+use Rattle.adjacency.specs.document.Adjacency.{lower}
 
 -- those of l that are below v
 abbrev under : ℕ → List ℕ → List ℕ
@@ -92,7 +92,7 @@ pub lower-none : (E : List ℕ) (v : ℕ) → lower (before E 1) v ≡ []
 unfolding lower
 lower-none E v = rw (arcs-none E, neighbours-nil v)
 
-pub lower-more : (E : List ℕ) (p v : ℕ) → Edge E p → lower (before E (p + 1)) v ≡ lower (before E p) v ++ lower (one E p ∷ other E p ∷ []) v
+pub lower-more : (E : List ℕ) (p v : ℕ) → Edge E p → lower (before E (p + 1)) v ≡ lower (before E p) v ++ lower (firstEnd E p ∷ secondEnd E p ∷ []) v
 unfolding lower arcs
 lower-more E p v h = rw (arcs-more E p h, neighbours-append) (filter-append (λ w. decLt w v) (neighbours (arcs (before E p)) v) _)
 

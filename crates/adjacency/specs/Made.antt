@@ -7,12 +7,12 @@ use Prim.Native.Nat.{ℕ, zero, suc, _+_, _-_, _*_, _≤_, _<_}
 use native.Mathlib.Decide.{ℕ-discrete}
 use native.Mathlib.Omega.{arith}
 use lib.ListN.{length, getD}
-use Rattle.refusal.specs.Table.{Row, Clear, row3}
+use Rattle.refusal.specs.document.Table.{Row, Clear, row3}
 use Rattle.refusal.specs.Laws.{clear-one, clear-both, clear-left, clear-right, never, others, at-most, at-least}
-use Rattle.tree.specs.Skeleton.{IsSkeleton}
-use Rattle.skeleton.specs.Edges.{Edge, one, other, row5, row6}
-use Rattle.skeleton.specs.Theorems.{accepted}
-use Rattle.adjacency.specs.Adjacency.{entryEdges, camEdges, row5-cam, row6-cam, madeRows, camRows}
+use Rattle.skeleton.specs.document.Skeleton.{IsSkeleton}
+use Rattle.edge_list.specs.document.Edges.{Edge, firstEnd, secondEnd, row5-edges, row6}
+use Rattle.edge_list.specs.Theorems.{accepted}
+use Rattle.adjacency.specs.document.Adjacency.{entryEdges, camEdges, row5-cam, row6-cam, madeRows, camRows}
 use Rattle.adjacency.specs.Entries.{Entries, none, more, entries-of}
 
 -- ---- the edges by number
@@ -61,7 +61,7 @@ camFront most N c = row3 most N ∷ row5-cam N c ∷ row6-cam c ∷ []
 
 -- the edge list's
 abbrev pub edgeFront : ℕ → ℕ → List ℕ → List Row
-edgeFront most N E = row3 most N ∷ row5 N E ∷ row6 N E 1 ∷ []
+edgeFront most N E = row3 most N ∷ row5-edges N E ∷ row6 N E 1 ∷ []
 
 pub front-made : (most N : ℕ) (c : List ℕ) → 1 ≤ N → N ≤ most → length c ≡ N - 1 → Entries 1 c → Clear (edgeFront most N (camEdges c))
 front-made most N c low high len k = clear-both three (clear-both five six)
@@ -69,10 +69,10 @@ front-made most N c low high len k = clear-both three (clear-both five six)
     three : Clear (row3 most N ∷ [])
     three = clear-one (λ p a. ⊎-elim (λ e. let n : ⊥ = omega arith in n) (λ l. let n : ⊥ = omega arith in n) (a .1))
 
-    five : Clear (row5 N (camEdges c) ∷ [])
+    five : Clear (row5-edges N (camEdges c) ∷ [])
     five = clear-one (λ p a. let e = made-length 1 c in let n : length (camEdges c) ≡ 2 * (N - 1) = omega arith in a .1 n)
 
-    fair : (p : ℕ) → Edge (camEdges c) p → (1 ≤ one (camEdges c) p) × (one (camEdges c) p ≤ N) × (1 ≤ other (camEdges c) p) × (other (camEdges c) p ≤ N)
+    fair : (p : ℕ) → Edge (camEdges c) p → (1 ≤ firstEnd (camEdges c) p) × (firstEnd (camEdges c) p ≤ N) × (1 ≤ secondEnd (camEdges c) p) × (secondEnd (camEdges c) p ≤ N)
     fair p h =
         let l = made-length 1 c in
         let j : p - 1 < length c = omega (arith, h .0, h .1) in

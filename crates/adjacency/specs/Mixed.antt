@@ -4,26 +4,11 @@
 -- the bases are stands in `Adjacency`. Assumes nothing.
 use mathlib.Core.Path.{_≡_, refl, ap₂}
 use mathlib.Core.List.{List, [], _∷_}
-use Prim.Native.Nat.{ℕ, suc, _+_, _*_, _/_, _%_, _≤_, _<_}
+use Prim.Native.Nat.{ℕ, suc, _+_, _*_, _≤_, _<_}
 use native.Mathlib.Nat.{div-add-mod', mod-lt, mul-assoc, mul-le-mul-left, mul-le-mul-right, lt-of-lt-of-le, div-lt-iff-lt-mul, one-mul, suc-mul}
 use native.Mathlib.Omega.{arith}
 use lib.Arith.{digits-div, digits-mod, lt-one}
-
--- begin with v, and for each base multiply by it and add the digit
-unfoldable pub mixed : ℕ → List ℕ → List ℕ → ℕ
-mixed v [] ds = v
-mixed v (b ∷ bs) [] = v
-mixed v (b ∷ bs) (d ∷ ds) = mixed (v * b + d) bs ds
-
--- what is left of v when its digits for the bases are taken off, the last one first
-unfoldable pub left : List ℕ → ℕ → ℕ
-left [] v = v
-left (b ∷ bs) v = left bs v / b
-
--- the digits of v
-unfoldable pub digits : List ℕ → ℕ → List ℕ
-digits [] v = []
-digits (b ∷ bs) v = left bs v % b ∷ digits bs v
+use Rattle.adjacency.specs.document.Mixed.{left, mixed, mixedDigits}
 
 unfoldable pub product : List ℕ → ℕ
 product [] = 1
@@ -46,20 +31,20 @@ unfolding left mixed
 left-mixed a Below.none = refl
 left-mixed a (Below.more {b} {d} l h) = rw (left-mixed (a * b + d) h) (digits-div a l)
 
-pub digits-mixed : {bs ds : List ℕ} (a : ℕ) → Below bs ds → digits bs (mixed a bs ds) ≡ ds
-unfolding digits mixed
+pub digits-mixed : {bs ds : List ℕ} (a : ℕ) → Below bs ds → mixedDigits bs (mixed a bs ds) ≡ ds
+unfolding mixedDigits mixed
 digits-mixed a Below.none = refl
 digits-mixed a (Below.more {b} {d} l h) = ap₂ (λ x y. x ∷ y) (rw (left-mixed (a * b + d) h) (digits-mod a l)) (digits-mixed (a * b + d) h)
 
 -- ---- the number that the digits of a number make
 
-pub mixed-digits : (bs : List ℕ) (v : ℕ) → mixed (left bs v) bs (digits bs v) ≡ v
-unfolding left digits mixed
+pub mixed-digits : (bs : List ℕ) (v : ℕ) → mixed (left bs v) bs (mixedDigits bs v) ≡ v
+unfolding left mixedDigits mixed
 mixed-digits [] v = refl
 mixed-digits (b ∷ bs) v = rw (div-add-mod' (left bs v) b) (mixed-digits bs v)
 
-pub digits-below : {bs : List ℕ} (v : ℕ) → Positive bs → Below bs (digits bs v)
-unfolding digits
+pub digits-below : {bs : List ℕ} (v : ℕ) → Positive bs → Below bs (mixedDigits bs v)
+unfolding mixedDigits
 digits-below v Positive.none = Below.none
 digits-below v (Positive.more {bs = bs} l p) = Below.more (mod-lt (left bs v) l) (digits-below v p)
 
@@ -81,7 +66,7 @@ pub left-none : {bs : List ℕ} {v : ℕ} → Positive bs → v < product bs →
 left-none {bs} {v} p h = lt-one (left-lt 1 v p (rw one-mul h))
 
 -- every number of the range is that of its digits
-pub from-digits : {bs : List ℕ} {v : ℕ} → Positive bs → v < product bs → mixed 0 bs (digits bs v) ≡ v
+pub from-digits : {bs : List ℕ} {v : ℕ} → Positive bs → v < product bs → mixed 0 bs (mixedDigits bs v) ≡ v
 from-digits {bs} {v} p h = rw (left-none p h) at (mixed-digits bs v)
 
 -- values only grow on the way

@@ -3,13 +3,13 @@ use mathlib.Core.Path.{_≡_}
 use mathlib.Core.List.{List, [], _∷_}
 use Prim.Native.Nat.{ℕ, zero, suc, _≤_}
 use lib.ListN.{length}
-use Rattle.laws.specs.Laid.{laidOver}
-use Rattle.skeleton.specs.Edges.{Edge, one, other}
-use Rattle.adjacency.specs.Adjacency.{lower, OneLower, rows, tied}
+use Rattle.laws.specs.document.Laid.{laidOver}
+use Rattle.edge_list.specs.document.Edges.{Edge, firstEnd, secondEnd}
+use Rattle.adjacency.specs.document.Adjacency.{lower, OneLower, rows, tied}
 
 -- every end of every edge is from 1 up
 pub record Numbered (E : List ℕ) : Type 0 where
-  pub ends : (p : ℕ) → Edge E p → (1 ≤ one E p) × (1 ≤ other E p)
+  pub ends : (p : ℕ) → Edge E p → (1 ≤ firstEnd E p) × (1 ≤ secondEnd E p)
 
 -- a vertex, or none where w is 0
 abbrev pub found : ℕ → List ℕ

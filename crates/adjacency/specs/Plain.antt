@@ -4,17 +4,17 @@ use mathlib.Core.Logic.{inl, inr}
 use mathlib.Core.List.{List, [], _∷_}
 use Prim.Native.Nat.{ℕ, zero, suc, _+_, _-_, _*_, _≤_, _<_}
 use native.Mathlib.Omega.{arith}
-use Rattle.refusal.specs.Table.{Outside}
+use Rattle.refusal.specs.document.Table.{Outside}
 use Rattle.refusal.specs.Laws.{never, others}
-use Rattle.tree.specs.Skeleton.{IsSkeleton}
-use Rattle.skeleton.specs.Edges.{Edge, one, other}
-use Rattle.skeleton.specs.Theorems.{accepted}
+use Rattle.skeleton.specs.document.Skeleton.{IsSkeleton}
+use Rattle.edge_list.specs.document.Edges.{Edge, firstEnd, secondEnd}
+use Rattle.edge_list.specs.Theorems.{accepted}
 use Rattle.adjacency.specs.Columns.{Plain, none, odd, more}
 use Rattle.adjacency.specs.Parts.{Numbered}
 
 -- what 6 and 7 leave of an edge
 abbrev Fair : ℕ → List ℕ → ℕ → Type 0
-Fair N E p = (Outside N (one E p) → ⊥) × (Outside N (other E p) → ⊥) × (one E p ≡ other E p → ⊥)
+Fair N E p = (Outside N (firstEnd E p) → ⊥) × (Outside N (secondEnd E p) → ⊥) × (firstEnd E p ≡ secondEnd E p → ⊥)
 
 within : (N v : ℕ) → (Outside N v → ⊥) → (1 ≤ v) × (v ≤ N)
 within N v h = let low : v ≡ 0 → ⊥ = λ e. h (inl e) in let high : N < v → ⊥ = λ l. h (inr l) in (omega arith, omega arith)
@@ -43,7 +43,7 @@ plain {most} {R} {N} {E} s =
     plain-from N E (λ p k. (λ o. never six p (inr (k, inl o)), λ o. never six p (inr (k, inr o)), λ e. never (others six) p (k, e)))
 
 -- the ends of edge p
-pub plain-at : {N : ℕ} {E : List ℕ} → Plain N E → (p : ℕ) → Edge E p → ((1 ≤ one E p) × (one E p ≤ N)) × ((1 ≤ other E p) × (other E p ≤ N))
+pub plain-at : {N : ℕ} {E : List ℕ} → Plain N E → (p : ℕ) → Edge E p → ((1 ≤ firstEnd E p) × (firstEnd E p ≤ N)) × ((1 ≤ secondEnd E p) × (secondEnd E p ≤ N))
 plain-at none p h = absurd (let n : ⊥ = omega (arith, h .0, h .1) in n)
 plain-at odd p h = absurd (let n : ⊥ = omega (arith, h .0, h .1) in n)
 plain-at (more a b d k) zero h = absurd (let n : ⊥ = omega (arith, h .0) in n)

@@ -7,9 +7,10 @@ use native.Mathlib.Omega.{arith}
 use lib.Count.{ones, ones-cat}
 use lib.Pow.{pow-pos, pow-add}
 use lib.ListN.{length, getD, length-append}
-use Rattle.code.specs.Code.{sum}
-use Rattle.adjacency.specs.Mixed.{mixed, product, Below, Positive}
-use Rattle.adjacency.specs.Adjacency.{from, powers, rows, tied, columns}
+use Rattle.digit_code.specs.document.Code.{sum}
+use Rattle.adjacency.specs.Mixed.{product, Below, Positive}
+use Rattle.adjacency.specs.document.Mixed.{mixed}
+use Rattle.adjacency.specs.document.Adjacency.{from, powers, rows, tied, columns}
 use Rattle.adjacency.specs.Ascend.{rows-ones}
 
 -- 2^i, 2^(i+1), .., n of them

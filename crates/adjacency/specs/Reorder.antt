@@ -6,9 +6,9 @@ use Prim.Native.Nat.{ℕ, _-_, _*_}
 use native.Mathlib.Omega.{arith}
 use lib.ListN.{length}
 use Rattle.laws.specs.Perms.{perm-in, perm-length}
-use Rattle.tree.specs.Skeleton.{Arc, arcs, degree, Walk, here, along, Degrees, IsSkeleton}
-use Rattle.tree.specs.Codes.{neighbours-perm}
-use Rattle.tree.specs.Walks.{arc-end}
+use Rattle.skeleton.specs.document.Skeleton.{Arc, arcs, degree, Walk, here, along, Degrees, IsSkeleton}
+use Rattle.skeleton.specs.Codes.{neighbours-perm}
+use Rattle.skeleton.specs.Walks.{arc-end}
 
 walk-perm : {A B : List Arc} {u v : ℕ} → List·Permᴰ A B → Walk A u v → Walk B u v
 walk-perm π here = here

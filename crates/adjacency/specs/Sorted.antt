@@ -5,9 +5,9 @@ use Prim.Native.Nat.{ℕ, suc, _+_, _-_, _^_, _≤_, _<_}
 use native.Mathlib.Decide.{decLt}
 use native.Mathlib.Omega.{arith}
 use Rattle.laws.specs.Perms.{perm-in}
-use Rattle.laws.specs.Once.{Once}
-use Rattle.code.specs.Code.{sum}
-use Rattle.adjacency.specs.Adjacency.{bits}
+use Rattle.laws.specs.document.Once.{Once}
+use Rattle.digit_code.specs.document.Code.{sum}
+use Rattle.adjacency.specs.document.Adjacency.{columnSum}
 use Rattle.adjacency.specs.Ascend.{Asc, none, more}
 
 -- S is rs in ascending order, from r up and below t
@@ -34,8 +34,8 @@ order t r (x ∷ rs) o h =
     let (T, u) = insert x (k .0) (k .1) (λ m. o .0 (perm-in (Permᴰ·symm (s .same)) m)) (s .asc) in
     (T, record { same = List·Permᴰ·trans (List·Permᴰ·cons refl (s .same)) (u .same); asc = u .asc })
 
-pub bits-perm : {rs S : List ℕ} → List·Permᴰ rs S → bits rs ≡ bits S
-unfolding bits sum
+pub bits-perm : {rs S : List ℕ} → List·Permᴰ rs S → columnSum rs ≡ columnSum S
+unfolding columnSum sum
 bits-perm List·Permᴰ·nil = refl
 bits-perm (List·Permᴰ·cons {b = b} e d) = rw e (ap (λ y. 2 ^ (b - 1) + y) (bits-perm d))
 bits-perm (List·Permᴰ·swap e f) = rw (e, f) (omega arith)

@@ -7,9 +7,10 @@ use native.Mathlib.Omega.{arith}
 use lib.Count.{ones}
 use lib.ListN.{length, getD}
 use Rattle.laws.specs.Perms.{front}
-use Rattle.tree.specs.Skeleton.{arcs, IsSkeleton}
-use Rattle.adjacency.specs.Mixed.{mixed, digits, Below, digits-mixed, digits-below, mixed-lt, from-digits}
-use Rattle.adjacency.specs.Adjacency.{from, lower, bin, powers, aZero, rows, tied, columns, aEdges}
+use Rattle.skeleton.specs.document.Skeleton.{arcs, IsSkeleton}
+use Rattle.adjacency.specs.Mixed.{Below, digits-mixed, digits-below, mixed-lt, from-digits}
+use Rattle.adjacency.specs.document.Mixed.{mixed, mixedDigits}
+use Rattle.adjacency.specs.document.Adjacency.{from, lower, bin, powers, aZero, rows, tied, columns, aEdges}
 use Rattle.adjacency.specs.Lower.{lower-nil, lower-one, lower-pass}
 use Rattle.adjacency.specs.Entries.{map-from}
 use Rattle.adjacency.specs.Columns.{byColumn, arcs-tied, Plain, none, more, by-column}
@@ -58,7 +59,7 @@ module _ {most R N : ℕ} {E : List ℕ} (s : IsSkeleton most R N E) where
   unfolding aZero powers
   a-range = rw (← product-powers N) (rw one-mul at (mixed-lt 0 (columns-below 1 (N - 1))))
 
-  pub a-digits : digits (powers N) (aZero N E) ≡ map (bin E) (from 1 (N - 1))
+  pub a-digits : mixedDigits (powers N) (aZero N E) ≡ map (bin E) (from 1 (N - 1))
   unfolding aZero powers
   a-digits = digits-mixed 0 (columns-below 1 (N - 1))
 
@@ -112,21 +113,21 @@ columns-again n c e b = rw (← e) (map-from (bin (columns 1 c)) 1 c again)
         let k = rw (pows-at 1 n j (omega arith)) at (below-at b j l) in
         rw (z, lower-columns 1 c j l) (bits-rows (1 + j) (getD c j 0) k)
 
-pub digits-long : (N x : ℕ) → length (digits (powers N) x) ≡ N - 1
+pub digits-long : (N x : ℕ) → length (mixedDigits (powers N) x) ≡ N - 1
 unfolding powers
 digits-long N x = digits-length (pows 1 (N - 1)) x ∙ length-map (λ i. 2 ^ i) (from 1 (N - 1)) ∙ from-length 1 (N - 1)
 
-pub powers-below : (N x : ℕ) → Below (powers N) (digits (powers N) x)
+pub powers-below : (N x : ℕ) → Below (powers N) (mixedDigits (powers N) x)
 unfolding powers
 powers-below N x = digits-below x (pows-positive 1 (N - 1))
 
-pub powers-digits : (N x : ℕ) → x < 2 ^ (N * (N - 1) / 2) → mixed 0 (powers N) (digits (powers N) x) ≡ x
+pub powers-digits : (N x : ℕ) → x < 2 ^ (N * (N - 1) / 2) → mixed 0 (powers N) (mixedDigits (powers N) x) ≡ x
 unfolding powers
 powers-digits N x h = from-digits (pows-positive 1 (N - 1)) (rw (product-powers N) h)
 
 pub a-back : (N x : ℕ) → x < 2 ^ (N * (N - 1) / 2) → aZero N (aEdges N x) ≡ x
 unfolding aZero aEdges powers
-a-back N x h = rw (columns-again (N - 1) (digits (powers N) x) (digits-long N x) (powers-below N x)) (powers-digits N x h)
+a-back N x h = rw (columns-again (N - 1) (mixedDigits (powers N) x) (digits-long N x) (powers-below N x)) (powers-digits N x h)
 
 -- ---- the edges themselves
 
@@ -149,12 +150,12 @@ plain-columns N i (b ∷ bs) h =
 
 pub a-plain : (N x : ℕ) → 1 ≤ N → Plain N (aEdges N x)
 unfolding aEdges
-a-plain N x h = plain-columns N 1 (digits (powers N) x) (omega (arith, digits-long N x))
+a-plain N x h = plain-columns N 1 (mixedDigits (powers N) x) (omega (arith, digits-long N x))
 
 -- there are as many as ones
 pub a-ones : (N x : ℕ) → x < 2 ^ (N * (N - 1) / 2) → length (aEdges N x) ≡ 2 * ones x
 unfolding aEdges powers ones
 a-ones N x h =
     let e = powers-digits N x h in
-    let o = rw e at (ones-columns 1 (N - 1) (digits (powers N) x) (powers-below N x) 0) in
+    let o = rw e at (ones-columns 1 (N - 1) (mixedDigits (powers N) x) (powers-below N x) 0) in
     omega arith

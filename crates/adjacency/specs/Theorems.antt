@@ -4,10 +4,10 @@ use mathlib.Core.List.{List, List·Permᴰ, List·Permᴰ·trans, Permᴰ·symm}
 use Prim.Native.Nat.{ℕ, suc, _-_, _*_, _/_, _^_, _<_}
 use native.Mathlib.Omega.{arith}
 use lib.ListN.{length}
-use Rattle.refusal.specs.Table.{Clear}
+use Rattle.refusal.specs.document.Table.{Clear}
 use Rattle.laws.specs.Perms.{perm-length}
-use Rattle.tree.specs.Skeleton.{arcs, IsSkeleton}
-use Rattle.adjacency.specs.Adjacency.{aZero, aEdges, aRows, Physical, cam, camEdges, zeroA, factorial, zeroCam, camRows, zeroRows}
+use Rattle.skeleton.specs.document.Skeleton.{arcs, IsSkeleton}
+use Rattle.adjacency.specs.document.Adjacency.{aZero, aEdges, aRows, Physical, cam, camEdges, zeroA, factorial, zeroCam, camRows, zeroRows}
 use Rattle.adjacency.specs.Entries.{Entries, cam-again, cam-physical}
 use Rattle.adjacency.specs.Columns.{cam-edges}
 use Rattle.adjacency.specs.Plain.{plain}

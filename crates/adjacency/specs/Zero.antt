@@ -5,8 +5,9 @@ use Prim.Native.Nat.{ℕ, zero, suc, _+_, _-_, _*_, _≤_, _<_}
 use native.Mathlib.Nat.{mul-one, one-mul, mul-assoc, mul-comm}
 use native.Mathlib.Omega.{arith}
 use lib.ListN.{length}
-use Rattle.adjacency.specs.Mixed.{mixed, digits, product, Below, Positive, digits-mixed, digits-below, mixed-lt, from-digits}
-use Rattle.adjacency.specs.Adjacency.{from, zeroA, factorial, zeroCam}
+use Rattle.adjacency.specs.Mixed.{product, Below, Positive, digits-mixed, digits-below, mixed-lt, from-digits}
+use Rattle.adjacency.specs.document.Mixed.{mixed, mixedDigits}
+use Rattle.adjacency.specs.document.Adjacency.{from, zeroA, factorial, zeroCam}
 use Rattle.adjacency.specs.Entries.{Entries, none, more}
 
 -- what is added for each entry
@@ -71,8 +72,8 @@ pub length-map : (f : ℕ → ℕ) (l : List ℕ) → length (map f l) ≡ lengt
 length-map f [] = refl
 length-map f (x ∷ l) = ap suc (length-map f l)
 
-pub digits-length : (bs : List ℕ) (x : ℕ) → length (digits bs x) ≡ length bs
-unfolding digits
+pub digits-length : (bs : List ℕ) (x : ℕ) → length (mixedDigits bs x) ≡ length bs
+unfolding mixedDigits
 digits-length [] x = refl
 digits-length (b ∷ bs) x = ap suc (digits-length bs x)
 
@@ -83,7 +84,7 @@ unfolding zeroCam
 zero-length zero x = refl
 zero-length (suc zero) x = refl
 zero-length (suc (suc n)) x =
-    let e = length-map suc (digits (from 2 n) x) ∙ digits-length (from 2 n) x ∙ from-length 2 n in omega arith
+    let e = length-map suc (mixedDigits (from 2 n) x) ∙ digits-length (from 2 n) x ∙ from-length 2 n in omega arith
 
 pub zero-entries : (N x : ℕ) → Entries 1 (zeroCam N x)
 unfolding zeroCam
@@ -110,4 +111,4 @@ zero-back (suc zero) x h = omega arith
 zero-back (suc (suc n)) x h =
     let e : suc (suc n) - 1 ≡ suc n = omega arith in
     let l = rw e at h in
-    rw (less-suc (digits (from 2 n) x), length-map, digits-length, from-length) (from-digits (from-positive 2 n (omega arith)) (rw (product-from n) l))
+    rw (less-suc (mixedDigits (from 2 n) x), length-map, digits-length, from-length) (from-digits (from-positive 2 n (omega arith)) (rw (product-from n) l))

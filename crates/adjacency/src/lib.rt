@@ -1,6 +1,6 @@
 // CAM, 0A and A0: a skeleton by the neighbours that its vertices have among the lower numbers.
 //
-// What a call lends, and 15, are not looked at here. An edge list that is coded has been accepted by `skeleton::check`.
+// What a call lends, and 15, are not looked at here. An edge list that is coded has been accepted by `edge_list::check`.
 use limits::A_ZERO;
 use limits::ENDS;
 use limits::SIZE;
@@ -16,12 +16,14 @@ ghost use mathlib.Core.Path.{_≡_};
 ghost use mathlib.Core.List.{[], _∷_};
 ghost use Prim.Native.Nat.{_+_, _-_, _*_, _/_, _^_, _≤_, _<_};
 ghost use lib.ListN.{length};
-ghost use Rattle.laws.specs.Laid.{laidOver};
-ghost use Rattle.refusal.specs.Table.{Answers, Clear, row3};
-ghost use Rattle.limits.specs.Limits.{size, width, zeroSize, aSize};
-ghost use Rattle.tree.specs.Skeleton.{IsSkeleton};
-ghost use Rattle.skeleton.specs.Edges.{Edge, one, other};
-ghost use Rattle.adjacency.specs.Adjacency.{lower, Physical, row14, cam, camEdges, zeroA, factorial, zeroCam, row4, row5-cam, row6-cam, madeRows, camRows, zeroRows, bits, aZero, rows, aEdges, row5-ones, aRows};
+ghost use Rattle.laws.specs.document.Laid.{laidOver};
+ghost use Rattle.refusal.specs.document.Table.{Clear, row3};
+ghost use Rattle.refusal.specs.Checks.{Answers};
+ghost use Rattle.limits.specs.document.Limits.{size, zeroSize, aSize};
+ghost use Rattle.limits.specs.Width.{width};
+ghost use Rattle.skeleton.specs.document.Skeleton.{IsSkeleton};
+ghost use Rattle.edge_list.specs.document.Edges.{Edge, firstEnd, secondEnd};
+ghost use Rattle.adjacency.specs.document.Adjacency.{lower, Physical, row14-physical, cam, camEdges, zeroA, factorial, zeroCam, row4-number, row5-cam, row6-cam, madeRows, camRows, zeroRows, columnSum, aZero, rows, aEdges, row5-ones, aRows};
 ghost use Rattle.adjacency.specs.Entries.{Entries};
 ghost use Rattle.adjacency.specs.Made.{camFront};
 ghost use Rattle.adjacency.specs.Parts.{Numbered, Gives, Only, Column};
@@ -48,9 +50,9 @@ fn down(a: usize, b: usize, v: usize) -> usize
 // The lower neighbour that edge p gives to v, or 0.
 fn lower_at(edges: &[u8], p: usize, v: usize) -> usize
     requires { ⌜ Numbered (now edges) × Edge (now edges) p ⌝ }
-    ensures { λ r. ⌜ Gives (one (now (edges .entry)) p) (other (now (edges .entry)) p) v r ⌝ }
+    ensures { λ r. ⌜ Gives (firstEnd (now (edges .entry)) p) (secondEnd (now (edges .entry)) p) v r ⌝ }
 {
-    down(skeleton::one(edges, p), skeleton::other(edges, p), v)
+    down(edge_list::one(edges, p), edge_list::other(edges, p), v)
 }
 
 // The only lower neighbour of v, or 0.
@@ -77,7 +79,7 @@ fn only(edges: &[u8], v: usize) -> usize
 // 14: the numbering is physical.
 pub fn physical(n: usize, edges: &[u8]) -> Check
     requires { ⌜ Numbered (now edges) × (n ≤ size) ⌝ }
-    ensures { λ r. ⌜ Answers (row14 n (now (edges .entry)) ∷ []) r ⌝ }
+    ensures { λ r. ⌜ Answers (row14-physical n (now (edges .entry)) ∷ []) r ⌝ }
 {
     let mut v: usize = 2;
     while v <= n {
@@ -155,7 +157,7 @@ fn made(limit: u8, n: usize, cam: &[u8]) -> Check
     let mut edges = [0u8; ENDS];
     let m = 2 * cam.len();
     cam_edges(cam, &mut edges[..m]);
-    skeleton::check(SIZE, limit, n, &edges[..m], 1)
+    edge_list::check(SIZE, limit, n, &edges[..m], 1)
 }
 
 // Every refusal of a CAM.
@@ -217,7 +219,7 @@ pub fn zero_cam(n: usize, x: u64, out: &mut [u8])
 
 // 3 and 4 of a 0A.
 fn zero_sizes(n: usize, x: u64) -> Check
-    ensures { λ r. ⌜ Answers (row3 zeroSize n ∷ row4 (factorial (n - 1)) x ∷ []) r ⌝ }
+    ensures { λ r. ⌜ Answers (row3 zeroSize n ∷ row4-number (factorial (n - 1)) x ∷ []) r ⌝ }
 {
     if let Check::Refuse(k, p) = refusal::sized(n, ZERO_A) {
         return Check::Refuse(k, p);
@@ -244,7 +246,7 @@ pub fn zero_check(limit: u8, n: usize, x: u64) -> Check
 // BIN of vertex v: bit r - 1 for each lower neighbour r.
 fn bin(edges: &[u8], v: usize) -> u64
     requires { ⌜ Numbered (now edges) × (v ≤ aSize) × (length (now edges) < 2 * aSize) ⌝ }
-    ensures { λ r. ⌜ r ≡ bits (lower (now (edges .entry)) v) ⌝ }
+    ensures { λ r. ⌜ r ≡ columnSum (lower (now (edges .entry)) v) ⌝ }
 {
     let m = edges.len() / 2;
     let mut b: u64 = 0;
@@ -311,7 +313,7 @@ pub fn a_edges(n: usize, x: u64, out: &mut [u8])
 
 // 3, 4 and 5 of an A0.
 fn a_sizes(n: usize, x: u64) -> Check
-    ensures { λ r. ⌜ Answers (row3 aSize n ∷ row4 (2 ^ (n * (n - 1) / 2)) x ∷ row5-ones n x ∷ []) r ⌝ }
+    ensures { λ r. ⌜ Answers (row3 aSize n ∷ row4-number (2 ^ (n * (n - 1) / 2)) x ∷ row5-ones n x ∷ []) r ⌝ }
 {
     if let Check::Refuse(k, p) = refusal::sized(n, A_ZERO) {
         return Check::Refuse(k, p);
@@ -335,5 +337,5 @@ pub fn a_check(limit: u8, n: usize, x: u64) -> Check
     }
     let mut edges = [0u8; A_ENDS];
     a_edges(n, x, &mut edges[..2 * (n - 1)]);
-    skeleton::check(A_ZERO, limit, n, &edges[..2 * (n - 1)], 1)
+    edge_list::check(A_ZERO, limit, n, &edges[..2 * (n - 1)], 1)
 }

@@ -9,18 +9,19 @@ use Prim.Native.Nat.{ℕ, _+_, _-_, _*_, _≤_}
 use native.Mathlib.Omega.{arith}
 use lib.ListN.{length, take, length-append, length-take}
 use lib.Seq.{length-take-le}
-use Rattle.refusal.specs.Table.{Clear, FirstRefusal, Answers, passes}
+use Rattle.refusal.specs.document.Table.{Clear, FirstRefusal}
+use Rattle.refusal.specs.Checks.{Answers, passes}
 use Rattle.refusal.specs.Laws.{clear-one, clear-both, first-place, refusal-front, refusal-back, goes-on, alike-answers}
 use Rattle.refusal.specs.declared.Answer.{Answer}
 use Rattle.refusal.specs.declared.Answer.the-variants.{Done, Refused}
 use Rattle.refusal.specs.declared.Check.{Check}
-use Rattle.limits.specs.Limits.{size}
-use Rattle.code.specs.Code.{EndsAt, row12, digitRows}
-use Rattle.code.specs.Code as code
-use Rattle.code.specs.Counting.{one-end}
+use Rattle.limits.specs.document.Limits.{size}
+use Rattle.digit_code.specs.document.Code.{EndsAt, row12, digitRows}
+use Rattle.digit_code.specs.document.Code as code
+use Rattle.digit_code.specs.Counting.{one-end}
 use Rattle.bits.specs.declared.Found.{Found}
 use Rattle.bits.specs.declared.Found.the-variants.{Over, Short, Ended}
-use Rattle.bits.specs.Bits.{whole, after, row10, row11, endRows, bitRows, Carries}
+use Rattle.bits.specs.document.Bits.{wholeDigits, after, row10-bits, row11-bits, endRows, bitRows, Carries}
 use Rattle.bits.specs.Ends.{end-sum, first-end}
 use Rattle.bits.specs.Laws.{length-bits, after-end}
 use Rattle.bits.specs.Found.{Finds, over, short, ended, Scanned}
@@ -66,19 +67,19 @@ pub record Within (n len : ℕ) : Type 0 where
   pub long : 2 * n ≤ len + 1
 
 module _ {R : ℕ} {bs : List Bool} {out : List ℕ} where
-  was-over : {r : Found} {p : ℕ} → Finds R bs out r → r ≡ Over p → FirstRefusal (row10 R bs ∷ []) 10 p
+  was-over : {r : Found} {p : ℕ} → Finds R bs out r → r ≡ Over p → FirstRefusal (row10-bits R bs ∷ []) 10 p
   was-over {p = p} (over {p = q} l) e = let z : q ≡ p = cc in rw z at l
   was-over (short c a) e = let z : _≡_ {A = ℕ} 0 1 = cc in absurd (omega arith)
   was-over (ended c w t) e = let z : _≡_ {A = ℕ} 0 1 = cc in absurd (omega arith)
 
-  was-short : {r : Found} {n : ℕ} → Finds R bs out r → r ≡ Short n → Clear (row10 R bs ∷ []) × row12 (whole bs) .applies n
+  was-short : {r : Found} {n : ℕ} → Finds R bs out r → r ≡ Short n → Clear (row10-bits R bs ∷ []) × row12 (wholeDigits bs) .applies n
   was-short (over l) e = let z : _≡_ {A = ℕ} 0 1 = cc in absurd (omega arith)
   was-short {n = n} (short {n = m} c a) e = let z : m ≡ n = cc in (c, rw z at a)
   was-short (ended c w t) e = let z : _≡_ {A = ℕ} 0 1 = cc in absurd (omega arith)
 
   was-ended
       : {r : Found} {n : ℕ} → Finds R bs out r → r ≡ Ended n
-      → Clear (row10 R bs ∷ []) × EndsAt (whole bs) n × (take n out ≡ take n (whole bs))
+      → Clear (row10-bits R bs ∷ []) × EndsAt (wholeDigits bs) n × (take n out ≡ take n (wholeDigits bs))
   was-ended (over l) e = let z : _≡_ {A = ℕ} 0 1 = cc in absurd (omega arith)
   was-ended (short c a) e = let z : _≡_ {A = ℕ} 0 1 = cc in absurd (omega arith)
   was-ended {n = n} (ended {n = m} c w t) e = let z : m ≡ n = cc in (c, rw z at w, rw z at t)
@@ -87,30 +88,30 @@ module _ {R : ℕ} {bs : List Bool} {out : List ℕ} where
   end-within {n = n} s e =
       let w = was-ended (s .finds) e .1 in
       let l = simp (length-append, length-bits) at (ap length (after-end w)) in
-      omega (arith, l, w .less, end-sum (whole bs) n w, length-take-le n (whole bs) (w .within))
+      omega (arith, l, w .less, end-sum (wholeDigits bs) n w, length-take-le n (wholeDigits bs) (w .within))
 
 -- ---- the four answers
 
 module _ {R : ℕ} (May : List Bool → Type 0) {bs : List Bool} {out : List ℕ} {r : Found} (s : Scanned R bs out r) where
   pub answer-over : {p : ℕ} → r ≡ Over p → Reading R May bs out (Refused 10 p)
   answer-over e =
-      record { answer = refused (refusal-front (row11 May bs ∷ row12 (whole bs) ∷ []) (was-over (s .finds) e)); long = s .long }
+      record { answer = refused (refusal-front (row11-bits May bs ∷ row12 (wholeDigits bs) ∷ []) (was-over (s .finds) e)); long = s .long }
 
   pub answer-short : {n : ℕ} → r ≡ Short n → Reading R May bs out (Refused 12 n)
   answer-short {n} e =
       let t = was-short (s .finds) e in
       let a = t .1 in
-      let c : Clear (row11 May bs ∷ []) = clear-one (λ p h. a .1 (p - 1) (h .0)) in
+      let c : Clear (row11-bits May bs ∷ []) = clear-one (λ p h. a .1 (p - 1) (h .0)) in
       record {
         answer = refused (refusal-back (clear-both (t .0) c) (first-place a (λ q l b. omega (arith, a .0, b .0))));
         long = s .long;
       }
 
   module _ {n : ℕ} (e : r ≡ Ended n) where
-    end-at : EndsAt (whole bs) n
+    end-at : EndsAt (wholeDigits bs) n
     end-at = was-ended (s .finds) e .1
 
-    eleven : (p : ℕ) → row11 May bs .applies p → p ≡ n + 1
+    eleven : (p : ℕ) → row11-bits May bs .applies p → p ≡ n + 1
     eleven p a = let z : p - 1 ≡ n = one-end (a .0) end-at in omega (arith, end-at .less)
 
     -- more follows than may
@@ -123,9 +124,9 @@ module _ {R : ℕ} (May : List Bool → Type 0) {bs : List Bool} {out : List ℕ
     answer-read m =
         let t = was-ended (s .finds) e in
         let z : n + 1 - 1 ≡ n = omega arith in
-        let count : length (take n out) ≡ n = rw (t .2) (length-take-le n (whole bs) (end-at .within)) in
-        let more : Clear (row11 May bs ∷ []) = clear-one (λ p a. rw (eleven p a, z) at (a .1) m) in
-        let cut : Clear (row12 (whole bs) ∷ []) = clear-one (λ p a. a .1 n end-at) in
+        let count : length (take n out) ≡ n = rw (t .2) (length-take-le n (wholeDigits bs) (end-at .within)) in
+        let more : Clear (row11-bits May bs ∷ []) = clear-one (λ p a. rw (eleven p a, z) at (a .1) m) in
+        let cut : Clear (row12 (wholeDigits bs) ∷ []) = clear-one (λ p a. a .1 n end-at) in
         record {
           answer =
               accepted {n = n}

@@ -7,15 +7,16 @@ use mathlib.Core.List.{List, [], _∷_, _++_}
 use Prim.Native.Nat.{ℕ, _≤_}
 use native.Mathlib.Omega.{arith}
 use lib.ListN.{length, take}
-use Rattle.refusal.specs.Table.{Row, Clear, FirstRefusal, passes, fails, row3}
+use Rattle.refusal.specs.document.Table.{Row, Clear, FirstRefusal, row3}
+use Rattle.refusal.specs.Checks.{passes, fails}
 use Rattle.refusal.specs.Laws.{clear-both, size-clear, refusal-front, refusal-back, was-clear, was-refused, alike-clear}
 use Rattle.refusal.specs.declared.Answer.{Answer}
 use Rattle.refusal.specs.declared.Answer.the-variants.{Done, Refused}
-use Rattle.limits.specs.Limits.{size}
-use Rattle.code.specs.Code.{plain, codeRows, row13}
-use Rattle.code.specs.Ends.{Ends, ends-iff}
-use Rattle.bits.specs.Bits.{bitRows, Reads}
-use Rattle.bits.specs.Bits as bits
+use Rattle.limits.specs.document.Limits.{size}
+use Rattle.digit_code.specs.document.Code.{plain, codeRows, row13}
+use Rattle.digit_code.specs.Ends.{Ends, ends-iff}
+use Rattle.bits.specs.document.Bits.{bitRows, Reads}
+use Rattle.bits.specs.document.Bits as bits
 use Rattle.bits.specs.Reading.{carried-alike}
 use Rattle.bits.specs.Answered.{Accepted, Judged, accepted, refused, Reading, answer-ordered}
 
@@ -81,7 +82,7 @@ module _ {R : ℕ} {May : List Bool → Type 0} {bs : List Bool} {out : List ℕ
 
   judged : {r a : Answer} → Judged R May bs out r → length out ≡ size → Ordered out r a → Decided (fs ++ bitRows R May bs) R May bs out a
   judged (accepted t) h o = decided t (omega (arith, t .room)) o
-  judged (refused l) h e = rw e (refuses (refusal-back f (refusal-front (bits.row13 bs ∷ []) l)))
+  judged (refused l) h e = rw e (refuses (refusal-back f (refusal-front (bits.row13-bits bs ∷ []) l)))
 
   pub decide-ordered : {r a : Answer} → Reading R May bs out r → Ordered out r a → Decision (fs ++ bitRows R May bs) R May bs out a
   decide-ordered s o = record { answer = judged (s .answer) (s .long) o; long = s .long }

@@ -14,7 +14,7 @@ use lib.ListN.{length, drop, getD, length-append, drop-of-length-le, List·getD-
 use lib.Seq.{drop-cons}
 use lib.Pow.{pow-pos}
 use lib.Count.{leadingZeros}
-use Rattle.bits.specs.Bits.{word, bytes}
+use Rattle.bits.specs.document.Bits.{word, bytes}
 use Rattle.bits.specs.Words.{lead, length-word, word-drop, word-two, word-shift, word-zero, lead-word, lead-zeros, bytes-at}
 
 -- r counts the ones that the bits begin with, as far as m bits show it

@@ -9,10 +9,10 @@ use native.Mathlib.Nat.{le-refl}
 use native.Mathlib.Omega.{arith}
 use lib.ListN.{length, take, drop, length-append, take-append-drop}
 use lib.Seq.{take-append-le, length-take-le}
-use Rattle.refusal.specs.Table.{Clear}
+use Rattle.refusal.specs.document.Table.{Clear}
 use Rattle.refusal.specs.Laws.{clear-left, others}
-use Rattle.code.specs.Code.{plain, sum, EndsAt, row11, row12, row13, digitRows}
-use Rattle.code.specs.Counting.{clear-ends}
+use Rattle.digit_code.specs.document.Code.{plain, sum, EndsAt, row11, row12, row13, digitRows}
+use Rattle.digit_code.specs.Counting.{clear-ends}
 
 -- the first n digits end no code: their sum is never less than the position
 pub record Open (c : List ℕ) (n : ℕ) : Type 0 where

@@ -6,14 +6,14 @@ use mathlib.Core.List.{List, [], _∷_, _++_}
 use Prim.Native.Nat.{ℕ, zero, suc, _*_, _^_, _<_}
 use native.Mathlib.Omega.{arith}
 use lib.ListN.{length, getD}
-use Rattle.refusal.specs.Table.{FirstRefusal, row3}
+use Rattle.refusal.specs.document.Table.{FirstRefusal, row3}
 use Rattle.refusal.specs.Laws.{clear-one, clear-both, refusal-back}
-use Rattle.limits.specs.Limits.{valence, wholeSize}
-use Rattle.code.specs.Code as code
-use Rattle.code.specs.Ends.{ends-iff}
-use Rattle.bits.specs.Bits.{bits, bit, word, bytes, fractionBits, Zeros, Nothing, row4, bitRows, wholeRows}
+use Rattle.limits.specs.document.Limits.{valence, wholeSize}
+use Rattle.digit_code.specs.document.Code as code
+use Rattle.digit_code.specs.Ends.{ends-iff}
+use Rattle.bits.specs.document.Bits.{bits, bit, word, bytes, fractionBits, Zeros, Nothing, row4-whole, bitRows, wholeRows}
 use Rattle.bits.specs.Reading.{more-refused}
-use Rattle.bits.specs.Written.{Packs}
+use Rattle.bits.specs.document.Written.{Packs}
 
 -- 002's example, packed into two bytes, and as the fraction 30344/32768 at 53 bits
 pub packed : Packs (3 ∷ 2 ∷ 1 ∷ 0 ∷ 0 ∷ 1 ∷ 0 ∷ 0 ∷ []) (237 ∷ 16 ∷ [])
@@ -73,7 +73,7 @@ sixteen = refl
 pub refused-sixteen : FirstRefusal (wholeRows wholeSize valence 3 16) 11 3
 refused-sixteen =
     refusal-back
-    (clear-both (clear-one {r = row3 32 3} in-range) (clear-one {r = row4 3 16} (λ p a. omega (arith, a .1))))
+    (clear-both (clear-one {r = row3 32 3} in-range) (clear-one {r = row4-whole 3 16} (λ p a. omega (arith, a .1))))
     (rw sixteen
     (more-refused valence Nothing (1 ∷ 0 ∷ []) (false ∷ false ∷ []) (ends-iff (1 ∷ 0 ∷ []) .0 tt) none-over-10 more))
   where

@@ -11,7 +11,7 @@ use native.Mathlib.Omega.{arith}
 use lib.Dec.{lit<}
 use lib.ListN.{length, take, drop, getD, replicate, length-replicate, length-drop, replicate-append-replicate, drop-of-length-le}
 use lib.Seq.{take-at}
-use Rattle.bits.specs.Bits.{after, bit, word, bytes, fractionBits, Zeros, Fill, Nothing}
+use Rattle.bits.specs.document.Bits.{after, bit, word, bytes, fractionBits, Zeros, Fill, Nothing}
 use Rattle.bits.specs.Words.{length-word, word-two, word-drop, word-zero, word-shift, word-same, bytes-at, length-bytes}
 
 -- zeros, by their number

@@ -10,14 +10,14 @@ use native.Mathlib.Nat.{le-refl}
 use native.Mathlib.Omega.{arith}
 use lib.ListN.{length, take, drop, set, length-append, length-set, drop-of-length-le}
 use lib.Seq.{take-suc-set, take-take}
-use Rattle.refusal.specs.Table.{Clear, FirstRefusal}
-use Rattle.limits.specs.Limits.{size}
-use Rattle.code.specs.Code.{sum, EndsAt, cap, row12}
+use Rattle.refusal.specs.document.Table.{Clear, FirstRefusal}
+use Rattle.limits.specs.document.Limits.{size}
+use Rattle.digit_code.specs.document.Code.{sum, EndsAt, cap, row12}
 use Rattle.bits.specs.declared.Found.{Found}
 use Rattle.bits.specs.declared.Found.the-variants.{Over, Short, Ended}
 use Rattle.bits.specs.declared.Turn.{Turn}
 use Rattle.bits.specs.declared.Turn.the-variants.{On, Stop}
-use Rattle.bits.specs.Bits.{whole, row10}
+use Rattle.bits.specs.document.Bits.{wholeDigits, row10-bits}
 use Rattle.bits.specs.Ends.{Open}
 use Rattle.bits.specs.Words.{lead}
 use Rattle.bits.specs.Digit.{Near, near-exact}
@@ -25,9 +25,9 @@ use Rattle.bits.specs.Steps.{Front, front-none, step-over, step-short, s
 
 -- what was found of the bits, with out what the reader has written
 pub data Finds (R : ℕ) (bs : List Bool) (out : List ℕ) : Found → Type 0 where
-  over : {p : ℕ} → FirstRefusal (row10 R bs ∷ []) 10 p → Finds R bs out (Over p)
-  short : {n : ℕ} → Clear (row10 R bs ∷ []) → row12 (whole bs) .applies n → Finds R bs out (Short n)
-  ended : {n : ℕ} → Clear (row10 R bs ∷ []) → EndsAt (whole bs) n → take n out ≡ take n (whole bs) → Finds R bs out (Ended n)
+  over : {p : ℕ} → FirstRefusal (row10-bits R bs ∷ []) 10 p → Finds R bs out (Over p)
+  short : {n : ℕ} → Clear (row10-bits R bs ∷ []) → row12 (wholeDigits bs) .applies n → Finds R bs out (Short n)
+  ended : {n : ℕ} → Clear (row10-bits R bs ∷ []) → EndsAt (wholeDigits bs) n → take n out ≡ take n (wholeDigits bs) → Finds R bs out (Ended n)
 
 -- and the output keeps its length
 pub record Scanned (R : ℕ) (bs : List Bool) (out : List ℕ) (r : Found) : Type 0 where

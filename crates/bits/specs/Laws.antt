@@ -10,13 +10,13 @@ use native.Mathlib.Nat.{zero-add, add-zero, add-suc, suc-add}
 use native.Mathlib.Omega.{arith}
 use lib.ListN.{length, take, drop, replicate, length-append, length-replicate}
 use lib.Seq.{take-append-seam, drop-append-seam, take-length, length-take-le}
-use Rattle.code.specs.Code.{sum, EndsAt}
-use Rattle.code.specs.Counting.{one-end}
-use Rattle.bits.specs.Bits.{bits, digitsFrom, cutFrom, whole, after}
+use Rattle.digit_code.specs.document.Code.{sum, EndsAt}
+use Rattle.digit_code.specs.Counting.{one-end}
+use Rattle.bits.specs.document.Bits.{bits, digitsFrom, cutFrom, wholeDigits, after}
 use Rattle.bits.specs.Ends.{end-sum, ends-more}
 
 -- ones and a zero behind n ones that are passed make one digit
-pub one-digit : (n k : ℕ) (bs : List Bool) → digitsFrom n (replicate k true ++ (false ∷ bs)) ≡ (n + k) ∷ whole bs
+pub one-digit : (n k : ℕ) (bs : List Bool) → digitsFrom n (replicate k true ++ (false ∷ bs)) ≡ (n + k) ∷ wholeDigits bs
 unfolding digitsFrom
 one-digit n zero bs = rw add-zero
 one-digit n (suc k) bs = one-digit (suc n) k bs ∙ rw (suc-add, add-suc)
@@ -33,7 +33,7 @@ no-digit n zero = refl
 no-digit n (suc k) = no-digit (suc n) k
 
 -- reading the bits of digits gives the digits, and then those of what follows
-pub read-bits : (ds : List ℕ) (bs : List Bool) → whole (bits ds ++ bs) ≡ ds ++ whole bs
+pub read-bits : (ds : List ℕ) (bs : List Bool) → wholeDigits (bits ds ++ bs) ≡ ds ++ wholeDigits bs
 unfolding bits
 read-bits [] bs = refl
 read-bits (k ∷ ds) bs = rw (append-assoc, one-digit 0 k (bits ds ++ bs), zero-add, read-bits ds bs)
@@ -73,18 +73,18 @@ front n (false ∷ bs) (suc e) h =
     record { rest = r .rest; same = rw append-assoc (ap {B = List Bool} (λ l. replicate n true ++ (false ∷ l)) (r .same)) }
 
 -- the first e whole digits that are read are the input's
-pub begins : (bs : List Bool) (e : ℕ) → e ≤ length (whole bs) → bs ≡ bits (take e (whole bs)) ++ drop (e + sum (take e (whole bs))) bs
+pub begins : (bs : List Bool) (e : ℕ) → e ≤ length (wholeDigits bs) → bs ≡ bits (take e (wholeDigits bs)) ++ drop (e + sum (take e (wholeDigits bs))) bs
 begins bs e h =
     let r = front 0 bs e h in
-    let c = take e (whole bs) in
+    let c = take e (wholeDigits bs) in
     let z : drop (length (bits c)) bs ≡ r .rest = ap (drop (length (bits c))) (r .same) ∙ drop-append-seam (bits c) (r .rest) in
     let n : length (bits c) ≡ e + sum c = length-bits c ∙ rw length-take-le in
     rw (← n, z) (r .same)
 
 -- what follows the code's end stands behind the code's bits
-pub after-end : {bs : List Bool} {e : ℕ} → EndsAt (whole bs) e → bs ≡ bits (take e (whole bs)) ++ after bs e
+pub after-end : {bs : List Bool} {e : ℕ} → EndsAt (wholeDigits bs) e → bs ≡ bits (take e (wholeDigits bs)) ++ after bs e
 after-end {bs} {e} h =
-    let z : e + sum (take e (whole bs)) ≡ 2 * e - 1 = omega (arith, end-sum (whole bs) e h) in
+    let z : e + sum (take e (wholeDigits bs)) ≡ 2 * e - 1 = omega (arith, end-sum (wholeDigits bs) e h) in
     rw z at (begins bs e (h .within))
 
 -- what stands behind the bits of a code that ends follows its end
@@ -94,10 +94,10 @@ after-code c fs h =
     rw (z, drop-append-seam)
 
 -- a code that ends is what its bits, with anything behind them, are read as
-pub code-ends : {c : List ℕ} (fs : List Bool) → EndsAt c (length c) → EndsAt (whole (bits c ++ fs)) (length c)
-code-ends {c} fs h = rw read-bits (ends-more (whole fs) h)
+pub code-ends : {c : List ℕ} (fs : List Bool) → EndsAt c (length c) → EndsAt (wholeDigits (bits c ++ fs)) (length c)
+code-ends {c} fs h = rw read-bits (ends-more (wholeDigits fs) h)
 
-pub code-read : (c : List ℕ) (fs : List Bool) → take (length c) (whole (bits c ++ fs)) ≡ c
+pub code-read : (c : List ℕ) (fs : List Bool) → take (length c) (wholeDigits (bits c ++ fs)) ≡ c
 code-read c fs = rw (read-bits, take-append-seam)
 
 -- no other code that ends begins the same bits

@@ -1,5 +1,4 @@
 -- The bit-tuple of a rooted code, and its three carriers. Assumes nothing.
-pub mod Bits
 pub mod Ends
 pub mod Laws
 pub mod Words
@@ -14,3 +13,4 @@ pub mod Writing
 pub mod Packing
 pub mod Examples
 pub mod Decided
+pub mod document

@@ -12,16 +12,17 @@ use lib.Dec.{lit<}
 use lib.Pow.{pow-mono}
 use lib.ListN.{length, take, drop, getD, set, replicate, length-append, length-set, length-replicate, take-append-drop}
 use lib.Seq.{take-suc-set, drop-set-lt, drop-drop, take-all, take-length, length-take-le}
-use Rattle.laws.specs.Laid.{laidOver}
-use Rattle.refusal.specs.Table.{Writes}
-use Rattle.limits.specs.Limits.{size}
-use Rattle.code.specs.Code.{sum}
-use Rattle.code.specs.Counting.{sum-more}
-use Rattle.bits.specs.Bits.{bits, word, bytes}
+use Rattle.laws.specs.document.Laid.{laidOver}
+use Rattle.refusal.specs.document.Table.{Writes}
+use Rattle.limits.specs.document.Limits.{size}
+use Rattle.digit_code.specs.document.Code.{sum}
+use Rattle.digit_code.specs.Counting.{sum-more}
+use Rattle.bits.specs.document.Bits.{bits, word, bytes}
 use Rattle.bits.specs.Ends.{end-sum}
 use Rattle.bits.specs.Laws.{length-bits}
 use Rattle.bits.specs.Words.{length-word, word-shift, bytes-append, length-bytes}
-use Rattle.bits.specs.Written.{Coded, Bytes, Packs}
+use Rattle.bits.specs.Written.{Coded}
+use Rattle.bits.specs.document.Written.{Bytes, Packs}
 use Rattle.bits.specs.Writing.{Room, word-append, word-less, word-byte, bits-take, sum-within}
 
 more-below : (s : List ℕ) (v : ℕ) → ((i : ℕ) → getD s i 0 < 256) → v < 256 → (i : ℕ) → getD (s ++ (v ∷ [])) i 0 < 256

@@ -12,11 +12,11 @@ use native.Mathlib.Numerals.{add-one}
 use native.Mathlib.Omega.{arith}
 use lib.ListN.{length, take, drop, getD, replicate, length-append, length-drop, List·getD-append}
 use lib.Seq.{getD-append-seam, getD-append-add, take-append-seam, take-append-le, take-length, drop-drop}
-use Rattle.refusal.specs.Table.{Clear, FirstRefusal}
+use Rattle.refusal.specs.document.Table.{Clear, FirstRefusal}
 use Rattle.refusal.specs.Laws.{clear-one, first-place}
-use Rattle.code.specs.Code.{sum, EndsAt, digit, cap, row12}
-use Rattle.code.specs.Counting.{sum-append}
-use Rattle.bits.specs.Bits.{bits, digitsFrom, cutFrom, whole, runs, row10}
+use Rattle.digit_code.specs.document.Code.{sum, EndsAt, digit, cap, row12}
+use Rattle.digit_code.specs.Counting.{sum-append}
+use Rattle.bits.specs.document.Bits.{bits, digitsFrom, cutFrom, wholeDigits, runs, row10-bits}
 use Rattle.bits.specs.Ends.{Open, ends-more, open-none}
 use Rattle.bits.specs.Laws.{no-digit, read-bits, cut-bits, bits-append}
 use Rattle.bits.specs.Words.{lead}
@@ -79,11 +79,11 @@ small-more R k ds f l p o h = go (decLe p (length ds))
         rw (z, y, getD-append-seam) l
 
 module _ {R : ℕ} {bs : List Bool} {ds : List ℕ} {b : ℕ} (f : Front R bs ds b) where
-  whole-is : whole bs ≡ ds ++ whole (drop b bs)
-  whole-is = ap whole (f .same) ∙ read-bits ds (drop b bs)
+  whole-is : wholeDigits bs ≡ ds ++ wholeDigits (drop b bs)
+  whole-is = ap wholeDigits (f .same) ∙ read-bits ds (drop b bs)
 
   runs-is : runs bs ≡ ds ++ runs (drop b bs)
-  runs-is = rw (whole-is, append-assoc) (ap (λ (n : ℕ). ds ++ (whole (drop b bs) ++ (n ∷ []))) (ap (cutFrom 0) (f .same) ∙ cut-bits ds (drop b bs)))
+  runs-is = rw (whole-is, append-assoc) (ap (λ (n : ℕ). ds ++ (wholeDigits (drop b bs) ++ (n ∷ []))) (ap (cutFrom 0) (f .same) ∙ cut-bits ds (drop b bs)))
 
   -- the digits read, and the run behind them, among the runs
   digit-read : (p : ℕ) → 1 ≤ p → p ≤ length ds → digit (runs bs) p ≡ digit ds p
@@ -95,24 +95,24 @@ module _ {R : ℕ} {bs : List Bool} {ds : List ℕ} {b : ℕ} (f : Front R bs ds
       rw (runs-is, z, getD-append-add ds (runs (drop b bs)) 0 0, first-run 0 (drop b bs), zero-add)
 
   -- 10 applies at no digit read
-  read-small : (p : ℕ) → row10 R bs .applies p → length ds < p
+  read-small : (p : ℕ) → row10-bits R bs .applies p → length ds < p
   read-small p a = go (decLe p (length ds))
     where
       go : Dec (p ≤ length ds) → length ds < p
       go (yes l) = omega (arith, f .small p (a .0) l, a .3, digit-read p (a .0) l)
       go (no l) = omega arith
 
-  open-whole : Open ds (length ds) → Open (whole bs) (length ds)
+  open-whole : Open ds (length ds) → Open (wholeDigits bs) (length ds)
   open-whole o =
       record
-      { holds = λ i l. rw (whole-is, take-append-le i ds (whole (drop b bs)) l) (o .holds i l) }
+      { holds = λ i l. rw (whole-is, take-append-le i ds (wholeDigits (drop b bs)) l) (o .holds i l) }
 
   next-within : length ds + 1 ≤ length (runs bs)
   next-within = rw (runs-is) (simp length-append (omega arith))
 
   -- the next digit is above its cap
   pub step-over
-      : (m k : ℕ) → Open ds (length ds) → Near m k (drop b bs) → cap R (length ds + 1) < k → FirstRefusal (row10 R bs ∷ []) 10 (length ds + 1)
+      : (m k : ℕ) → Open ds (length ds) → Near m k (drop b bs) → cap R (length ds + 1) < k → FirstRefusal (row10-bits R bs ∷ []) 10 (length ds + 1)
   step-over m k o n l =
       first-place
       (omega arith, next-within, (λ e h. omega (arith, open-none (open-whole o) e h)), rw digit-next (omega (arith, n .low)))
@@ -120,7 +120,7 @@ module _ {R : ℕ} {bs : List Bool} {ds : List ℕ} {b : ℕ} (f : Front R bs ds
 
   -- 10 applies nowhere, where it could apply to no digit behind the next and the next is within its cap
   next-small
-      : ((q : ℕ) → row10 R bs .applies q → q ≤ length ds + 1) → lead (drop b bs) ≤ cap R (length ds + 1) → Clear (row10 R bs ∷ [])
+      : ((q : ℕ) → row10-bits R bs .applies q → q ≤ length ds + 1) → lead (drop b bs) ≤ cap R (length ds + 1) → Clear (row10-bits R bs ∷ [])
   next-small u l =
       clear-one (λ q a.
       let z : q ≡ length ds + 1 = omega (arith, read-small q a, u q a) in
@@ -134,11 +134,11 @@ module _ {R : ℕ} {bs : List Bool} {ds : List ℕ} {b : ℕ} (f : Front R bs ds
   -- the bits give out
   pub step-short
       : (m k : ℕ) → R < m → Open ds (length ds) → Near m k (drop b bs) → k ≤ cap R (length ds + 1) → length bs ≤ b + k
-      → Clear (row10 R bs ∷ []) × row12 (whole bs) .applies (length ds)
+      → Clear (row10-bits R bs ∷ []) × row12 (wholeDigits bs) .applies (length ds)
   step-short m k r o n l g =
       let z = next-is m k r n l in
       let t : drop b bs ≡ replicate k true = rw z (run-all (drop b bs) (rw length-drop (omega arith))) in
-      let w : whole bs ≡ ds = whole-is ∙ rw (t, no-digit 0 k, append-nil) in
+      let w : wholeDigits bs ≡ ds = whole-is ∙ rw (t, no-digit 0 k, append-nil) in
       let c : length (runs bs) ≡ length ds + 1 = rw w (simp length-append) in (
         next-small (λ q a. omega (arith, a .1, c)) (rw z at l),
         (rw w, λ e h. omega (arith, open-none (open-whole o) e h, ap length w, h .within)),
@@ -159,9 +159,9 @@ module _ {R : ℕ} {bs : List Bool} {ds : List ℕ} {b : ℕ} (f : Front R bs ds
       }
 
   -- the code ends
-  pub step-end : EndsAt ds (length ds) → Clear (row10 R bs ∷ []) × EndsAt (whole bs) (length ds) × (take (length ds) (whole bs) ≡ ds)
+  pub step-end : EndsAt ds (length ds) → Clear (row10-bits R bs ∷ []) × EndsAt (wholeDigits bs) (length ds) × (take (length ds) (wholeDigits bs) ≡ ds)
   step-end h =
-      let w : EndsAt (whole bs) (length ds) = rw whole-is (ends-more (whole (drop b bs)) h) in (
+      let w : EndsAt (wholeDigits bs) (length ds) = rw whole-is (ends-more (wholeDigits (drop b bs)) h) in (
         clear-one (λ q a. omega (arith, read-small q a, a .2 (length ds) w)),
         w,
         rw (whole-is, take-append-seam),

@@ -13,7 +13,7 @@ use lib.ListN.{length, drop, getD, replicate, length-append}
 use lib.Seq.{drop-append-le, drop-append-add}
 use lib.Pow.{pow-pos, split, high, shr-shr, mod-pow-add}
 use lib.Count.{leadingZeros, leading-length, leading-unique}
-use Rattle.bits.specs.Bits.{bit, word, bytes}
+use Rattle.bits.specs.document.Bits.{bit, word, bytes}
 
 -- the ones that the bits begin with
 unfoldable pub lead : List Bool → ℕ

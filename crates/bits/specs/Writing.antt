@@ -12,14 +12,15 @@ use lib.Pow.{pow-pos, pow-mono, pow-add, split, high, mod-mod-pow, shl-lt, shl-e
 use lib.Arith.{digits-lt}
 use lib.ListN.{length, take, drop, getD, take-append-drop}
 use lib.Seq.{take-suc, take-length, take-all}
-use Rattle.code.specs.Code.{sum, EndsAt}
-use Rattle.code.specs.Counting.{sum-append, sum-more}
-use Rattle.limits.specs.Limits.{wholeSize}
-use Rattle.bits.specs.Bits.{bits, bit, word}
+use Rattle.digit_code.specs.document.Code.{sum, EndsAt}
+use Rattle.digit_code.specs.Counting.{sum-append, sum-more}
+use Rattle.limits.specs.document.Limits.{wholeSize}
+use Rattle.bits.specs.document.Bits.{bits, bit, word}
 use Rattle.bits.specs.Ends.{end-sum}
 use Rattle.bits.specs.Laws.{bits-append}
 use Rattle.bits.specs.Words.{word-low, word-mod, word-two}
-use Rattle.bits.specs.Written.{Coded, Numbers}
+use Rattle.bits.specs.Written.{Coded}
+use Rattle.bits.specs.document.Written.{Numbers}
 
 -- ---- words
 

@@ -11,34 +11,21 @@ use native.Mathlib.Nat.{mod-eq-of-lt}
 use native.Mathlib.Omega.{arith}
 use lib.ListN.{length, take, drop, getD, length-append, List·getD-eq-default}
 use lib.Seq.{take-at, drop-at, take-length}
-use Rattle.refusal.specs.Table.{Clear}
+use Rattle.refusal.specs.document.Table.{Clear}
 use Rattle.refusal.specs.Laws.{never}
-use Rattle.code.specs.Code.{sum, EndsAt, digitRows}
-use Rattle.bits.specs.Bits.{word, bytes, Zeros, Fill, Nothing, Carries, Reads}
+use Rattle.digit_code.specs.document.Code.{sum, EndsAt, digitRows}
+use Rattle.bits.specs.document.Bits.{word, bytes, Zeros, Fill, Nothing, Reads}
 use Rattle.bits.specs.Ends.{end-sum, right-ends}
 use Rattle.bits.specs.Laws.{length-bits}
 use Rattle.bits.specs.Words.{length-word, word-same, length-bytes}
 use Rattle.bits.specs.Steps.{cap-le}
+use Rattle.bits.specs.document.Written.{Bytes, Numbers, Packs}
 
 -- a code that a writer takes: it ends with its last digit, has at most `most` digits, and none above R
 pub record Coded (R most : ℕ) (c : List ℕ) : Type 0 where
   pub ends : EndsAt c (length c)
   pub size : length c ≤ most
   pub small : (i : ℕ) → getD c i 0 ≤ R
-
--- bytes
-pub record Bytes (s : List ℕ) : Type 0 where
-  pub below : (i : ℕ) → getD s i 0 < 256
-
--- "most significant bit first, the last byte filled with zeros, exactly as many bytes as needed"
-pub record Packs (c s : List ℕ) : Type 0 where
-  pub carries : Carries Fill (bytes s) c
-  pub are-bytes : Bytes s
-
--- "the 2N-1 bits read in base 2, so below 2^(2N-1)"
-pub record Numbers (c : List ℕ) (x : ℕ) : Type 0 where
-  pub carries : Carries Nothing (word (2 * length c - 1) x) c
-  pub below : x < 2 ^ (2 * length c - 1)
 
 -- a right digit code can be written where its digits are within what the writer takes
 pub right-coded : {R : ℕ} (S most : ℕ) (c : List ℕ) → R ≤ S → Clear (digitRows R c) → length c ≤ most → Coded S most c

@@ -3,15 +3,18 @@ ghost use mathlib.Core.Path.{_≡_};
 ghost use mathlib.Core.List.{[], _∷_};
 ghost use Prim.Native.Nat.{_+_, _-_, _*_, _/_, _^_, _<_, _≤_};
 ghost use lib.ListN.{length, getD, drop};
-ghost use Rattle.limits.specs.Limits.{size, width, packedBytes, wholeSize};
-ghost use Rattle.bits.specs.Bits.{bytes, word, fractionBits, Fill, Nothing, Zeros, row4, packedRows, wholeRows};
+ghost use Rattle.limits.specs.document.Limits.{size, packedBytes, wholeSize};
+ghost use Rattle.limits.specs.Width.{width};
+ghost use Rattle.bits.specs.document.Bits.{bytes, word, fractionBits, Fill, Nothing, Zeros, row4-whole, packedRows, wholeRows};
 ghost use Rattle.bits.specs.Words.{lead};
 ghost use Rattle.bits.specs.Digit.{Near};
 ghost use Rattle.bits.specs.Found.{Stands, Turned, Scanned};
 ghost use Rattle.bits.specs.Answered.{Reading};
-ghost use Rattle.bits.specs.Written.{Coded, Packs, Numbers};
+ghost use Rattle.bits.specs.Written.{Coded};
+ghost use Rattle.bits.specs.document.Written.{Packs, Numbers};
 ghost use Rattle.bits.specs.Writing.{Room};
-ghost use Rattle.refusal.specs.Table.{Answers, Writes};
+ghost use Rattle.refusal.specs.document.Table.{Writes};
+ghost use Rattle.refusal.specs.Checks.{Answers};
 ghost use Rattle.bits.specs.Decided.{Ended, Ordered, Decision};
 use limits::PACKED;
 use limits::WHOLE;
@@ -70,7 +73,7 @@ fn step(limit: u8, k: usize, m: usize, n: usize, b: usize, out: &mut [u8]) -> Tu
     requires { ⌜ Stands m n b (now out) ⌝ }
     ensures { λ r. ⌜ Turned limit m k n b (now (out .entry)) (now (out .exit)) r ⌝ }
 {
-    if (code::top(limit, n + 1) as usize) < k {
+    if (digit_code::top(limit, n + 1) as usize) < k {
         return Turn::Stop(Found::Over(n + 1));
     }
     if m <= b + k {
@@ -202,7 +205,7 @@ pub fn siblings(read: Answer, digits: &[u8]) -> Answer
 {
     match read {
         Answer::Refused(k, p) => Answer::Refused(k, p),
-        Answer::Done(n) => match code::ordered(&digits[..n]) {
+        Answer::Done(n) => match digit_code::ordered(&digits[..n]) {
             Check::Passed => Answer::Done(n),
             Check::Refuse(k, p) => Answer::Refused(k, p),
         },
@@ -225,7 +228,7 @@ pub fn packed_code(limit: u8, s: &[u8], out: &mut [u8]) -> Answer
 // 4: x is outside the range of whole numbers with N = n.
 fn ranged(n: usize, x: u64) -> Check
     requires { ⌜ (1 ≤ n) × (n ≤ wholeSize) ⌝ }
-    ensures { λ r. ⌜ Answers (row4 n x ∷ []) r ⌝ }
+    ensures { λ r. ⌜ Answers (row4-whole n x ∷ []) r ⌝ }
 {
     if (1u64 << (2 * n - 1)) <= x {
         return Check::Refuse(4, 0);

@@ -7,11 +7,12 @@ use Prim.Native.Nat.{ℕ, _-_, _≤_}
 use native.Mathlib.Omega.{arith}
 use lib.ListN.{length, getD}
 use lib.Seq.{ext-getD, length-take-le, getD-take}
-use Rattle.limits.specs.Limits.{size, width}
-use Rattle.tree.specs.Skeleton.{arcs, neighbours, degree, Degrees}
-use Rattle.tree.specs.Walks.{turn, arc-end}
-use Rattle.tree.specs.Arcs.{near-arc, arc-near, neighbours-once}
-use Rattle.skeleton.specs.Table.{IsTable, Held}
+use Rattle.limits.specs.document.Limits.{size}
+use Rattle.limits.specs.Width.{width}
+use Rattle.skeleton.specs.document.Skeleton.{arcs, neighbours, degree, Degrees}
+use Rattle.skeleton.specs.Walks.{turn, arc-end}
+use Rattle.skeleton.specs.Arcs.{near-arc, arc-near, neighbours-once}
+use Rattle.edge_list.specs.Table.{IsTable, Held}
 use Rattle.centre.specs.Peeling.{deg, row, Stays, Copy, Leaves}
 
 -- ---- a row and its neighbours

@@ -4,10 +4,10 @@ use mathlib.Core.Logic.{_⊎_, inl, inr}
 use mathlib.Core.List.{List, [], _∷_, List·Memᴰ, List·Memᴰ·head, List·Memᴰ·tail}
 use Prim.Native.Nat.{ℕ, zero, suc, _+_, _≤_}
 use native.Mathlib.Omega.{arith}
-use Rattle.tree.specs.Skeleton.{arcs, IsTree}
-use Rattle.path.specs.Path.{IsPath}
-use Rattle.path.specs.Ways.{Last, Way, way}
-use Rattle.path.specs.Peel.{Two, Left, Within, round, rounds, midst}
+use Rattle.skeleton.specs.document.Skeleton.{arcs, IsTree}
+use Rattle.longest_path.specs.document.Path.{IsPath}
+use Rattle.longest_path.specs.Ways.{Last, Way, way}
+use Rattle.longest_path.specs.Peel.{Two, Left, Within, round, rounds, midst}
 
 module _ (N : ℕ) (E : List ℕ) (t : IsTree N E) (A : ℕ → Type 0) (k : ℕ) (l : Left N E A k) where
   -- from v towards x the next is x, or has two neighbours

@@ -7,8 +7,9 @@ use native.Mathlib.Decide.{ℕ-discrete}
 use native.Mathlib.Omega.{arith}
 use lib.ListN.{length, getD, take, set, length-set}
 use lib.Seq.{take-suc-set, length-take-le}
-use Rattle.limits.specs.Limits.{size}
-use Rattle.laws.specs.Once.{Once, once-perm, fits, upTo, upTo-length, upTo-in}
+use Rattle.limits.specs.document.Limits.{size}
+use Rattle.laws.specs.Once.{once-perm, fits, upTo, upTo-length, upTo-in}
+use Rattle.laws.specs.document.Once.{Once}
 use Rattle.centre.specs.Peeling.{deg, Queue, Leaves}
 use Rattle.centre.proofs.Rows.{last-first}
 

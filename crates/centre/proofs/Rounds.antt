@@ -10,12 +10,13 @@ use native.Mathlib.Decide.{ℕ-discrete, decLt}
 use native.Mathlib.Omega.{arith}
 use lib.ListN.{length, getD, take}
 use lib.Seq.{length-take-le}
-use Rattle.laws.specs.Once.{Once, fits}
-use Rattle.tree.specs.Skeleton.{arcs, IsTree}
-use Rattle.path.specs.Path.{IsCentre}
-use Rattle.path.specs.Peel.{Two, Peels, Left, start, round}
-use Rattle.path.specs.Centre.{done}
-use Rattle.skeleton.specs.Table.{IsTable, Held}
+use Rattle.laws.specs.Once.{fits}
+use Rattle.laws.specs.document.Once.{Once}
+use Rattle.skeleton.specs.document.Skeleton.{arcs, IsTree}
+use Rattle.longest_path.specs.document.Path.{IsCentre}
+use Rattle.longest_path.specs.Peel.{Two, Peels, Left, start, round}
+use Rattle.longest_path.specs.Centre.{done}
+use Rattle.edge_list.specs.Table.{IsTable, Held}
 use Rattle.centre.specs.Peeling.{deg, row, Stays, Copy, Sifted, Ready, Round, Peelable, Leaves}
 use Rattle.centre.proofs.Waiting.{take-in, drop-in, waits, first-in, single}
 use Rattle.centre.proofs.Rows.{take-some}

@@ -8,9 +8,10 @@ use native.Mathlib.Numerals.{add-one}
 use native.Mathlib.Omega.{arith}
 use lib.ListN.{length, getD, take, drop, set, length-set}
 use lib.Seq.{take-suc, split-at, set-split, getD-set-same, getD-set-other, take-set-le, take-set-lt, length-take-le, getD-take}
-use Rattle.limits.specs.Limits.{size, width}
+use Rattle.limits.specs.document.Limits.{size}
+use Rattle.limits.specs.Width.{width}
 use Rattle.laws.specs.Part.{part, part-cons}
-use Rattle.skeleton.specs.Table.{Shaped}
+use Rattle.edge_list.specs.Table.{Shaped}
 use Rattle.centre.specs.Peeling.{deg, Without, Linked, Unlinked}
 
 -- the last goes to the front

@@ -5,8 +5,9 @@ use Prim.Native.Nat.{ℕ, suc, _-_, _≤_, _<_}
 use native.Mathlib.Omega.{arith}
 use lib.ListN.{length, getD, take, drop, take-append-drop}
 use lib.Seq.{take-suc, take-take, length-take-le, drop-cons, getD-take}
-use Rattle.limits.specs.Limits.{size}
-use Rattle.laws.specs.Once.{Once, once-left, once-apart}
+use Rattle.limits.specs.document.Limits.{size}
+use Rattle.laws.specs.Once.{once-left, once-apart}
+use Rattle.laws.specs.document.Once.{Once}
 use Rattle.centre.specs.Peeling.{deg, row, Stays, Copy}
 
 pub drop-in : {v : ℕ} (n : ℕ) (l : List ℕ) → List·Memᴰ v (drop n l) → List·Memᴰ v l

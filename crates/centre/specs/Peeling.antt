@@ -6,9 +6,10 @@ use mathlib.Core.Path.{_≡_}
 use mathlib.Core.List.{List, [], _∷_, List·Memᴰ, List·Permᴰ}
 use Prim.Native.Nat.{ℕ, suc, _-_, _≤_, _<_}
 use lib.ListN.{length, getD, take, drop, set}
-use Rattle.laws.specs.Once.{Once}
-use Rattle.limits.specs.Limits.{size, width}
-use Rattle.skeleton.specs.Table.{Shaped}
+use Rattle.laws.specs.document.Once.{Once}
+use Rattle.limits.specs.document.Limits.{size}
+use Rattle.limits.specs.Width.{width}
+use Rattle.edge_list.specs.Table.{Shaped}
 
 -- the degree of v in a table, and its neighbours
 abbrev pub deg : List ℕ → ℕ → ℕ

@@ -8,10 +8,11 @@ ghost use mathlib.Core.Path.{_≡_};
 ghost use mathlib.Core.List.{List, List·Memᴰ};
 ghost use Prim.Native.Nat.{ℕ, _≤_, _<_};
 ghost use lib.ListN.{length, take};
-ghost use Rattle.limits.specs.Limits.{size, width};
-ghost use Rattle.tree.specs.Skeleton.{IsTree};
-ghost use Rattle.path.specs.Path.{IsCentre};
-ghost use Rattle.skeleton.specs.Table.{Shaped, IsTable, Held};
+ghost use Rattle.limits.specs.document.Limits.{size};
+ghost use Rattle.limits.specs.Width.{width};
+ghost use Rattle.skeleton.specs.document.Skeleton.{IsTree};
+ghost use Rattle.longest_path.specs.document.Path.{IsCentre};
+ghost use Rattle.edge_list.specs.Table.{Shaped, IsTable, Held};
 ghost use Rattle.centre.specs.Peeling.{Copy, Round, Peelable, Without, Linked, Unlinked, Pushed, Leaves};
 
 // The centre: its one vertex twice, or its two.

@@ -1,7 +1,7 @@
 // The public calls as C functions, for the second program and the benchmark: tests/second/zurkhovel.h declares them. Each hands the call's
 // answer on and does nothing else. It returns the refusal number, 0 where the call is done, and sets the place, or the bytes written.
 // Nothing here keeps a C caller from lending an output that overlaps an input, and the answer can then be wrong with 0: zurkhovel.h forbids it.
-use code::Order;
+use digit_code::Order;
 use fraction::Fraction;
 use refusal::Answer;
 use refusal::Number;
@@ -39,7 +39,7 @@ fn valued(answer: Number, value: &mut u64, place: &mut u64) -> u32 {
 // 0: a stands before b in the dictionary; 1: they are equal; 2: a stands after b.
 #[no_mangle]
 pub extern "C" fn zk_compare(a: &[u8], b: &[u8]) -> u32 {
-    match code::compare(a, b) {
+    match digit_code::compare(a, b) {
         Order::Less => 0,
         Order::Equal => 1,
         Order::Greater => 2,

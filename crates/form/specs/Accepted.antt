@@ -6,25 +6,25 @@ use mathlib.Core.List.{List, [], _∷_, _++_}
 use Prim.Native.Nat.{ℕ, _≤_}
 use native.Mathlib.Omega.{arith}
 use lib.ListN.{length}
-use Rattle.refusal.specs.Table.{Row, Clear, row3}
+use Rattle.refusal.specs.document.Table.{Row, Clear, row3}
 use Rattle.refusal.specs.Laws.{clear-one, clear-both, clear-left, never}
 use Rattle.refusal.specs.Laws as Laws
-use Rattle.code.specs.Code.{decode, codeRows}
-use Rattle.code.specs.Ends.{Ends}
-use Rattle.code.specs.Right.{Right, Rightₗ, right-clear, clear-right}
-use Rattle.tree.specs.Skeleton.{IsSkeleton}
-use Rattle.tree.specs.Theorems.{decode-code, decoded-tree, degrees}
-use Rattle.tree.specs.Ordered.{code-ordered}
-use Rattle.tree.specs.Label.{Marks, digits, labels, Valences, markRows}
-use Rattle.tree.specs.Base.{base, digits-base}
-use Rattle.tree.specs.General.{decoded-tree as decoded-treeₗ}
-use Rattle.tree.specs.Accepted.{code-passes, marks-accepted, right-marks}
-use Rattle.form.specs.Form.{formRows}
+use Rattle.digit_code.specs.document.Code.{decode, codeRows}
+use Rattle.digit_code.specs.Ends.{Ends}
+use Rattle.digit_code.specs.Right.{RightCode, Rightₗ, right-clear, clear-right}
+use Rattle.skeleton.specs.document.Skeleton.{IsSkeleton}
+use Rattle.skeleton.specs.Theorems.{decode-code, decoded-tree, degrees}
+use Rattle.skeleton.specs.Ordered.{code-ordered}
+use Rattle.skeleton.specs.Label.{Marks, digits, labels, Valences, markRows}
+use Rattle.skeleton.specs.Base.{base, digits-base}
+use Rattle.skeleton.specs.General.{decoded-tree as decoded-treeₗ}
+use Rattle.skeleton.specs.Accepted.{code-passes, marks-accepted, right-marks}
+use Rattle.form.specs.document.Form.{formRows}
 use Rattle.form.specs.Labelled.{Own, row14ₗ, formRowsₗ, IsFormₗ, is-rootedₗ, form-againₗ, form-decidedₗ}
 use Rattle.form.specs.Forms.{IsForm, labelled, is-rooted, form-again}
 
 -- a right rooted code decodes to a skeleton
-pub right-decoded : (most R : ℕ) (c : List ℕ) → Right most R c → IsSkeleton most R (length c) (decode c)
+pub right-decoded : (most R : ℕ) (c : List ℕ) → RightCode most R c → IsSkeleton most R (length c) (decode c)
 right-decoded most R c r = record {
   tree = decoded-tree c (r .ends);
   few = r .few;
@@ -78,7 +78,7 @@ module _ (M : Marks) (form : ℕ → List ℕ → (ℕ → M .Label) → List �
 
 module _ (form : ℕ → List ℕ → List ℕ → Type 0) (f : IsForm form) (most R : ℕ) (c : List ℕ) where
   -- no row applies to a right rooted code of the form, and to no other digits
-  pub form-passes : Clear (formRows form most R c) ↔ (Right most R c × form (length c) (decode c) c)
+  pub form-passes : Clear (formRows form most R c) ↔ (RightCode most R c × form (length c) (decode c) c)
   form-passes =
       let own = own-passes base (λ N E l c. form N E c) (labelled f) c (codeRows most R c) (λ k. rw digits-base (clear-right most R c k .ends)) in
       let (there, back) = rw digits-base at own in

@@ -6,18 +6,18 @@ use Prim.Native.Nat.{ℕ, _≤_}
 use native.Mathlib.Omega.{arith}
 use lib.ListN.{length}
 use Rattle.laws.specs.Perms.{perm-length}
-use Rattle.code.specs.Code.{digit}
-use Rattle.tree.specs.Skeleton.{degree, IsTree, rooted, Renumbering}
-use Rattle.tree.specs.Forest.{Rooted}
-use Rattle.tree.specs.Grow.{rooted-tree}
-use Rattle.tree.specs.Label.{Marks, joinₗ, rootedₗ, Keeps}
-use Rattle.tree.specs.Codes.{neighbours-perm, near, rooted-join}
-use Rattle.tree.specs.Degree.{roots-length}
-use Rattle.tree.specs.Sorted.{branches-length}
-use Rattle.tree.specs.Renumber.{renumbered, same-code}
-use Rattle.tree.specs.Base.{base, rooted-base}
-use Rattle.path.specs.Theorems.{centre-inside, centre-carried}
-use Rattle.form.specs.Form.{NTuple, Centred}
+use Rattle.digit_code.specs.document.Code.{digit}
+use Rattle.skeleton.specs.document.Skeleton.{degree, IsTree, rooted, Renumbering}
+use Rattle.skeleton.specs.Forest.{Rooted}
+use Rattle.skeleton.specs.Grow.{rooted-tree}
+use Rattle.skeleton.specs.Label.{Marks, joinₗ, rootedₗ, Keeps}
+use Rattle.skeleton.specs.Codes.{neighbours-perm, near, rooted-join}
+use Rattle.skeleton.specs.Degree.{roots-length}
+use Rattle.skeleton.specs.Sorted.{branches-length}
+use Rattle.skeleton.specs.Renumber.{renumbered, same-code}
+use Rattle.skeleton.specs.Base.{base, rooted-base}
+use Rattle.longest_path.specs.Theorems.{centre-inside, centre-carried}
+use Rattle.form.specs.document.Form.{NTuple, Centred}
 
 -- the root's digit is its degree
 root-digit : (N : ℕ) (E : List ℕ) (r : ℕ) → Rooted N E r → digit (rooted N E r) 1 ≡ degree E r

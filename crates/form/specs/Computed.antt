@@ -8,16 +8,16 @@ use Prim.Native.Nat.{ℕ, zero, suc, _+_, _*_, _≤_, _<_}
 use native.Mathlib.Decide.{ℕ-discrete}
 use native.Mathlib.Omega.{arith}
 use lib.ListN.{length}
-use Rattle.laws.specs.Order.{_≽_, dec≽}
+use Rattle.laws.specs.document.Order.{_≽_, dec≽}
 use Rattle.laws.specs.Sorting.{below≽}
 use Rattle.laws.specs.Once.{upTo, in-upTo, upTo-in}
-use Rattle.tree.specs.Skeleton.{Arc, arcs, degree, Walk, here, along, IsTree, Degrees, IsSkeleton, rooted}
-use Rattle.tree.specs.Walks.{walk-on}
-use Rattle.path.specs.Path.{middle₁, middle₂, IsCentre}
-use Rattle.path.specs.Peel.{Left, start, round}
-use Rattle.path.specs.Centre.{done}
-use Rattle.path.specs.Run.{In, peel, peel-is}
-use Rattle.form.specs.Form.{Centred, nTuple, centred}
+use Rattle.skeleton.specs.document.Skeleton.{Arc, arcs, degree, Walk, here, along, IsTree, Degrees, IsSkeleton, rooted}
+use Rattle.skeleton.specs.Walks.{walk-on}
+use Rattle.longest_path.specs.document.Path.{middle₁, middle₂, IsCentre}
+use Rattle.longest_path.specs.Peel.{Left, start, round}
+use Rattle.longest_path.specs.Centre.{done}
+use Rattle.longest_path.specs.Run.{In, peel, peel-is}
+use Rattle.form.specs.document.Form.{Centred, nTuple, centred}
 use Rattle.form.specs.One.{at-first, at-second, some-n-tuple}
 
 -- ---- a tree by lower neighbours

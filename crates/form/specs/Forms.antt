@@ -8,13 +8,14 @@ use mathlib.Core.Logic.{_↔_}
 use mathlib.Core.List.{List}
 use Prim.Native.Nat.{ℕ, _≤_}
 use lib.ListN.{length}
-use Rattle.code.specs.Code.{decode}
-use Rattle.code.specs.Ends.{Ends}
-use Rattle.tree.specs.Skeleton.{IsTree, rooted, Renumbering, IsRooted}
-use Rattle.tree.specs.Label.{rootedₗ}
-use Rattle.tree.specs.Base.{base, rooted-base, digits-base}
-use Rattle.tree.specs.Theorems.{decode-code}
-use Rattle.form.specs.Form.{NTuple, Centred, nTuple, centred}
+use Rattle.digit_code.specs.document.Code.{decode}
+use Rattle.digit_code.specs.Ends.{Ends}
+use Rattle.skeleton.specs.document.Skeleton.{IsTree, rooted, Renumbering}
+use Rattle.skeleton.specs.IsRooted.{IsRooted}
+use Rattle.skeleton.specs.Label.{rootedₗ}
+use Rattle.skeleton.specs.Base.{base, rooted-base, digits-base}
+use Rattle.skeleton.specs.Theorems.{decode-code}
+use Rattle.form.specs.document.Form.{NTuple, Centred, nTuple, centred}
 use Rattle.form.specs.Labelled.{IsFormₗ, n-tuple-formₗ, centred-formₗ, form-sizeₗ, form-decodedₗ, form-againₗ, form-verdictₗ, form-decidedₗ}
 
 -- c is the rooted code of the tree at one of its vertices

@@ -9,14 +9,14 @@ use mathlib.Core.List.{List, [], _∷_, _++_, List-discrete}
 use Prim.Native.Nat.{ℕ, _≤_}
 use native.Mathlib.Decide.{ℕ-discrete}
 use lib.ListN.{length}
-use Rattle.refusal.specs.Table.{Row, row3}
-use Rattle.code.specs.Code.{decode}
-use Rattle.code.specs.Ends.{Ends}
-use Rattle.tree.specs.Skeleton.{IsTree, Renumbering}
-use Rattle.tree.specs.Label.{Marks, rootedₗ, digits, labels, Keeps, IsRootedₗ, markRows}
-use Rattle.tree.specs.General.{size, decoded-tree, code-decode, equal-codes}
-use Rattle.path.specs.Theorems.{centre-inside}
-use Rattle.form.specs.Form.{NTuple, Centred}
+use Rattle.refusal.specs.document.Table.{Row, row3}
+use Rattle.digit_code.specs.document.Code.{decode}
+use Rattle.digit_code.specs.Ends.{Ends}
+use Rattle.skeleton.specs.document.Skeleton.{IsTree, Renumbering}
+use Rattle.skeleton.specs.Label.{Marks, rootedₗ, digits, labels, Keeps, IsRootedₗ, markRows}
+use Rattle.skeleton.specs.General.{code-length, decoded-tree, code-decode, equal-codes}
+use Rattle.longest_path.specs.Theorems.{centre-inside}
+use Rattle.form.specs.document.Form.{NTuple, Centred}
 use Rattle.form.specs.One.{one-n-tuple, one-centred, some-n-tuple, some-centred}
 use Rattle.form.specs.Carried.{rooted-carriedₗ, carry-n-tuple, carry-centred}
 
@@ -38,7 +38,7 @@ module _ (M : Marks) where
 
   -- what is refused of marks that are to be of a form
   abbrev pub formRowsₗ : (ℕ → List ℕ → (ℕ → M .Label) → List ℕ → Type 0) → ℕ → ℕ → (M .Label → ℕ) → List ℕ → List Row
-  formRowsₗ form size R most c = (row3 size (length c) ∷ markRows M R most c) ++ (row14ₗ form c ∷ [])
+  formRowsₗ form code-length R most c = (row3 code-length (length c) ∷ markRows M R most c) ++ (row14ₗ form c ∷ [])
 
   -- c is the rooted code of the tree at one of its vertices
   abbrev pub AtRootₗ : ℕ → List ℕ → (ℕ → M .Label) → List ℕ → Type 0
@@ -86,7 +86,7 @@ module _ (M : Marks) (form : ℕ → List ℕ → (ℕ → M .Label) → List �
         record { number = N; edges = E; label = l; root = r; tree = t; inside = i; is = e }
 
     pub form-sizeₗ : length c ≡ N
-    form-sizeₗ = let (r, (a, b), e) = f .at-root N E l c t x in ap length e ∙ size M N E r l t a b
+    form-sizeₗ = let (r, (a, b), e) = f .at-root N E l c t x in ap length e ∙ code-length M N E r l t a b
 
     -- what it decodes to is the skeleton that was coded, with its labels
     pub form-decodedₗ : Alike M N E (decode (digits M c)) l (labels M c)

@@ -1,5 +1,4 @@
 -- The forms of a code: N-tuple and centred. Assumes nothing.
-pub mod Form
 pub mod One
 pub mod Carried
 pub mod Labelled
@@ -7,3 +6,4 @@ pub mod Forms
 pub mod Accepted
 pub mod Theorems
 pub mod Computed
+pub mod document

@@ -6,12 +6,12 @@ use mathlib.Core.List.{List, _∷_}
 use Prim.Native.Nat.{ℕ, zero, suc, _≤_}
 use native.Mathlib.Decide.{ℕ-discrete}
 use native.Mathlib.Omega.{arith}
-use Rattle.laws.specs.Order.{_≽_, dec≽}
+use Rattle.laws.specs.document.Order.{_≽_, dec≽}
 use Rattle.laws.specs.Sorting.{refl≽, total≽, trans≽, antisym≽, below≽}
-use Rattle.tree.specs.Skeleton.{degree, IsTree}
-use Rattle.path.specs.Path.{middle₁, middle₂, IsCentre}
-use Rattle.path.specs.Theorems.{there-is-one, one-centre}
-use Rattle.form.specs.Form.{NTuple, Centred}
+use Rattle.skeleton.specs.document.Skeleton.{degree, IsTree}
+use Rattle.longest_path.specs.document.Path.{middle₁, middle₂, IsCentre}
+use Rattle.longest_path.specs.Theorems.{there-is-one, one-centre}
+use Rattle.form.specs.document.Form.{NTuple, Centred}
 
 -- ---- not two
 

@@ -4,12 +4,13 @@ use mathlib.Core.Logic.{_↔_}
 use mathlib.Core.List.{List}
 use Prim.Native.Nat.{ℕ}
 use lib.ListN.{length}
-use Rattle.refusal.specs.Table.{Clear}
-use Rattle.code.specs.Code.{decode}
-use Rattle.code.specs.Ends.{Ends}
-use Rattle.code.specs.Right.{Right}
-use Rattle.tree.specs.Skeleton.{IsTree, IsSkeleton, Renumbering, IsRooted}
-use Rattle.form.specs.Form.{nTuple, centred, formRows}
+use Rattle.refusal.specs.document.Table.{Clear}
+use Rattle.digit_code.specs.document.Code.{decode}
+use Rattle.digit_code.specs.Ends.{Ends}
+use Rattle.digit_code.specs.Right.{RightCode}
+use Rattle.skeleton.specs.document.Skeleton.{IsTree, IsSkeleton, Renumbering}
+use Rattle.skeleton.specs.IsRooted.{IsRooted}
+use Rattle.form.specs.document.Form.{nTuple, centred, formRows}
 use Rattle.form.specs.Forms.{IsForm, n-tuple-form, centred-form, is-rooted, form-size, form-decoded, form-again, form-verdict, form-decided}
 use Rattle.form.specs.Accepted.{right-decoded, form-passes, form-exactly, form-itself}
 
@@ -30,7 +31,7 @@ pub same-n-tuple : (N P : ℕ) (E F c d : List ℕ) → IsTree N E → IsTree P 
 same-n-tuple = form-verdict nTuple n-tuple-form
 
 -- A right rooted code decodes to a skeleton.
-pub decoded-skeleton : (most R : ℕ) (c : List ℕ) → Right most R c → IsSkeleton most R (length c) (decode c)
+pub decoded-skeleton : (most R : ℕ) (c : List ℕ) → RightCode most R c → IsSkeleton most R (length c) (decode c)
 decoded-skeleton = right-decoded
 
 -- of either form
@@ -42,8 +43,8 @@ module _ (form : ℕ → List ℕ → List ℕ → Type 0) (f : IsForm form) whe
     rooted = is-rooted form f N E c t x
 
     -- It has a digit for each vertex.
-    pub size : length c ≡ N
-    size = form-size form f N E c t x
+    pub form-length : length c ≡ N
+    form-length = form-size form f N E c t x
 
     -- It decodes to the tree that was coded, under other numbers.
     pub code-decode : Renumbering N E (decode c)
@@ -59,7 +60,7 @@ module _ (form : ℕ → List ℕ → List ℕ → Type 0) (f : IsForm form) whe
 
   module _ (most R : ℕ) (c : List ℕ) where
     -- Digits are not refused exactly when they are a right rooted code and of the form.
-    pub passes : Clear (formRows form most R c) ↔ (Right most R c × form (length c) (decode c) c)
+    pub passes : Clear (formRows form most R c) ↔ (RightCode most R c × form (length c) (decode c) c)
     passes = form-passes form f most R c
 
     -- Digits are not refused exactly when they are the code of a skeleton.

@@ -15,15 +15,15 @@ use lib.Ieee.Bits.{ofBits-toBits}
 use lib.Ieee.Exact.{HasValue}
 use lib.Ieee.Fits.{down-pos}
 use lib.Ieee.Positive.{num, den, den-pos, value→cross}
-use Rattle.refusal.specs.Table.{Clear}
-use Rattle.code.specs.Code.{digitRows}
-use Rattle.limits.specs.Limits.{fractionSize}
-use Rattle.bits.specs.Bits.{bits, word, cutFrom, fractionBits, Zeros, Reads}
+use Rattle.refusal.specs.document.Table.{Clear}
+use Rattle.digit_code.specs.document.Code.{digitRows}
+use Rattle.limits.specs.document.Limits.{fractionSize}
+use Rattle.bits.specs.document.Bits.{bits, word, cutFrom, fractionBits, Zeros, Reads}
 use Rattle.bits.specs.Ends.{end-sum, right-ends}
 use Rattle.bits.specs.Laws.{length-bits, cut-bits}
 use Rattle.bits.specs.Words.{length-word, word-two, word-zero, word-same}
 use Rattle.bits.specs.Written.{number-again}
-use Rattle.fraction.specs.Fraction.{IsFraction, Outside, first53, rest53, bitsOf}
+use Rattle.fraction.specs.document.Fraction.{IsFraction, NoFraction, first53, rest53, bitsOf}
 use Rattle.fraction.specs.Floats.{cross-lt}
 use Rattle.fraction.specs.Drawing.{cut-same, left-same}
 
@@ -58,13 +58,13 @@ fraction-again {c} {x} {y} p q =
 
 -- ---- read back
 
-below-one : (x : Float) (a c : ℕ) → 0 < c → a < c → HasValue x false a c → Outside x → ⊥
+below-one : (x : Float) (a c : ℕ) → 0 < c → a < c → HasValue x false a c → NoFraction x → ⊥
 below-one nan a c C l v o = v
 below-one (inf s) a c C l v o = v
 below-one (fin true m e) a c C l v o = true≢false (v .0)
 below-one (fin false m e) a c C l v o = not-le-of-lt (cross-lt (m * up e) (down e) a c C (down-pos e) (v .1) l) o
 
-pub fraction-inside : {c : List ℕ} {x : Float} → IsFraction c x → Outside x → ⊥
+pub fraction-inside : {c : List ℕ} {x : Float} → IsFraction c x → NoFraction x → ⊥
 fraction-inside {c} {x} p =
     let k = 2 * length c - 1 in
     below-one x (p .number) (2 ^ k) (pow-pos k) (p .numbers .below) (p .value)
@@ -147,13 +147,13 @@ word-parts k j n bs fs e l z =
     )
 
 -- in range, the size is below 1, and is the value
-inside-below : (x : Float) → (Outside x → ⊥) → num x < den x
+inside-below : (x : Float) → (NoFraction x → ⊥) → num x < den x
 inside-below nan n = absurd (n tt)
 inside-below (inf s) n = absurd (n tt)
 inside-below (fin true m e) n = absurd (n tt)
 inside-below (fin false m e) n = omega arith
 
-inside-value : (x : Float) → (Outside x → ⊥) → (a c : ℕ) → num x * c ≡ a * den x → HasValue x false a c
+inside-value : (x : Float) → (NoFraction x → ⊥) → (a c : ℕ) → num x * c ≡ a * den x → HasValue x false a c
 inside-value nan n a c e = absurd (n tt)
 inside-value (inf s) n a c e = absurd (n tt)
 inside-value (fin true m e′) n a c e = absurd (n tt)
@@ -180,7 +180,7 @@ module _ {R : ℕ} (x : Float) {c : List ℕ} (r : Reads R Zeros (bitsOf x) c) w
       let z : num x * 2 ^ 53 % den x ≡ 0 = eqb-true (num x * 2 ^ 53 % den x) 0 (not-false _ no-rest) in
       sym (div-add-mod' (num x * 2 ^ 53) (den x)) ∙ rw (z, add-zero)
 
-  pub fraction-read : T (fits binary64 x) → (Outside x → ⊥) → IsFraction c x
+  pub fraction-read : T (fits binary64 x) → (NoFraction x → ⊥) → IsFraction c x
   fraction-read f n =
       let k = 2 * length c - 1 in
       let j = 53 - k in

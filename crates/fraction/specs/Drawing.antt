@@ -16,7 +16,7 @@ use lib.Ieee.Exact.{HasValue}
 use lib.Ieee.Scale.{round-same}
 use lib.Ieee.Fits.{and-l, and-r}
 use lib.Ieee.Positive.{num, den, den-pos, value→cross}
-use Rattle.fraction.specs.Fraction.{Outside, first53, rest53}
+use Rattle.fraction.specs.document.Fraction.{NoFraction, first53, rest53}
 use Rattle.fraction.specs.Floats.{frac-value, doubled, under-one, less-one, not-zero, cross-none}
 
 -- ---- one step
@@ -89,7 +89,7 @@ short m k t =
     go b (yes l) = l
     go b (no l) = let g : 1074 < suc k = omega arith in absurd (not-le-of-lt (pow-lt g) b)
 
-pub places : (x : Float) → T (fits binary64 x) → (Outside x → ⊥) → Places x
+pub places : (x : Float) → T (fits binary64 x) → (NoFraction x → ⊥) → Places x
 places nan f n = absurd (n tt)
 places (inf s) f n = absurd (n tt)
 places (fin true m e) f n = absurd (n tt)
@@ -137,7 +137,7 @@ pub record Drawing (x t : Float) (i w : ℕ) : Type 0 where
   pub drawn : w ≡ places-of .size / 2 ^ (53 + places-of .more - i)
   pub left : HasValue t false (places-of .size % 2 ^ (53 + places-of .more - i)) (2 ^ (53 + places-of .more - i))
 
-pub draw-none : (x : Float) → T (fits binary64 x) → (Outside x → ⊥) → Drawing x x 0 0
+pub draw-none : (x : Float) → T (fits binary64 x) → (NoFraction x → ⊥) → Drawing x x 0 0
 draw-none x f n =
     let p = places x f n in
     let z : 53 + p .more - 0 ≡ 53 + p .more = omega arith in

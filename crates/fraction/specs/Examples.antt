@@ -5,12 +5,12 @@ use mathlib.Core.List.{[], _∷_}
 use Prim.Native.Nat.{_^_}
 use lib.Dec.{lit<, lit≤}
 use lib.Ieee.{Float, binary64, ofBits, fits}
-use Rattle.refusal.specs.Table.{FirstRefusal}
+use Rattle.refusal.specs.document.Table.{FirstRefusal}
 use Rattle.refusal.specs.Laws.{refusal-front, was-refused}
-use Rattle.limits.specs.Limits.{valence}
-use Rattle.bits.specs.Bits.{bit, bits, word, fractionBits, Zeros, bitRows}
+use Rattle.limits.specs.document.Limits.{valence}
+use Rattle.bits.specs.document.Bits.{bit, bits, word, fractionBits, Zeros, bitRows}
 use Rattle.bits.specs.Examples.{refused-quarter, refused-small}
-use Rattle.fraction.specs.Fraction.{IsFraction, Outside, bitsOf, fractionRows}
+use Rattle.fraction.specs.document.Fraction.{IsFraction, NoFraction, bitsOf, fractionRows}
 use Rattle.fraction.specs.Range.{refused-outside}
 
 -- 30344/32768 = 0.926025390625, the fraction of 002's example
@@ -49,7 +49,7 @@ pub refused-11 :
     × FirstRefusal (bitRows valence Zeros (bitsOf (ofBits binary64 0x3c30000000000000))) 11 2
 refused-11 = (rw quarter refused-quarter, rw small refused-small)
 
-out-of-range : (x : Float) → Outside x → FirstRefusal (fractionRows valence x) 4 0
+out-of-range : (x : Float) → NoFraction x → FirstRefusal (fractionRows valence x) 4 0
 out-of-range x o = refusal-front (bitRows valence Zeros (bitsOf x)) (was-refused (refused-outside x o) refl)
 
 -- 1.0 and negative zero, refused 4

@@ -12,9 +12,10 @@ use lib.ListN.{length}
 use lib.Ieee.{binary64, round, div, ofInt, inFloat}
 use lib.Ieee.Back.{round-whole}
 use lib.Ieee.Fits.{div-fits}
-use Rattle.limits.specs.Limits.{fractionSize}
-use Rattle.bits.specs.Written.{Coded, Numbers}
-use Rattle.fraction.specs.Fraction.{IsFraction}
+use Rattle.limits.specs.document.Limits.{fractionSize}
+use Rattle.bits.specs.Written.{Coded}
+use Rattle.bits.specs.document.Written.{Numbers}
+use Rattle.fraction.specs.document.Fraction.{IsFraction}
 use Rattle.fraction.specs.Floats.{frac-value, divided}
 
 module _ {R : ℕ} {c : List ℕ} (w : Coded R fractionSize c) where

@@ -5,13 +5,14 @@ ghost use mathlib.Core.Path.{_≡_};
 ghost use mathlib.Core.List.{[], _∷_};
 ghost use Prim.Native.Nat.{_≤_};
 ghost use lib.ListN.{length};
-ghost use Rattle.limits.specs.Limits.{size, width, fractionSize};
-ghost use Rattle.refusal.specs.Table.{Answers};
-ghost use Rattle.bits.specs.Bits.{Zeros};
+ghost use Rattle.limits.specs.document.Limits.{size, fractionSize};
+ghost use Rattle.limits.specs.Width.{width};
+ghost use Rattle.refusal.specs.Checks.{Answers};
+ghost use Rattle.bits.specs.document.Bits.{Zeros};
 ghost use Rattle.bits.specs.Answered.{Reading};
 ghost use Rattle.bits.specs.Decided.{Decision};
 ghost use Rattle.bits.specs.Written.{Coded};
-ghost use Rattle.fraction.specs.Fraction.{IsFraction, Outside, row4, bitsOf, fractionRows};
+ghost use Rattle.fraction.specs.document.Fraction.{IsFraction, NoFraction, row4-fraction, bitsOf, fractionRows};
 ghost use Rattle.fraction.specs.Drawing.{Next, Draws};
 
 // What the writer of a fraction answers.
@@ -46,7 +47,7 @@ pub fn fraction_of(code: &[u8]) -> f64
 
 // 4: not a number, with a sign, or 1 and above.
 pub fn ranged(x: f64) -> Check
-    ensures { λ r. ⌜ Answers (row4 x ∷ []) r ⌝ }
+    ensures { λ r. ⌜ Answers (row4-fraction x ∷ []) r ⌝ }
 {
     if x != x {
         return Check::Refuse(4, 0);
@@ -77,7 +78,7 @@ fn next(x: f64) -> Digit
 
 // The 53 bits of a fraction.
 fn draw(x: f64) -> Drawn
-    requires { ⌜ (Outside x → ⊥) ⌝ }
+    requires { ⌜ (NoFraction x → ⊥) ⌝ }
     ensures { λ r. ⌜ Draws x (r .bits) (r .rest) ⌝ }
 {
     let mut t = x;
@@ -98,7 +99,7 @@ fn draw(x: f64) -> Drawn
 // The digits of a fraction that is in range, with rows 10 to 12.
 pub fn read(limit: u8, x: f64, out: &mut [u8]) -> Answer
     requires { ⌜ 1 ≤ limit ⌝ }
-    requires { ⌜ (Outside x → ⊥) ⌝ }
+    requires { ⌜ (NoFraction x → ⊥) ⌝ }
     requires { ⌜ length (now out) ≡ size ⌝ }
     ensures { λ r. ⌜ Reading limit Zeros (bitsOf x) (now (out .exit)) r ⌝ }
 {

@@ -8,7 +8,7 @@ use native.Mathlib.Omega.{arith}
 use lib.ListN.{length, getD, take, drop, set, length-set, length-append, length-take, length-map, drop-of-length-le}
 use lib.Seq.{take-suc, take-all, take-at, drop-at, drop-drop}
 use borrow.Rule.Slice.PartMut.{midOf, putMid}
-use Rattle.laws.specs.Laid.{laidOver}
+use Rattle.laws.specs.document.Laid.{laidOver}
 
 pub laid-none : (old : List ℕ) → old ≡ laidOver [] old
 unfolding laidOver

@@ -1,5 +1,4 @@
 -- Laws of lists that more than one crate cites. Assumes nothing.
-pub mod Order
 pub mod Sorting
 pub mod Laid
 pub mod Laying
@@ -7,3 +6,5 @@ pub mod Perms
 pub mod Once
 pub mod Places
 pub mod Part
+pub mod Falling
+pub mod document

@@ -1,6 +1,6 @@
 -- Lists in which nothing stands twice.
 --
--- In order: what that is; how rearranging and joining keep it; that such a list is no longer than one that holds its members;
+-- What that is stands in `document.Once`. In order: how rearranging and joining keep it; that such a list is no longer than one that holds its members;
 -- the numbers 1 to n as such a list. Assumes nothing.
 use mathlib.Core.Path.{_≡_, refl, sym, _∙_}
 use mathlib.Core.Logic.{_⊎_, inl, inr, ⊎-elim}
@@ -9,14 +9,10 @@ use Prim.Native.Nat.{ℕ, zero, suc, _≤_}
 use native.Mathlib.Decide.{ℕ-discrete}
 use native.Mathlib.Omega.{arith}
 use lib.ListN.{length}
+use Rattle.laws.specs.document.Once.{Once}
 use Rattle.laws.specs.Perms.{perm-in, perm-length}
 
 module _ {A : Type 0} where
-  -- nothing stands twice in it
-  abbrev pub Once : List A → Type 0
-  Once [] = Unit {0}
-  Once (a ∷ l) = (List·Memᴰ a l → ⊥) × Once l
-
   pub once-perm : {l m : List A} → List·Permᴰ l m → Once l → Once m
   once-perm List·Permᴰ·nil o = tt
   once-perm (List·Permᴰ·cons e d) o = (λ h. o .0 (Memᴰ·cast e (perm-in (Permᴰ·symm d) h)), once-perm d (o .1))

@@ -7,7 +7,7 @@ use Prim.Native.Nat.{ℕ, zero, suc, _<_}
 use native.Mathlib.Decide.{ℕ-discrete}
 use native.Mathlib.Omega.{arith}
 use lib.ListN.{length, getD}
-use Rattle.laws.specs.Once.{Once}
+use Rattle.laws.specs.document.Once.{Once}
 
 module _ {A : Type 0} where
   pub once-join : (l m : List A) → Once l → Once m → ((x : A) → List·Memᴰ x l → List·Memᴰ x m → ⊥) → Once (l ++ m)

@@ -7,7 +7,8 @@ use Prim.Native.Nat.{ℕ, zero, suc, _<_}
 use native.Mathlib.Decide.{decLt}
 use native.Mathlib.Omega.{arith}
 use lib.ListN.{length, getD}
-use Rattle.laws.specs.Order.{_≽_, dec≽, insert, sort, Falling}
+use Rattle.laws.specs.document.Order.{_≽_, dec≽, insert, sort}
+use Rattle.laws.specs.Falling.{Falling}
 
 pub refl≽ : (xs : List ℕ) → xs ≽ xs
 refl≽ [] = tt

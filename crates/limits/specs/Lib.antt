@@ -1,2 +1,3 @@
 -- The limits of document 01. Assumes nothing.
-pub mod Limits
+pub mod Width
+pub mod document

@@ -8,8 +8,9 @@ use lib.ListN.{length, getD, take, drop, length-append, length-drop}
 use lib.Seq.{append-snoc, drop-cons, drop-at, take-all}
 use Rattle.lines.specs.declared.Opening.{Opening}
 use Rattle.lines.specs.declared.Opening.the-variants.{At, Nothing}
-use Rattle.lines.specs.Line.{figures, Digits, IsCount, one, two}
-use Rattle.lines.specs.Form.{Value, Figure, Figures, values, Figured, all, not-all, Begins, Opens, begins, begins-not, Forms, formed, unformed}
+use Rattle.lines.specs.document.Line.{figures, Digits, IsCount, one, two}
+use Rattle.lines.specs.Form.{Value, values, Figured, all, not-all, Begins, Opens, begins, begins-not, Forms, formed, unformed}
+use Rattle.lines.specs.document.Marks.{WrittenDigit, WrittenDigits}
 use Rattle.lines.specs.Cuts.{cut-once}
 use Rattle.lines.specs.Bodies.{length-figures, count-free}
 use Rattle.lines.specs.Each.{each-at}
@@ -18,15 +19,15 @@ use Rattle.lines.specs.Taking.{length-values}
 pub value-digit : {b v : ℕ} → Value b v → (v ≡ 10 → ⊥) → (v ≤ 9) × (b ≡ 48 + v)
 value-digit w n = let h = w .small in (omega arith, w .digit (omega arith))
 
-pub is-figure : {b v : ℕ} → Value b v → (v ≡ 10 → ⊥) → Figure b
+pub is-figure : {b v : ℕ} → Value b v → (v ≡ 10 → ⊥) → WrittenDigit b
 is-figure w n = let h = value-digit w n in omega arith
 
-pub no-figure : {b v : ℕ} → Value b v → v ≡ 10 → Figure b → ⊥
+pub no-figure : {b v : ℕ} → Value b v → v ≡ 10 → WrittenDigit b → ⊥
 no-figure {b} w e f = w .other (omega arith) (b - 48) (omega arith) (omega arith)
 
 -- a byte of t at i is no digit's
 pub some-other : {t : List ℕ} {i v : ℕ} → i < length t → Value (getD t i 0) v → v ≡ 10 → Figured t false
-some-other {t} {i} l w e = not-all (λ n f. no-figure w e (each-at Figure t i f l))
+some-other {t} {i} l w e = not-all (λ n f. no-figure w e (each-at WrittenDigit t i f l))
 
 -- ---- how a line begins
 
@@ -66,7 +67,7 @@ module _ {b : List ℕ} where
 -- ---- the form of a line
 
 -- written digits are what their values are written as
-figures-values : (t : List ℕ) → Figures t → (figures (values t) ≡ t) × Digits (values t)
+figures-values : (t : List ℕ) → WrittenDigits t → (figures (values t) ≡ t) × Digits (values t)
 unfolding figures values
 figures-values [] f = (refl, tt)
 figures-values (b ∷ t) f =
@@ -74,7 +75,7 @@ figures-values (b ∷ t) f =
     let e : 48 + (b - 48) ≡ b = omega (arith, f .0) in
     (cc, (omega (arith, f .0), h .1))
 
-are-figures : (ds : List ℕ) → Digits ds → Figures (figures ds)
+are-figures : (ds : List ℕ) → Digits ds → WrittenDigits (figures ds)
 unfolding figures
 are-figures [] h = tt
 are-figures (d ∷ ds) h = (omega (arith, h .0), are-figures ds (h .1))
@@ -94,11 +95,11 @@ unopened (begins-not h) e =
     unformed (λ n ds f.
     h n (length (f .count) + 1) (record { count = f .count; rest = figures ds; counts = f .counts; parts = f .parts; start = refl }))
 
-pub figured : {t : List ℕ} {r : Bool} → Figured t r → r ≡ true → (1 ≤ length t) × Figures t
+pub figured : {t : List ℕ} {r : Bool} → Figured t r → r ≡ true → (1 ≤ length t) × WrittenDigits t
 figured (all l f) e = (l, f)
 figured (not-all h) e = let z : _≡_ {A = ℕ} 0 1 = cc in absurd (let n : ⊥ = omega arith in n)
 
-pub unfigured : {t : List ℕ} {r : Bool} → Figured t r → r ≡ false → 1 ≤ length t → Figures t → ⊥
+pub unfigured : {t : List ℕ} {r : Bool} → Figured t r → r ≡ false → 1 ≤ length t → WrittenDigits t → ⊥
 unfigured (all l f) e = let z : _≡_ {A = ℕ} 0 1 = cc in absurd (let n : ⊥ = omega arith in n)
 unfigured (not-all h) e = h
 

@@ -7,14 +7,15 @@ use native.Mathlib.Omega.{arith}
 use lib.ListN.{length, take, drop}
 use lib.Seq.{take-nil, length-take-le}
 use Rattle.laws.specs.Part.{part, part-length}
-use Rattle.refusal.specs.Table.{Row, FirstRefusal, Outside}
+use Rattle.refusal.specs.document.Table.{Row, FirstRefusal, Outside}
 use Rattle.refusal.specs.Laws.{clear-one, first-place, refusal-front, refusal-back}
 use Rattle.lines.specs.declared.Opening.{Opening}
 use Rattle.lines.specs.declared.Opening.the-variants.{At, Nothing}
 use Rattle.lines.specs.declared.Span.{Span}
 use Rattle.lines.specs.declared.Span.the-variants.{Digits, Refused}
-use Rattle.lines.specs.Line.{Free, Cut, Formed, Shaped, row1, row2, row3, row5, frontRows}
-use Rattle.lines.specs.Form.{UpTo, Figures, values, Forms, formed, unformed, Stands, Located, stands, refused}
+use Rattle.lines.specs.document.Line.{Free, Cut, Formed, Shaped, row1, row2, row3-line, row5-line, frontRows}
+use Rattle.lines.specs.Form.{UpTo, values, Forms, formed, unformed, Stands, Located, stands, refused}
+use Rattle.lines.specs.document.Marks.{WrittenDigits}
 use Rattle.lines.specs.Answered.{where-is, shaped-fed}
 use Rattle.lines.specs.Taking.{length-values, unfed, fed-cut}
 use Rattle.lines.specs.Marks.{unformed-2}
@@ -29,24 +30,24 @@ after {r} f l = refusal-back (clear-one {r = r} f) l
 
 module _ (most : ℕ) {t : List ℕ} where
   refused-1 : Free 10 t → FirstRefusal (frontRows most t) 1 0
-  refused-1 f = here {r = row1 t} (row2 t ∷ row3 most t ∷ row5 t ∷ []) (refl, f)
+  refused-1 f = here {r = row1 t} (row2 t ∷ row3-line most t ∷ row5-line t ∷ []) (refl, f)
 
   refused-2 : {b rest : List ℕ} → Cut 10 t b rest → ((n : ℕ) (ds : List ℕ) → Formed b n ds → ⊥) → FirstRefusal (frontRows most t) 2 0
-  refused-2 c h = unformed-2 c h (row3 most t ∷ row5 t ∷ [])
+  refused-2 c h = unformed-2 c h (row3-line most t ∷ row5-line t ∷ [])
 
   module _ {n : ℕ} {ds : List ℕ} (s : Shaped t n ds) where
-    formed-on : {k p : ℕ} → FirstRefusal (row3 most t ∷ row5 t ∷ []) k p → FirstRefusal (frontRows most t) k p
+    formed-on : {k p : ℕ} → FirstRefusal (row3-line most t ∷ row5-line t ∷ []) k p → FirstRefusal (frontRows most t) k p
     formed-on l = after {r = row1 t} (λ q f. shaped-fed s (f .1)) (after {r = row2 t} (λ q f. f .1 n ds s) l)
 
     refused-3 : Outside most n → FirstRefusal (frontRows most t) 3 0
     refused-3 o =
-        formed-on (here {r = row3 most t} (row5 t ∷ []) (refl, record { count = n; digits = ds; shape = s; holds = o }))
+        formed-on (here {r = row3-line most t} (row5-line t ∷ []) (refl, record { count = n; digits = ds; shape = s; holds = o }))
 
     refused-5 : (Outside most n → ⊥) → (length ds ≡ n → ⊥) → FirstRefusal (frontRows most t) 5 0
     refused-5 i e =
         formed-on
-        (after {r = row3 most t} (λ q f. i (where-is (λ m es. Outside most m) s (f .1)))
-        (here {r = row5 t} [] (refl, record { count = n; digits = ds; shape = s; holds = e })))
+        (after {r = row3-line most t} (λ q f. i (where-is (λ m es. Outside most m) s (f .1)))
+        (here {r = row5-line t} [] (refl, record { count = n; digits = ds; shape = s; holds = e })))
 
 -- ---- what was found
 
@@ -60,7 +61,7 @@ drop-take (suc s) (suc e) (a ∷ l) = let q : suc e - suc s ≡ e - s = omega ar
 pub record Found (t : List ℕ) (e n s : ℕ) : Type 0 where
   pub ordered : s ≤ e
   pub within : e ≤ length t
-  pub figures : Figures (part s e t)
+  pub figures : WrittenDigits (part s e t)
   pub shape : Shaped t n (values (part s e t))
 
 module _ {t : List ℕ} {e : ℕ} (u : UpTo t e) where

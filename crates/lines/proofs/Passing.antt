@@ -8,13 +8,13 @@ use lib.Seq.{drop-drop, drop-length}
 use mir.Syntax.{w64}
 use mir.Val.{Fits}
 use borrow.Rule.Slice.PartMut.{midOf, putMid}
-use Rattle.refusal.specs.Table.{Outcome}
-use Rattle.lines.specs.Form.{UpTo}
-use Rattle.limits.specs.Limits.{size}
-use Rattle.lines.specs.Reading.{numberOf, placeOf, Behind, Room, ReadLine, ReadSoFar, ReadText}
+use Rattle.refusal.specs.document.Table.{Outcome}
+use Rattle.lines.specs.Form.{UpTo, Behind, Room}
+use Rattle.limits.specs.document.Limits.{size}
+use Rattle.lines.specs.document.Reading.{numberOf, placeOf, LineRead, ReadSoFar, TextRead}
 use Rattle.lines.specs.Taking.{line-read}
 use Rattle.lines.specs.Turns.{read-more, read-lengths}
-use Rattle.lines.specs.Judged.{digitTable}
+use Rattle.lines.specs.document.Judged.{digitTable}
 use Rattle.lines.proofs.Forming.{rest-is}
 
 module _ {t : List ℕ} {at e : ℕ} (l : at < length t) (u : UpTo (take (length t - at) (drop at t)) e) where
@@ -61,24 +61,24 @@ module _ {R : ℕ} {text rec₀ num₀ pla₀ : List ℕ} {lines : ℕ} {rec num
   pub not-past : (at ≡ length text → ⊥) → at < length text
   not-past n = omega (arith, g .read .within)
 
-  pub at-end : at ≡ length text → ReadText size (digitTable R) size text rec₀ num₀ pla₀ rec num pla k at
+  pub at-end : at ≡ length text → TextRead size (digitTable R) size text rec₀ num₀ pla₀ rec num pla k at
   at-end e = record { read = g .read; stops = λ l a b c. let z : ⊥ = omega arith in z }
 
-  pub no-room : lines ≤ k → ReadText size (digitTable R) size text rec₀ num₀ pla₀ rec num pla k at
+  pub no-room : lines ≤ k → TextRead size (digitTable R) size text rec₀ num₀ pla₀ rec num pla k at
   no-room l =
       let e : k ≡ lines = omega (arith, g .below) in
       record { read = g .read; stops = λ m a b c. g .room .no-more (omega arith) (omega arith) (omega arith) }
 
   pub going-more :
       {to : ℕ} {new num′ pla′ : List ℕ} {o : Outcome ℕ} → k < lines → (at ≡ length text → ⊥)
-      → ReadLine size (digitTable R) (take (length text - at) (drop at text)) (midOf (size * k) (size * k + size - size * k) rec) new o
+      → LineRead size (digitTable R) (take (length text - at) (drop at text)) (midOf (size * k) (size * k + size - size * k) rec) new o
       → (num′ ≡ set num k (numberOf o)) × (pla′ ≡ set pla k (placeOf o)) → Behind text at to
       → Going R text rec₀ num₀ pla₀ lines (putMid (size * k) (size * k + size - size * k) rec new) num′ pla′ (k + 1) to
   going-more {to} {new} {o = o} l n h e b =
       let r = room-now l in
       let x = lengths in
       let q : size * k + size - size * k ≡ size = omega arith in
-      let h′ : ReadLine size (digitTable R) (drop at text) (midOf (size * k) size rec) new o = rw (rest-is text at, q) at h in
+      let h′ : LineRead size (digitTable R) (drop at text) (midOf (size * k) size rec) new o = rw (rest-is text at, q) at h in
       let m : size ≤ length (midOf (size * k) size rec) = simp (length-take, length-drop) (omega arith) in
       let a = line-read size (digitTable R) m h′ in
       rw (e .0, e .1, q)

@@ -8,9 +8,10 @@ use native.Mathlib.Omega.{arith}
 use lib.ListN.{length, set, length-set, length-append, length-take, length-drop}
 use lib.Seq.{append-snoc}
 use borrow.Rule.Slice.PartMut.{midOf, putMid}
-use Rattle.laws.specs.Laid.{laidOver, Laid, laid-length}
+use Rattle.laws.specs.Laid.{laid-length}
+use Rattle.laws.specs.document.Laid.{laidOver, Laid}
 use Rattle.laws.specs.Laying.{laid-none, laid-more, laid-part}
-use Rattle.lines.specs.Line.{figures, decimal, body, line}
+use Rattle.lines.specs.document.Line.{figures, decimal, body, line}
 use Rattle.lines.specs.Bodies.{length-figures, length-line}
 
 decimal-short : (n : ℕ) → n < 10 → decimal n ≡ (48 + n) ∷ []

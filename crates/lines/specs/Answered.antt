@@ -7,9 +7,10 @@ use Prim.Native.Nat.{ℕ, _≤_, _<_}
 use native.Mathlib.Decide.{ℕ-discrete}
 use native.Mathlib.Omega.{arith}
 use lib.ListN.{length}
-use Rattle.refusal.specs.Table.{Applies, Clear, gives, refuses, kept, left, Outside}
+use Rattle.refusal.specs.document.Table.{Applies, Clear, gives, refuses, kept, left, Outside}
 use Rattle.refusal.specs.Laws.{one-result, not-both, clear-both, never, others, RowByRow, Alike, alike-clear, alike-refusal}
-use Rattle.lines.specs.Line.{body, Free, Cut, Formed, Shaped, Where, DigitRow, judged, ofLine, frontRows, lineRows, LineAnswers, Reply}
+use Rattle.lines.specs.document.Line.{body, Free, Cut, Formed, Shaped, Where, DigitRow, ofLine, frontRows, lineRows, LineAnswers, Reply}
+use Rattle.lines.specs.Judging.{judged}
 use Rattle.lines.specs.Damage.{Code, Accept}
 use Rattle.lines.specs.Cuts.{not-free, cut-once}
 use Rattle.lines.specs.Bodies.{formed-once, formed-body, Fits, body-formed, ends}

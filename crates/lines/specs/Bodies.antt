@@ -7,8 +7,8 @@ use Prim.Native.Nat.{ℕ, suc, _+_, _*_, _/_, _%_, _≤_, _<_}
 use native.Mathlib.Decide.{decLt}
 use native.Mathlib.Omega.{arith}
 use lib.ListN.{length, length-append}
-use Rattle.code.specs.Code.{sum}
-use Rattle.lines.specs.Line.{figures, decimal, body, line, Other, Free, Digits, IsCount, one, two, Formed}
+use Rattle.digit_code.specs.document.Code.{sum}
+use Rattle.lines.specs.document.Line.{figures, decimal, body, line, Other, Free, Digits, IsCount, one, two, Formed}
 use Rattle.lines.specs.Damage.{Code}
 use Rattle.lines.specs.Cuts.{not-free, cut-only}
 use Rattle.lines.specs.Each.{each-join, each-right}

@@ -6,7 +6,7 @@ use Prim.Native.Nat.{ℕ, _≤_}
 use native.Mathlib.Decide.{ℕ-discrete}
 use native.Mathlib.Omega.{arith}
 use lib.ListN.{length, length-append}
-use Rattle.lines.specs.Line.{Other, Free, Cut}
+use Rattle.lines.specs.document.Line.{Other, Free, Cut}
 use Rattle.lines.specs.Each.{each-right}
 
 -- what holds k is not free of it

@@ -5,9 +5,9 @@ use mathlib.Core.List.{List, [], _∷_, _++_}
 use Prim.Native.Nat.{ℕ}
 use native.Mathlib.Omega.{arith}
 use lib.ListN.{length}
-use Rattle.code.specs.Code.{sum}
-use Rattle.lines.specs.Line.{Free}
-use Rattle.lines.specs.Damage.{Change, replaced, lost, put-in}
+use Rattle.digit_code.specs.document.Code.{sum}
+use Rattle.lines.specs.document.Line.{Free}
+use Rattle.lines.specs.document.Damage.{Change, replaced, lost, put-in}
 
 -- the byte at the head is replaced, lost or put in, or the change is later
 pub data Edit : List ℕ → List ℕ → Type 0 where

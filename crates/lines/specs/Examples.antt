@@ -4,7 +4,7 @@ use mathlib.Core.List.{[], _∷_}
 use Prim.Native.Nat.{ℕ, _+_}
 use native.Mathlib.Decide.{decLt}
 use native.Mathlib.Omega.{arith}
-use Rattle.lines.specs.Line.{figures, decimal, body, line, IsCount, one, two}
+use Rattle.lines.specs.document.Line.{figures, decimal, body, line, IsCount, one, two}
 
 -- 8 32100100
 written-line :

@@ -9,9 +9,9 @@ use lib.ListN.{length, take, drop, length-append, length-drop}
 use lib.Seq.{take-append-add, drop-append-add, length-take-le}
 use borrow.Rule.Slice.PartMut.{midOf, putMid}
 use Rattle.laws.specs.Laid.{laid-length}
-use Rattle.refusal.specs.Table.{gives, refuses, kept, left}
-use Rattle.lines.specs.Line.{DigitRow, LineAnswers, TextAnswers, Reply}
-use Rattle.lines.specs.Reading.{block, blocks, Taken, none, unfinished, next}
+use Rattle.refusal.specs.document.Table.{gives, refuses, kept, left}
+use Rattle.lines.specs.document.Line.{DigitRow, LineAnswers, TextAnswers, Reply}
+use Rattle.lines.specs.document.Reading.{block, blocks, Taken, none, unfinished, next}
 use Rattle.lines.specs.Cuts.{cut-once, cut-some, not-free}
 use Rattle.lines.specs.Answered.{answered-once, clear-line}
 

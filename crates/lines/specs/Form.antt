@@ -2,15 +2,16 @@
 use mathlib.Core.Path.{_≡_}
 use mathlib.Core.Bool.{Bool, true, false}
 use mathlib.Core.List.{List, _∷_, _++_, map}
-use Prim.Native.Nat.{ℕ, _+_, _-_, _≤_, _<_}
+use Prim.Native.Nat.{ℕ, _+_, _-_, _≤_, _<_, suc, _*_}
 use lib.ListN.{length, getD, take, drop}
 use Rattle.laws.specs.Part.{part}
-use Rattle.refusal.specs.Table.{FirstRefusal}
+use Rattle.refusal.specs.document.Table.{FirstRefusal}
 use Rattle.lines.specs.declared.Opening.{Opening}
 use Rattle.lines.specs.declared.Opening.the-variants.{At, Nothing}
 use Rattle.lines.specs.declared.Span.{Span}
 use Rattle.lines.specs.declared.Span.the-variants.{Digits, Refused}
-use Rattle.lines.specs.Line.{Each, Free, IsCount, Formed, Shaped, frontRows}
+use Rattle.lines.specs.document.Line.{Free, IsCount, Formed, Shaped, frontRows}
+use Rattle.lines.specs.document.Marks.{WrittenDigits}
 
 -- i is the place of the first line feed, or the length where there is none
 pub record UpTo (t : List ℕ) (i : ℕ) : Type 0 where
@@ -24,22 +25,14 @@ pub record Value (b v : ℕ) : Type 0 where
   pub digit : v ≤ 9 → b ≡ 48 + v
   pub other : 9 < v → (d : ℕ) → d ≤ 9 → b ≡ 48 + d → ⊥
 
--- b is a digit's byte
-abbrev pub Figure : ℕ → Type 0
-Figure b = (48 ≤ b) × (b ≤ 57)
-
--- each byte is a digit's
-abbrev pub Figures : List ℕ → Type 0
-Figures t = Each Figure t
-
 -- their values
 unfoldable pub values : List ℕ → List ℕ
 values t = map (λ b. b - 48) t
 
 -- whether t is one or more digits
 pub data Figured (t : List ℕ) : Bool → Type 0 where
-  all : 1 ≤ length t → Figures t → Figured t true
-  not-all : (1 ≤ length t → Figures t → ⊥) → Figured t false
+  all : 1 ≤ length t → WrittenDigits t → Figured t true
+  not-all : (1 ≤ length t → WrittenDigits t → ⊥) → Figured t false
 
 -- b begins with a count that says n, and a space; what follows them begins at s
 pub record Begins (b : List ℕ) (n s : ℕ) : Type 0 where
@@ -56,14 +49,14 @@ pub data Opens (b : List ℕ) : Opening → Type 0 where
 
 -- the form of b, a line without its line feed: what its count says, and where its digits begin
 pub data Forms (b : List ℕ) : Opening → Type 0 where
-  formed : {n s : ℕ} → s ≤ length b → Figures (drop s b) → Formed b n (values (drop s b)) → Forms b (At n s)
+  formed : {n s : ℕ} → s ≤ length b → WrittenDigits (drop s b) → Formed b n (values (drop s b)) → Forms b (At n s)
   unformed : ((n : ℕ) (ds : List ℕ) → Formed b n ds → ⊥) → Forms b Nothing
 
 -- The digits of t's first line stand from s to e, and rows 1, 2, 3 and 5 do not refuse it.
 pub record Stands (most : ℕ) (t : List ℕ) (s e : ℕ) : Type 0 where
   pub ordered : s ≤ e
   pub within : e ≤ length t
-  pub figures : Figures (part s e t)
+  pub figures : WrittenDigits (part s e t)
   pub shape : Shaped t (e - s) (values (part s e t))
   pub some : 1 ≤ e - s
   pub few : e - s ≤ most
@@ -72,3 +65,15 @@ pub record Stands (most : ℕ) (t : List ℕ) (s e : ℕ) : Type 0 where
 pub data Located (most : ℕ) (t : List ℕ) : Span → Type 0 where
   stands : {s e : ℕ} → Stands most t s e → Located most t (Digits s e)
   refused : {k : ℕ} → FirstRefusal (frontRows most t) k 0 → Located most t (Refused k)
+
+-- to is behind the line of t that begins at `at`
+pub record Behind (t : List ℕ) (at to : ℕ) : Type 0 where
+  pub end : ℕ
+  pub feed : UpTo (drop at t) end
+  pub within : to ≤ length t
+  pub rest : drop to t ≡ drop (suc end) (drop at t)
+
+-- there is room for so many lines, and for no more
+pub record Room (w records numbers places n : ℕ) : Type 0 where
+  pub enough : (w * n ≤ records) × (n ≤ numbers) × (n ≤ places)
+  pub no-more : w * n + w ≤ records → n < numbers → n < places → ⊥

@@ -6,11 +6,11 @@ use Prim.Native.Nat.{ℕ, zero, suc, _+_, _-_, _≤_, _<_}
 use native.Mathlib.Decide.{ℕ-discrete, decLt}
 use native.Mathlib.Omega.{arith}
 use lib.ListN.{length, getD}
-use Rattle.code.specs.Code.{sum, EndsAt, cap, row10, row11, row12}
-use Rattle.code.specs.Ends.{ends-iff, ends-sum}
-use Rattle.refusal.specs.Table.{Row, Clear}
+use Rattle.digit_code.specs.document.Code.{sum, EndsAt, cap, row10, row11, row12}
+use Rattle.digit_code.specs.Ends.{ends-iff, ends-sum}
+use Rattle.refusal.specs.document.Table.{Row, Clear}
 use Rattle.refusal.specs.Laws.{never, others}
-use Rattle.lines.specs.Line.{Digit}
+use Rattle.lines.specs.document.Line.{Digit}
 use Rattle.lines.specs.Each.{each-of}
 use Rattle.lines.specs.Damage.{Code}
 

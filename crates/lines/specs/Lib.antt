@@ -1,8 +1,6 @@
 -- Lines. First what is to be believed: what a line is and what is refused of it, its form as the code finds it, reading, and what damage
 -- can do; then the theorems, the examples, and the laws behind them. Assumes nothing.
-pub mod Line
 pub mod Form
-pub mod Reading
 pub mod Judged
 pub mod Damage
 pub mod Theorems
@@ -20,3 +18,5 @@ pub mod Taking
 pub mod FirstLines
 pub mod Turns
 pub mod Marks
+pub mod Judging
+pub mod document

@@ -3,39 +3,23 @@
 -- In order: the bytes that a line may hold; they are those of every line that is written; a line that holds another is refused 2.
 -- Assumes nothing.
 use mathlib.Core.Path.{_≡_, refl}
-use mathlib.Core.Logic.{_⊎_, inl, inr}
+use mathlib.Core.Logic.{inl, inr}
 use mathlib.Core.List.{List, [], _∷_, _++_, append-assoc}
 use Prim.Native.Nat.{ℕ}
 use native.Mathlib.Omega.{arith}
 use lib.ListN.{length}
-use Rattle.refusal.specs.Table.{Row, FirstRefusal, Outcome, refuses, left}
+use Rattle.refusal.specs.document.Table.{Row, FirstRefusal, Outcome, refuses, left}
 use Rattle.refusal.specs.Laws.{clear-one, first-place, refusal-front, refusal-back}
-use Rattle.limits.specs.Limits.{size}
-use Rattle.lines.specs.Line.{figures, decimal, body, line, Each, Other, Cut, Digits, IsCount, one, two, Formed, row1, row2, LineAnswers, Reply}
-use Rattle.lines.specs.Form.{Figure, Figures}
-use Rattle.lines.specs.Judged.{digitTable}
-use Rattle.lines.specs.Reading.{ReadLine}
+use Rattle.limits.specs.document.Limits.{size}
+use Rattle.lines.specs.document.Line.{figures, decimal, body, line, Each, Cut, Digits, IsCount, one, two, Formed, row1, row2, LineAnswers, Reply}
+use Rattle.lines.specs.document.Marks.{WrittenDigits, Allowed, DigitsOnly, Mark}
+use Rattle.lines.specs.document.Judged.{digitTable}
+use Rattle.lines.specs.document.Reading.{LineRead}
 use Rattle.lines.specs.Cuts.{not-free, cut-once}
 use Rattle.lines.specs.Each.{each-join, each-right, each-follows}
 use Rattle.lines.specs.Bodies.{Fits, decimal-counts}
 use Rattle.lines.specs.Answered.{answered-once}
 use Rattle.lines.specs.Taking.{read-once}
-
--- a digit, the space or the line feed
-abbrev pub Allowed : ℕ → Type 0
-Allowed b = Figure b ⊎ ((b ≡ 32) ⊎ (b ≡ 10))
-
--- digits, one space, digits, and one line feed, the last byte
-pub record DigitsOnly (t : List ℕ) : Type 0 where
-  pub count : List ℕ
-  pub digits : List ℕ
-  pub parts : t ≡ count ++ (32 ∷ (digits ++ (10 ∷ [])))
-  pub count-figures : Figures count
-  pub digit-figures : Figures digits
-
--- a byte that is neither a digit nor the space, as a comma or a point
-abbrev pub Mark : ℕ → Type 0
-Mark m = (Figure m → ⊥) × Other 32 m
 
 pub comma : Mark 44
 comma = ((λ f. omega (arith, f .0)), λ e. omega arith)
@@ -45,12 +29,12 @@ point = ((λ f. omega (arith, f .0)), λ e. omega arith)
 
 -- ---- what is written
 
-figured : (ds : List ℕ) → Digits ds → Figures (figures ds)
+figured : (ds : List ℕ) → Digits ds → WrittenDigits (figures ds)
 unfolding figures
 figured [] h = tt
 figured (d ∷ ds) h = ((omega arith, omega (arith, h .0)), figured ds (h .1))
 
-count-figured : {b : List ℕ} {n : ℕ} → IsCount b n → Figures b
+count-figured : {b : List ℕ} {n : ℕ} → IsCount b n → WrittenDigits b
 count-figured {n = n} (one h e) = rw e (figured (n ∷ []) (h, tt))
 count-figured (two d f p q r e s) = rw e (figured (d ∷ f ∷ []) (q, (r, tt)))
 
@@ -99,5 +83,5 @@ module _ {t b rest : List ℕ} (c : Cut 10 t b rest) (x y : List ℕ) (m : ℕ) 
   marked-answer R h = answered-once size (digitTable R) h (left (unformed-2 c unformed _) refl)
 
   -- and by itself
-  pub marked-line : (R : ℕ) {old new : List ℕ} {o : Outcome ℕ} → ReadLine size (digitTable R) t old new o → (o ≡ refuses 2 0) × (new ≡ old)
+  pub marked-line : (R : ℕ) {old new : List ℕ} {o : Outcome ℕ} → LineRead size (digitTable R) t old new o → (o ≡ refuses 2 0) × (new ≡ old)
   marked-line R h = read-once size (digitTable R) h (left (unformed-2 c unformed _) refl)

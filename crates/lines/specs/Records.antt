@@ -4,9 +4,9 @@ use mathlib.Core.List.{List, [], _∷_, _++_, map}
 use Prim.Native.Nat.{ℕ, _+_, _≤_}
 use native.Mathlib.Omega.{arith}
 use lib.ListN.{length}
-use Rattle.refusal.specs.Table.{gives, refuses}
-use Rattle.lines.specs.Line.{Reply}
-use Rattle.lines.specs.Damage.{records, refusals}
+use Rattle.refusal.specs.document.Table.{gives, refuses}
+use Rattle.lines.specs.document.Line.{Reply}
+use Rattle.lines.specs.document.Damage.{records, refusals}
 
 pub records-join : (os ps : List Reply) → records (os ++ ps) ≡ records os ++ records ps
 unfolding records

@@ -5,9 +5,11 @@ use mathlib.Core.List.{List, [], _∷_, _++_, map, append-assoc}
 use Prim.Native.Nat.{ℕ, _≤_}
 use native.Mathlib.Omega.{arith}
 use lib.ListN.{length, length-append}
-use Rattle.refusal.specs.Table.{Clear, gives, refuses}
-use Rattle.lines.specs.Line.{body, written, Other, Free, Cut, DigitRow, judged, TextAnswers, Reply}
-use Rattle.lines.specs.Damage.{Code, Among, end, keep, skip, records, refusals, Robust, Accept, Accepted}
+use Rattle.refusal.specs.document.Table.{Clear, gives, refuses}
+use Rattle.lines.specs.document.Line.{body, written, Other, Free, Cut, DigitRow, TextAnswers, Reply}
+use Rattle.lines.specs.Judging.{judged}
+use Rattle.lines.specs.Damage.{Code, Robust, Accept, Accepted}
+use Rattle.lines.specs.document.Damage.{Among, end, keep, skip, records, refusals}
 use Rattle.lines.specs.Records.{records-before, refusals-before}
 use Rattle.lines.specs.Cuts.{not-free, Seek, nowhere, found, seek}
 use Rattle.lines.specs.Each.{each-join, each-right}

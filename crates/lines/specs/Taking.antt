@@ -7,14 +7,15 @@ use Prim.Native.Nat.{ℕ, suc, _-_, _≤_, _<_}
 use native.Mathlib.Omega.{arith}
 use lib.ListN.{length, take, drop, length-map}
 use lib.Seq.{take-all, split-at}
-use Rattle.laws.specs.Laid.{laidOver}
+use Rattle.laws.specs.document.Laid.{laidOver}
 use Rattle.laws.specs.Part.{part, part-length}
-use Rattle.refusal.specs.Table.{Row, Applies, Clear, FirstRefusal, Outcome, gives, refuses, kept, left, row3}
+use Rattle.refusal.specs.document.Table.{Row, Applies, Clear, FirstRefusal, Outcome, gives, refuses, kept, left, row3}
 use Rattle.refusal.specs.Laws.{one-result, clear-one, first-place, clear-left, clear-both, others, refusal-front, refusal-back, refusal-behind, refusal-before, alike-clear, alike-refusal}
 use Rattle.refusal.specs.Giving.{one-written}
-use Rattle.lines.specs.Line.{Free, Cut, DigitRow, judged, ofLine, frontRows, lineRows, LineAnswers, Reply}
+use Rattle.lines.specs.document.Line.{Free, Cut, DigitRow, ofLine, frontRows, lineRows, LineAnswers, Reply}
+use Rattle.lines.specs.Judging.{judged}
 use Rattle.lines.specs.Form.{UpTo, values, Stands}
-use Rattle.lines.specs.Reading.{lineRow15, block, counted, ReadLine}
+use Rattle.lines.specs.document.Reading.{lineRow15, block, counted, LineRead}
 use Rattle.lines.specs.Answered.{shaped-once, where-is, digits-alike, line-clear, clear-line}
 
 -- the first line feed, or none
@@ -37,14 +38,14 @@ stands-length {t = t} {s} {e} h = part-length s e t (h .within)
 module _ (most : ℕ) (rows : List DigitRow) where
   -- reading a line has one result, and leaves one thing in what is lent
   pub read-once :
-      {t old new new′ : List ℕ} {o p : Outcome ℕ} → ReadLine most rows t old new o → ReadLine most rows t old new′ p → (o ≡ p) × (new ≡ new′)
+      {t old new new′ : List ℕ} {o p : Outcome ℕ} → LineRead most rows t old new o → LineRead most rows t old new′ p → (o ≡ p) × (new ≡ new′)
   read-once h k = one-result (λ n m v w. one-written (λ c d s r. shaped-once (s .1) (r .1) .1) n m v w) h k
 
   -- ---- what a reader of one line cites
 
   -- a refusal before the digits are judged
   pub read-front :
-      {t old : List ℕ} {k p : ℕ} → FirstRefusal (frontRows most t) k p → ReadLine most rows t old old (refuses k p)
+      {t old : List ℕ} {k p : ℕ} → FirstRefusal (frontRows most t) k p → LineRead most rows t old old (refuses k p)
   read-front {t} {old} l = left (refusal-front {xs = frontRows most t} (map (ofLine t) rows ++ (lineRow15 t (length old) ∷ [])) l) refl
 
   module _ {t : List ℕ} {s e : ℕ} (h : Stands most t s e) where
@@ -84,11 +85,11 @@ module _ (most : ℕ) (rows : List DigitRow) where
     module _ (old : List ℕ) where
       -- a refusal of the digits
       pub read-digits :
-          {k p : ℕ} → FirstRefusal checked k p → ReadLine most rows t old old (refuses k p)
+          {k p : ℕ} → FirstRefusal checked k p → LineRead most rows t old old (refuses k p)
       read-digits l = left (refusal-back front-clear (refusal-front (lineRow15 t (length old) ∷ []) (digits-refused l))) refl
 
       -- what is lent is too short
-      pub read-short : Clear checked → length old < e - s → ReadLine most rows t old old (refuses 15 (e - s))
+      pub read-short : Clear checked → length old < e - s → LineRead most rows t old old (refuses 15 (e - s))
       read-short c l =
           left
           (refusal-back (clear-digits c)
@@ -98,7 +99,7 @@ module _ (most : ℕ) (rows : List DigitRow) where
 
       -- the digits
       pub read-line :
-          {new : List ℕ} → Clear checked → e - s ≤ length old → new ≡ laidOver (values (part s e t)) old → ReadLine most rows t old new (gives (e - s))
+          {new : List ℕ} → Clear checked → e - s ≤ length old → new ≡ laidOver (values (part s e t)) old → LineRead most rows t old new (gives (e - s))
       read-line c l q =
           kept (clear-both (clear-digits c) (clear-one {r = lineRow15 t (length old)} (λ p a. let n = need (length old) p a .1 in let z : ⊥ = omega arith in z)))
           (record { result = values (part s e t); right = (e - s, h .shape); count = sym as-many; lies = q })
@@ -120,7 +121,7 @@ module _ (most : ℕ) (rows : List DigitRow) where
     line-refused : {k p : ℕ} → FirstRefusal (lineRows most rows t ++ (lineRow15 t lent ∷ [])) k p → FirstRefusal (lineRows most rows t) k p
     line-refused l = refusal-before (lineRows most rows t) (lineRow15 t lent ∷ []) no-15 l
 
-  pub line-read : {t old new : List ℕ} {o : Outcome ℕ} → most ≤ length old → ReadLine most rows t old new o → LineRead t old new o
+  pub line-read : {t old new : List ℕ} {o : Outcome ℕ} → most ≤ length old → LineRead most rows t old new o → LineRead t old new o
   unfolding counted block
   line-read {t} {old} room (kept c w) =
       record {

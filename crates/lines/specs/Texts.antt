@@ -5,8 +5,9 @@ use mathlib.Core.List.{List, [], _∷_, _++_, map, append-assoc}
 use Prim.Native.Nat.{ℕ, _≤_}
 use native.Mathlib.Omega.{arith}
 use lib.ListN.{length, length-append}
-use Rattle.refusal.specs.Table.{Clear, gives, refuses, kept, left}
-use Rattle.lines.specs.Line.{body, line, written, Free, Cut, DigitRow, judged, LineAnswers, TextAnswers, none, unfinished, next, Reply}
+use Rattle.refusal.specs.document.Table.{Clear, gives, refuses, kept, left}
+use Rattle.lines.specs.document.Line.{body, line, written, Free, Cut, DigitRow, LineAnswers, TextAnswers, none, unfinished, next, Reply}
+use Rattle.lines.specs.Judging.{judged}
 use Rattle.lines.specs.Damage.{Code, Accept, Accepted, Recovers}
 use Rattle.lines.specs.Cuts.{not-free, cut-some, cut-once, Meet, same, further, meet}
 use Rattle.lines.specs.Bodies.{Fits, body-free}

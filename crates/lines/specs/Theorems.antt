@@ -6,10 +6,12 @@ use mathlib.Core.Path.{_≡_, refl}
 use mathlib.Core.List.{List, _∷_, _++_, map}
 use Prim.Native.Nat.{ℕ, _≤_}
 use lib.ListN.{length}
-use Rattle.refusal.specs.Table.{Clear, Outcome, gives}
-use Rattle.lines.specs.Line.{written, Cut, DigitRow, judged, LineAnswers, TextAnswers, Reply}
-use Rattle.lines.specs.Damage.{Code, Change, Robust, Accepted, Recovers}
-use Rattle.lines.specs.Reading.{ReadLine, ReadText}
+use Rattle.refusal.specs.document.Table.{Clear, Outcome, gives}
+use Rattle.lines.specs.document.Line.{written, Cut, DigitRow, LineAnswers, TextAnswers, Reply}
+use Rattle.lines.specs.Judging.{judged}
+use Rattle.lines.specs.Damage.{Code, Robust, Accepted, Recovers}
+use Rattle.lines.specs.document.Damage.{Change}
+use Rattle.lines.specs.document.Reading.{LineRead, TextRead}
 use Rattle.lines.specs.Taking.{read-once}
 use Rattle.lines.specs.Turns.{read-text-once, read-whole}
 use Rattle.lines.specs.Edits.{edit-of}
@@ -27,19 +29,19 @@ module _ (most : ℕ) (rows : List DigitRow) where
 
   -- Reading a line into a lent output has one result, and leaves one thing there.
   pub one-line :
-      (t old new new′ : List ℕ) (o p : Outcome ℕ) → ReadLine most rows t old new o → ReadLine most rows t old new′ p → (o ≡ p) × (new ≡ new′)
+      (t old new new′ : List ℕ) (o p : Outcome ℕ) → LineRead most rows t old new o → LineRead most rows t old new′ p → (o ≡ p) × (new ≡ new′)
   one-line t old new new′ o p h k = read-once most rows h k
 
   -- So has reading a text into what is lent for each line.
   pub one-text :
       (w : ℕ) (t rec num pla rec₁ num₁ pla₁ rec₂ num₂ pla₂ : List ℕ) (k at j to : ℕ)
-      → ReadText most rows w t rec num pla rec₁ num₁ pla₁ k at → ReadText most rows w t rec num pla rec₂ num₂ pla₂ j to
+      → TextRead most rows w t rec num pla rec₁ num₁ pla₁ k at → TextRead most rows w t rec num pla rec₂ num₂ pla₂ j to
       → (k ≡ j) × (at ≡ to) × (rec₁ ≡ rec₂) × (num₁ ≡ num₂) × (pla₁ ≡ pla₂)
   one-text w t rec num pla rec₁ num₁ pla₁ rec₂ num₂ pla₂ k at j to g h = read-text-once most rows g h
 
   -- What is read of a text to its end answers it: what is said below of `TextAnswers` is said of the reader.
   pub to-the-end :
-      (w : ℕ) (t rec num pla rec₁ num₁ pla₁ : List ℕ) (k at : ℕ) (g : ReadText most rows w t rec num pla rec₁ num₁ pla₁ k at) → at ≡ length t
+      (w : ℕ) (t rec num pla rec₁ num₁ pla₁ : List ℕ) (k at : ℕ) (g : TextRead most rows w t rec num pla rec₁ num₁ pla₁ k at) → at ≡ length t
       → TextAnswers most rows t (g .read .answers)
   to-the-end w t rec num pla rec₁ num₁ pla₁ k at g e = read-whole most rows g e
 

@@ -8,20 +8,21 @@ use native.Mathlib.Decide.{decLt, ℕ-discrete}
 use native.Mathlib.Omega.{arith}
 use lib.ListN.{length, drop, set, length-append, length-drop, length-map, drop-of-length-le}
 use borrow.Rule.Slice.PartMut.{midOf, putMid}
-use Rattle.laws.specs.Laid.{laidOver, laid-length}
+use Rattle.laws.specs.Laid.{laid-length}
+use Rattle.laws.specs.document.Laid.{laidOver}
 use Rattle.laws.specs.Laying.{laid-none, laid-more}
-use Rattle.refusal.specs.Table.{Outcome}
-use Rattle.lines.specs.Line.{DigitRow, LineAnswers, TextAnswers, Reply}
-use Rattle.lines.specs.Form.{UpTo}
-use Rattle.lines.specs.Reading.{block, blocks, counted, numberOf, placeOf, Behind, Taken, none, unfinished, next, ReadSoFar, ReadText}
+use Rattle.refusal.specs.document.Table.{Outcome}
+use Rattle.lines.specs.document.Line.{DigitRow, LineAnswers, TextAnswers, Reply}
+use Rattle.lines.specs.Form.{UpTo, Behind}
+use Rattle.lines.specs.document.Reading.{block, blocks, counted, numberOf, placeOf, Taken, none, unfinished, next, ReadSoFar, TextRead}
 use Rattle.lines.specs.Taking.{unfed, fed-cut}
 use Rattle.lines.specs.FirstLines.{taken-all, taken-join, taken-once, taken-most, taken-fit, blocks-more, length-blocks}
 
 module _ (most : ℕ) (rows : List DigitRow) {w : ℕ} {t rec num pla : List ℕ} where
   -- one reading does not stop before another
   no-sooner :
-      {rec₁ num₁ pla₁ rec₂ num₂ pla₂ : List ℕ} {k at j to : ℕ} → ReadText most rows w t rec num pla rec₁ num₁ pla₁ k at
-      → ReadText most rows w t rec num pla rec₂ num₂ pla₂ j to → k < j → ⊥
+      {rec₁ num₁ pla₁ rec₂ num₂ pla₂ : List ℕ} {k at j to : ℕ} → TextRead most rows w t rec num pla rec₁ num₁ pla₁ k at
+      → TextRead most rows w t rec num pla rec₂ num₂ pla₂ j to → k < j → ⊥
   no-sooner {k = k} {at} {j} {to} g h l = go (decLt at (length t))
     where
       more : w * k + w ≤ length rec
@@ -36,8 +37,8 @@ module _ (most : ℕ) (rows : List DigitRow) {w : ℕ} {t rec num pla : List ℕ
 
   -- reading a text has one result
   pub read-text-once :
-      {rec₁ num₁ pla₁ rec₂ num₂ pla₂ : List ℕ} {k at j to : ℕ} → ReadText most rows w t rec num pla rec₁ num₁ pla₁ k at
-      → ReadText most rows w t rec num pla rec₂ num₂ pla₂ j to → (k ≡ j) × (at ≡ to) × (rec₁ ≡ rec₂) × (num₁ ≡ num₂) × (pla₁ ≡ pla₂)
+      {rec₁ num₁ pla₁ rec₂ num₂ pla₂ : List ℕ} {k at j to : ℕ} → TextRead most rows w t rec num pla rec₁ num₁ pla₁ k at
+      → TextRead most rows w t rec num pla rec₂ num₂ pla₂ j to → (k ≡ j) × (at ≡ to) × (rec₁ ≡ rec₂) × (num₁ ≡ num₂) × (pla₁ ≡ pla₂)
   read-text-once {k = k} {at} {j} {to} g h =
       let a : k < j → ⊥ = no-sooner g h in
       let b : j < k → ⊥ = no-sooner h g in
@@ -51,7 +52,7 @@ module _ (most : ℕ) (rows : List DigitRow) {w : ℕ} {t rec num pla : List ℕ
 
   -- a text that is read to its end
   pub read-whole :
-      {rec₁ num₁ pla₁ : List ℕ} {k at : ℕ} (g : ReadText most rows w t rec num pla rec₁ num₁ pla₁ k at) → at ≡ length t → TextAnswers most rows t (g .read .answers)
+      {rec₁ num₁ pla₁ : List ℕ} {k at : ℕ} (g : TextRead most rows w t rec num pla rec₁ num₁ pla₁ k at) → at ≡ length t → TextAnswers most rows t (g .read .answers)
   read-whole {at = at} g e = taken-all most rows (g .read .taken) (drop-of-length-le t {i = at} (omega arith))
 
 -- ---- what is read so far

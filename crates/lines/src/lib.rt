@@ -7,14 +7,17 @@ ghost use mathlib.Core.Path.{_≡_};
 ghost use mathlib.Core.List.{List, _∷_};
 ghost use Prim.Native.Nat.{ℕ, _≤_, _<_};
 ghost use lib.ListN.{length, set};
-ghost use Rattle.laws.specs.Laid.{laidOver, Laid};
-ghost use Rattle.limits.specs.Limits.{size};
-ghost use Rattle.refusal.specs.Table.{Answers, row3};
-ghost use Rattle.refusal.specs.Outcome.{told};
-ghost use Rattle.lines.specs.Line.{Digits, figures, decimal, line, judged};
-ghost use Rattle.lines.specs.Judged.{digitTable};
-ghost use Rattle.lines.specs.Reading.{ReadLine, numberOf, placeOf, Behind, Room, ReadText};
-ghost use Rattle.lines.specs.Form.{UpTo, Value, Figures, values, Figured, Opens, Forms, Located};
+ghost use Rattle.laws.specs.document.Laid.{laidOver, Laid};
+ghost use Rattle.limits.specs.document.Limits.{size};
+ghost use Rattle.refusal.specs.document.Table.{row3};
+ghost use Rattle.refusal.specs.Checks.{Answers};
+ghost use Rattle.refusal.specs.document.Outcome.{told};
+ghost use Rattle.lines.specs.document.Line.{Digits, figures, decimal, line};
+ghost use Rattle.lines.specs.Judging.{judged};
+ghost use Rattle.lines.specs.document.Judged.{digitTable};
+ghost use Rattle.lines.specs.document.Reading.{LineRead, numberOf, placeOf, TextRead};
+ghost use Rattle.lines.specs.Form.{Behind, Room, UpTo, Value, values, Figured, Opens, Forms, Located};
+ghost use Rattle.lines.specs.document.Marks.{WrittenDigits};
 
 // How a line begins.
 pub enum Opening {
@@ -156,7 +159,7 @@ pub fn locate(text: &[u8]) -> Span
 
 // Written digits as values, to the start of what is lent.
 pub fn read_digits(t: &[u8], out: &mut [u8])
-    requires figures { ⌜ Figures (now t) ⌝ }
+    requires figures { ⌜ WrittenDigits (now t) ⌝ }
     requires room { ⌜ length (now t) ≤ length (now out) ⌝ }
     ensures { λ _. ⌜ now (out .exit) ≡ laidOver (values (now (t .entry))) (now (out .entry)) ⌝ }
 {
@@ -224,19 +227,19 @@ pub fn extent(n: usize) -> usize
 // The digits of a line, as they are written, by their values: row 3 of digits lent by themselves, and the rows of a line's.
 fn judge(limit: u8, t: &[u8]) -> Check
     requires some { ⌜ 1 ≤ limit ⌝ }
-    requires figures { ⌜ Figures (now t) ⌝ }
+    requires figures { ⌜ WrittenDigits (now t) ⌝ }
     requires few { ⌜ length (now t) ≤ size ⌝ }
     ensures { λ r. ⌜ Answers (row3 size (length (values (now (t .entry)))) ∷ judged (digitTable limit) (values (now (t .entry)))) r ⌝ }
 {
     let mut v = [0u8; SIZE];
     read_digits(t, &mut v);
-    fast::check(limit, &v[..t.len()])
+    centred_check::check(limit, &v[..t.len()])
 }
 
 // The first line of a text: its digits as values, to the start of what is lent.
 pub fn read_line(limit: u8, text: &[u8], out: &mut [u8]) -> Answer
     requires { ⌜ 1 ≤ limit ⌝ }
-    ensures { λ r. ⌜ ReadLine size (digitTable limit) (now (text .entry)) (now (out .entry)) (now (out .exit)) (told r) ⌝ }
+    ensures { λ r. ⌜ LineRead size (digitTable limit) (now (text .entry)) (now (out .entry)) (now (out .exit)) (told r) ⌝ }
 {
     match locate(text) {
         Span::Refused(k) => Answer::Refused(k, 0),
@@ -313,7 +316,7 @@ pub fn read_text(
     places: &mut [usize],
 ) -> Progress
     requires { ⌜ 1 ≤ limit ⌝ }
-    ensures { λ r. ⌜ ReadText size (digitTable limit) size
+    ensures { λ r. ⌜ TextRead size (digitTable limit) size
         (now (text .entry)) (now (records .entry)) (now (numbers .entry)) (now (places .entry))
         (now (records .exit)) (now (numbers .exit)) (now (places .exit)) (r .lines) (r .at) ⌝ }
 {

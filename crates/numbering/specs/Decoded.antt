@@ -5,50 +5,24 @@
 -- (`decoded`). Assumes nothing.
 use mathlib.Core.Path.{_≡_, refl, ap, ap₂, sym, _∙_}
 use mathlib.Core.List.{List, [], _∷_, _++_, map, flatten, append-assoc}
-use Prim.Native.Nat.{ℕ, zero, suc, _+_, _-_, _*_, _≤_, _<_}
+use Prim.Native.Nat.{ℕ, zero, suc, _+_, _-_, _*_, _≤_}
 use native.Mathlib.Omega.{arith}
 use lib.ListN.{length, getD, length-append}
 use lib.Seq.{getD-at}
-use Rattle.refusal.specs.Table.{Clear}
-use Rattle.code.specs.Code.{plain, digit, childCodes, decode, digitRows}
-use Rattle.code.specs.Ordered.{Ordered}
-use Rattle.tree.specs.Skeleton.{Arc, arcs, neighbours, children, codeAt, IsRooted}
-use Rattle.tree.specs.Forest.{Forest, none, tree, count}
-use Rattle.tree.specs.Codes.{roots, codes-of}
-use Rattle.tree.specs.Decoding.{width, shape, shape-length, number, number-count, edgesOf}
-use Rattle.tree.specs.Right.{read-code}
-use Rattle.tree.specs.Base.{base, code-base, marks-base}
-use Rattle.tree.specs.Ordered.{strings, strings-marks, down-branches, number-branches, code-ordered}
-use Rattle.tree.specs.Accepted.{digits-pass}
+use Rattle.refusal.specs.document.Table.{Clear}
+use Rattle.digit_code.specs.document.Code.{plain, digit, childCodes, decode, digitRows}
+use Rattle.digit_code.specs.Ordered.{Ordered}
+use Rattle.skeleton.specs.document.Skeleton.{Arc, arcs, children, codeAt}
+use Rattle.skeleton.specs.IsRooted.{IsRooted}
+use Rattle.skeleton.specs.Forest.{Forest, none, tree, count}
+use Rattle.skeleton.specs.Codes.{roots, codes-of}
+use Rattle.skeleton.specs.Decoding.{width, shape, shape-length, number, number-count, edgesOf}
+use Rattle.skeleton.specs.Right.{read-code}
+use Rattle.skeleton.specs.Base.{base, code-base, marks-base}
+use Rattle.skeleton.specs.Ordered.{strings, strings-marks, down-branches, number-branches, code-ordered}
+use Rattle.skeleton.specs.Accepted.{digits-pass}
 use Rattle.numbering.specs.Standing.{bare, Found, find, Known, whole, at-root, at-other, exact-good, its-digit, its-codes, its-order}
-
--- the first digits of codes that stand one behind the other, from digit j on
-unfoldable pub starts : ℕ → List (List ℕ) → List ℕ
-starts j [] = []
-starts j (c ∷ cs) = j ∷ starts (j + length c) cs
-
--- where the codes of the children of digit i begin: the first behind the digit itself, each other behind the one before it
-unfoldable pub begins : List ℕ → ℕ → List ℕ
-begins c i = starts (i + 1) (childCodes plain c i)
-
--- the parent of vertex i, as the edges have it: the first end of edge i - 1. The root has none, and no vertex is 0
-unfoldable pub parent : List ℕ → ℕ → ℕ
-parent c zero = 0
-parent c (suc zero) = 0
-parent c (suc (suc i)) = getD (decode c) (2 * i) 0
-
--- vertex i of the tree that c decodes to is that of the i-th digit
-pub record IsVertex (c : List ℕ) (i : ℕ) : Type 0 where
-  -- edge i - 1 joins its parent, a vertex of a lower number, and itself
-  pub edge : 2 ≤ i → (1 ≤ parent c i) × (parent c i < i) × (getD (decode c) (2 * (i - 2) + 1) 0 ≡ i)
-  -- it has no other neighbour of a lower number: in the order of the edges they are its parent, then its children
-  pub near : 2 ≤ i → neighbours (arcs (decode c)) i ≡ parent c i ∷ begins c i
-  -- its children are numbered where their codes begin
-  pub below : children (arcs (decode c)) (parent c i) i ≡ begins c i
-  -- they are as many as its digit
-  pub many : length (begins c i) ≡ digit c i
-  -- what hangs at them has its children's codes, in order
-  pub coded : map (codeAt (length c) (arcs (decode c)) i) (begins c i) ≡ childCodes plain c i
+use Rattle.numbering.specs.document.Decoded.{IsVertex, begins, parent, starts}
 
 -- ---- proofs
 

@@ -6,12 +6,12 @@ use Prim.Native.Nat.{ℕ}
 use native.Mathlib.Decide.{ℕ-discrete, decLt}
 use native.Mathlib.Omega.{arith}
 use lib.ListN.{getD}
-use Rattle.laws.specs.Order.{dec≽, insert, sort}
-use Rattle.code.specs.Code.{codes, childCodes, decode, edgesFrom}
-use Rattle.tree.specs.Skeleton.{arcs, neighbours, degree, children, join, codeAt, rooted}
+use Rattle.laws.specs.document.Order.{dec≽, insert, sort}
+use Rattle.digit_code.specs.document.Code.{codes, childCodes, decode, edgesFrom}
+use Rattle.skeleton.specs.document.Skeleton.{arcs, neighbours, degree, children, join, codeAt, rooted}
 use Rattle.numbering.specs.Order.{insertBy, sortBy, orderBy}
 use Rattle.numbering.specs.Numbers.{kidsOf, order}
-use Rattle.numbering.specs.Decoded.{starts, begins, parent}
+use Rattle.numbering.specs.document.Decoded.{starts, begins, parent}
 
 -- 002's example
 abbrev example : List ℕ

@@ -8,12 +8,13 @@ use native.Mathlib.Decide.{ℕ-discrete}
 use native.Mathlib.Omega.{arith}
 use lib.ListN.{length}
 use Rattle.laws.specs.Perms.{perm-length}
-use Rattle.laws.specs.Once.{Once, once-perm, pick}
-use Rattle.tree.specs.Skeleton.{arcs, neighbours, degree, children, IsTree}
-use Rattle.tree.specs.Forest.{Rooted}
-use Rattle.tree.specs.Grow.{rooted-tree}
-use Rattle.tree.specs.Codes.{roots, root-in, neighbours-perm, near, children-all, children-but}
-use Rattle.tree.specs.Arcs.{neighbours-once}
+use Rattle.laws.specs.Once.{once-perm, pick}
+use Rattle.laws.specs.document.Once.{Once}
+use Rattle.skeleton.specs.document.Skeleton.{arcs, neighbours, degree, children, IsTree}
+use Rattle.skeleton.specs.Forest.{Rooted}
+use Rattle.skeleton.specs.Grow.{rooted-tree}
+use Rattle.skeleton.specs.Codes.{roots, root-in, neighbours-perm, near, children-all, children-but}
+use Rattle.skeleton.specs.Arcs.{neighbours-once}
 use Rattle.numbering.specs.Numbers.{kidsOf}
 
 module _ (N : ℕ) (E : List ℕ) (r : ℕ) (t : IsTree N E) where

@@ -9,3 +9,4 @@ pub mod Same
 pub mod Standing
 pub mod Decoded
 pub mod Examples
+pub mod document

@@ -8,20 +8,20 @@ use mathlib.Core.List.{List, _∷_, _++_, map, flatten, map-append, List·Memᴰ
 use Prim.Native.Nat.{ℕ, zero, suc, _-_, _≤_}
 use native.Mathlib.Omega.{arith}
 use lib.ListN.{length, getD}
-use Rattle.laws.specs.Order.{sort}
+use Rattle.laws.specs.document.Order.{sort}
 use Rattle.laws.specs.Sorting.{sort-perm}
 use Rattle.laws.specs.Perms.{perm-length}
-use Rattle.laws.specs.Once.{Once}
-use Rattle.tree.specs.Skeleton.{Arc, arcs, neighbours, degree, children, IsTree}
-use Rattle.tree.specs.Forest.{Forest, none, tree, vertices, count, Rooted}
-use Rattle.tree.specs.Forests.{count-vertices, distinct-once}
-use Rattle.tree.specs.Grow.{rooted-tree}
-use Rattle.tree.specs.Label.{Marks, joinₗ, rootedₗ, digits}
-use Rattle.tree.specs.Codes.{roots, root-in, neighbours-perm, near, Good, good, children-all, children-but, branches, rooted-join}
-use Rattle.tree.specs.Decoding.{width, marks, marks-digits, marks-labels}
-use Rattle.tree.specs.Sorted.{branches-length}
-use Rattle.tree.specs.Degree.{roots-length}
-use Rattle.tree.specs.Numbered.{ToldBy, told}
+use Rattle.laws.specs.document.Once.{Once}
+use Rattle.skeleton.specs.document.Skeleton.{Arc, arcs, neighbours, degree, children, IsTree}
+use Rattle.skeleton.specs.Forest.{Forest, none, tree, vertices, count, Rooted}
+use Rattle.skeleton.specs.Forests.{count-vertices, distinct-once}
+use Rattle.skeleton.specs.Grow.{rooted-tree}
+use Rattle.skeleton.specs.Label.{Marks, joinₗ, rootedₗ, digits}
+use Rattle.skeleton.specs.Codes.{roots, root-in, neighbours-perm, near, Good, good, children-all, children-but, branches, rooted-join}
+use Rattle.skeleton.specs.Decoding.{width, marks, marks-digits, marks-labels}
+use Rattle.skeleton.specs.Sorted.{branches-length}
+use Rattle.skeleton.specs.Degree.{roots-length}
+use Rattle.skeleton.specs.Numbered.{ToldBy, told}
 use Rattle.numbering.specs.Order.{orderBy, marksBy}
 use Rattle.numbering.specs.Sorted.{order-marks}
 use Rattle.numbering.specs.Turned.{Follows, arranged}

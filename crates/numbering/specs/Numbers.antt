@@ -10,16 +10,16 @@ use Prim.Native.Nat.{ℕ, suc, _-_, _≤_, _<_}
 use native.Mathlib.Decide.{ℕ-discrete}
 use native.Mathlib.Omega.{arith}
 use lib.ListN.{length, getD, length-map}
-use Rattle.laws.specs.Once.{Once}
+use Rattle.laws.specs.document.Once.{Once}
 use Rattle.laws.specs.Places.{place, place-at, at-place, at-in}
-use Rattle.code.specs.Code.{decode}
-use Rattle.tree.specs.Skeleton.{arcs, degree, children, IsTree, rooted, Renumbering}
-use Rattle.tree.specs.Forest.{Rooted}
-use Rattle.tree.specs.Grow.{rooted-tree}
-use Rattle.tree.specs.Label.{Marks, rootedₗ, digits, labels, Keeps}
-use Rattle.tree.specs.Base.{base, rooted-base, digits-base}
-use Rattle.tree.specs.Renumber.{rooted-within, back, after}
-use Rattle.tree.specs.Numbered.{ToldBy, getD-map-in}
+use Rattle.digit_code.specs.document.Code.{decode}
+use Rattle.skeleton.specs.document.Skeleton.{arcs, degree, children, IsTree, rooted, Renumbering}
+use Rattle.skeleton.specs.Forest.{Rooted}
+use Rattle.skeleton.specs.Grow.{rooted-tree}
+use Rattle.skeleton.specs.Label.{Marks, rootedₗ, digits, labels, Keeps}
+use Rattle.skeleton.specs.Base.{base, rooted-base, digits-base}
+use Rattle.skeleton.specs.Renumber.{rooted-within, back, after}
+use Rattle.skeleton.specs.Numbered.{ToldBy, getD-map-in}
 use Rattle.numbering.specs.Order.{orderBy, pairsBy}
 use Rattle.numbering.specs.Numbering.{Reads, Orders, tree-numbering}
 

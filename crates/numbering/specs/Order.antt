@@ -7,8 +7,8 @@ use mathlib.Core.Logic.{ite}
 use mathlib.Core.List.{List, [], _∷_, map, flatten}
 use Prim.Native.Nat.{ℕ, zero, suc, _+_}
 use native.Mathlib.Decide.{ℕ-discrete}
-use Rattle.laws.specs.Order.{dec≽, sort}
-use Rattle.code.specs.Code.{sum}
+use Rattle.laws.specs.document.Order.{dec≽, sort}
+use Rattle.digit_code.specs.document.Code.{sum}
 
 -- c put before the first of ds whose key its own stands at or after
 unfoldable pub insertBy : (List ℕ → List ℕ) → List ℕ → List (List ℕ) → List (List ℕ)

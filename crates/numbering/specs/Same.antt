@@ -7,12 +7,12 @@ use mathlib.Core.Logic.{ite, ⊎-elim}
 use mathlib.Core.List.{List, [], _∷_, map, flatten, List·Memᴰ, List·Memᴰ·head, List·Memᴰ·tail, List·Memᴰ·cases-cons, List·Memᴰ·not-nil, Memᴰ·of-map, Memᴰ·append-left, Memᴰ·append-right, Permᴰ·symm}
 use Prim.Native.Nat.{ℕ, zero, suc, _+_, _≤_}
 use native.Mathlib.Omega.{arith}
-use Rattle.laws.specs.Order.{dec≽, sort}
+use Rattle.laws.specs.document.Order.{dec≽, sort}
 use Rattle.laws.specs.Perms.{perm-in}
-use Rattle.code.specs.Code.{sum}
-use Rattle.tree.specs.Forest.{Forest, none, tree, vertices, count, Rooted}
-use Rattle.tree.specs.Label.{Marks}
-use Rattle.tree.specs.Codes.{roots}
+use Rattle.digit_code.specs.document.Code.{sum}
+use Rattle.skeleton.specs.Forest.{Forest, none, tree, vertices, count, Rooted}
+use Rattle.skeleton.specs.Label.{Marks}
+use Rattle.skeleton.specs.Codes.{roots}
 use Rattle.numbering.specs.Order.{insertBy, sortBy, pairs, orderBy, marksBy, pairsBy}
 use Rattle.numbering.specs.Sorted.{sort-by-self, order-marks}
 use Rattle.numbering.specs.Turned.{Follows}

@@ -8,11 +8,11 @@ use mathlib.Core.List.{List, [], _∷_, _++_, map, flatten, map-append, map-map,
 use Prim.Native.Nat.{ℕ, zero, suc, _+_}
 use native.Mathlib.Omega.{arith}
 use lib.ListN.{length, length-append}
-use Rattle.laws.specs.Order.{_≽_, dec≽, insert, sort}
+use Rattle.laws.specs.document.Order.{_≽_, dec≽, insert, sort}
 use Rattle.laws.specs.Sorting.{trans≽, below≽}
-use Rattle.code.specs.Code.{sum}
-use Rattle.code.specs.Counting.{sum-append}
-use Rattle.code.specs.Two.{map-flatten}
+use Rattle.digit_code.specs.document.Code.{sum}
+use Rattle.digit_code.specs.Counting.{sum-append}
+use Rattle.digit_code.specs.Two.{map-flatten}
 use Rattle.numbering.specs.Order.{insertBy, sortBy, place, looked, pairs, orderBy, marksBy}
 
 pub flatten-length : (cs : List (List ℕ)) → length (flatten cs) ≡ sum (map length cs)

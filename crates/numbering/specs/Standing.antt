@@ -9,16 +9,16 @@ use native.Mathlib.Decide.{ℕ-discrete, decLt}
 use native.Mathlib.Omega.{arith}
 use lib.ListN.{length, getD, take, drop, length-append}
 use lib.Seq.{getD-at, drop-at}
-use Rattle.laws.specs.Order.{Falling}
-use Rattle.code.specs.Code.{plain, codes, childCodes, digit, decode}
-use Rattle.code.specs.Ordered.{Ordered}
-use Rattle.tree.specs.Skeleton.{Arc, arcs, neighbours, children}
-use Rattle.tree.specs.Forest.{Forest, none, tree, vertices, count, hung}
-use Rattle.tree.specs.Codes.{roots, root-in, neighbours-none, neighbours-past, neighbours-append, far, near, full, Good, but, but-none, but-first}
-use Rattle.tree.specs.Decoding.{width, shape, shape-length, number, number-count, edgesOf, edges-hung, decode-forest}
-use Rattle.tree.specs.Right.{number-in, edges-length}
-use Rattle.tree.specs.Base.{base, marks-base}
-use Rattle.tree.specs.Ordered.{strings, first-codes, Down, ordered-forest}
+use Rattle.laws.specs.Falling.{Falling}
+use Rattle.digit_code.specs.document.Code.{plain, codes, childCodes, digit, decode}
+use Rattle.digit_code.specs.Ordered.{Ordered}
+use Rattle.skeleton.specs.document.Skeleton.{Arc, arcs, neighbours, children}
+use Rattle.skeleton.specs.Forest.{Forest, none, tree, vertices, count, hung}
+use Rattle.skeleton.specs.Codes.{roots, root-in, neighbours-none, neighbours-past, neighbours-append, far, near, full, Good, but, but-none, but-first}
+use Rattle.skeleton.specs.Decoding.{width, shape, shape-length, number, number-count, edgesOf, edges-hung, decode-forest}
+use Rattle.skeleton.specs.Right.{number-in, edges-length}
+use Rattle.skeleton.specs.Base.{base, marks-base}
+use Rattle.skeleton.specs.Ordered.{strings, first-codes, Down, ordered-forest}
 
 -- no labels
 abbrev pub bare : ℕ → Unit {0}

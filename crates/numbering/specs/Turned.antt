@@ -8,9 +8,9 @@ use Prim.Native.Nat.{ℕ, zero, suc, _≤_}
 use native.Mathlib.Omega.{arith}
 use Rattle.laws.specs.Perms.{perm-in, perm-length, front}
 use Rattle.laws.specs.Once.{once-perm}
-use Rattle.tree.specs.Forest.{Forest, none, tree, vertices, count, hung, Rooted}
-use Rattle.tree.specs.Forests.{gather, gather-vertices, gather-hung, count-vertices, distinct-once}
-use Rattle.tree.specs.Codes.{roots}
+use Rattle.skeleton.specs.Forest.{Forest, none, tree, vertices, count, hung, Rooted}
+use Rattle.skeleton.specs.Forests.{gather, gather-vertices, gather-hung, count-vertices, distinct-once}
+use Rattle.skeleton.specs.Codes.{roots}
 use Rattle.numbering.specs.Order.{sortBy, orderBy}
 use Rattle.numbering.specs.Sorted.{sort-by-self}
 

@@ -3,7 +3,7 @@
 --
 -- In order: of a call that writes or only checks; of a call that is asked for a number. Assumes nothing.
 use mathlib.Core.Path.{_≡_}
-use Rattle.refusal.specs.Outcome.{told, numbered}
+use Rattle.refusal.specs.document.Outcome.{told, numbered}
 use Rattle.refusal.specs.declared.Answer.{Answer}
 use Rattle.refusal.specs.declared.Answer.the-variants.{Done, Refused}
 use Rattle.refusal.specs.declared.Number.{Number}

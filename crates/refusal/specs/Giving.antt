@@ -7,10 +7,11 @@ use mathlib.Core.List.{List, [], _∷_, _++_}
 use Prim.Native.Nat.{ℕ, _≤_, _<_}
 use native.Mathlib.Omega.{arith}
 use lib.ListN.{length, take, drop, length-append}
-use Rattle.laws.specs.Laid.{laidOver, Laid}
+use Rattle.laws.specs.document.Laid.{laidOver, Laid}
 use Rattle.laws.specs.Laying.{laid-front}
-use Rattle.refusal.specs.Table.{Row, Clear, FirstRefusal, Outcome, gives, refuses, Promise, Answered, kept, left, Writes, short, Gives}
+use Rattle.refusal.specs.document.Table.{Row, Clear, FirstRefusal, Outcome, gives, refuses, Promise, Answered, kept, left, Writes, short, Gives}
 use Rattle.refusal.specs.Laws.{one-accepted, one-result, clear-one, clear-both, clear-left, first-place, refusal-front, refusal-back}
+use Rattle.refusal.specs.document.Given.{Given}
 
 -- ---- what is written
 
@@ -102,10 +103,6 @@ gave {rs} {Right} {old} {new} {n} g = by-cases (g .promise)
 -- the same of a value
 pub gave-value : {A : Type 0} {rs : List Row} {Right : A → Type 0} {a : A} → Answered rs Right (gives a) → Clear rs × Right a
 gave-value (kept k r) = (k, r)
-
--- c is given: its length is told, and it is written from the start of the output
-abbrev pub Given : List ℕ → List ℕ → List ℕ → Outcome ℕ → Type 0
-Given c old new o = (o ≡ gives (length c)) × (new ≡ laidOver c old)
 
 -- where no row refuses, c alone is right and there is room, c must be given
 module _ {rs : List Row} (k : Clear rs) where

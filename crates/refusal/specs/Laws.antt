@@ -10,8 +10,8 @@ use Prim.Native.Nat.{ℕ, _≤_, _<_}
 use native.Mathlib.Omega.{arith}
 use Rattle.refusal.specs.declared.Check.{Check}
 use Rattle.refusal.specs.declared.Check.the-variants.{Passed, Refuse}
-use Rattle.refusal.specs.Outcome.{checked}
-use Rattle.refusal.specs.Table.{RowOf, Row, renamed, ofList, Applies, Clear, First, FirstRefusal, Answers, passes, fails, OutcomeOf, Outcome, gives, refuses, Promise, Answered, kept, left, row3, row15}
+use Rattle.refusal.specs.Checks.{checked, Answers, passes, fails}
+use Rattle.refusal.specs.document.Table.{RowOf, Row, renamed, ofList, Applies, Clear, First, FirstRefusal, OutcomeOf, Outcome, gives, refuses, Promise, Answered, kept, left, row3, row15}
 
 -- ---- one answer
 

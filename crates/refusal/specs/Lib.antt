@@ -1,7 +1,7 @@
 -- Refusals, once, for every call of every crate. Assumes nothing.
-pub mod Table
-pub mod Outcome
 pub mod Apart
 pub mod Laws
 pub mod Lowest
 pub mod Giving
+pub mod Checks
+pub mod document

@@ -2,8 +2,9 @@
 
 ghost use mathlib.Core.Path.{_≡_};
 ghost use mathlib.Core.List.{[], _∷_};
-ghost use Rattle.refusal.specs.Table.{Answers, row3};
-ghost use Rattle.refusal.specs.Outcome.{told, checked};
+ghost use Rattle.refusal.specs.document.Table.{row3};
+ghost use Rattle.refusal.specs.Checks.{Answers, checked};
+ghost use Rattle.refusal.specs.document.Outcome.{told};
 
 // Of a call that writes a result into a lent output, or only looks at its input.
 pub enum Answer {

@@ -1,11 +1,23 @@
--- A partner's edge list: its refusals, its table of neighbours, and what an accepted list is. Assumes nothing.
-pub mod Edges
-pub mod Table
-pub mod Prefix
-pub mod Joined
-pub mod Parts
-pub mod Count
-pub mod Joins
-pub mod Bridge
-pub mod Tables
+-- Skeletons and their rooted codes. Assumes nothing.
+pub mod Forest
+pub mod Forests
+pub mod Walks
+pub mod Grow
+pub mod Label
+pub mod Codes
+pub mod Arcs
+pub mod Decoding
+pub mod Sorted
+pub mod Renumber
+pub mod Numbered
+pub mod Right
+pub mod Degree
+pub mod General
+pub mod Base
+pub mod Atoms
 pub mod Theorems
+pub mod Ordered
+pub mod Accepted
+pub mod Examples
+pub mod IsRooted
+pub mod document

@@ -8,10 +8,10 @@ use native.Mathlib.Decide.{ℕ-discrete}
 use native.Mathlib.Omega.{arith}
 use lib.ListN.{length, getD, set, drop, replicate, length-set, length-drop}
 use lib.Seq.{drop-cons, drop-drop, getD-drop, getD-set-same, getD-set-other}
-use Rattle.limits.specs.Limits.{size}
-use Rattle.code.specs.Ends.{Ends, ends-sum}
-use Rattle.code.specs.Stack.{stack, Pushed}
-use Rattle.vertices.specs.Vertices.{depths, depthsFrom}
+use Rattle.limits.specs.document.Limits.{size}
+use Rattle.digit_code.specs.Ends.{Ends, ends-sum}
+use Rattle.digit_code.specs.Stack.{stack, Pushed}
+use Rattle.vertices.specs.document.Vertices.{depths, depthsFrom}
 use Rattle.vertices.specs.Search.{Deep}
 
 -- none is above n

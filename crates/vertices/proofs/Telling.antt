@@ -5,15 +5,15 @@ use mathlib.Core.List.{List, []}
 use Prim.Native.Nat.{ℕ, suc, _-_, _<_}
 use native.Mathlib.Omega.{arith}
 use lib.ListN.{length, getD, drop}
-use Rattle.laws.specs.Order.{_≽_}
+use Rattle.laws.specs.document.Order.{_≽_}
 use Rattle.laws.specs.Part.{part, part-length}
 use Rattle.laws.specs.Sorting.{refl≽}
-use Rattle.code.specs.Code.{plain, codes}
-use Rattle.code.specs.Search.{Known}
-use Rattle.code.specs.Compare.{lex, lex-says, Compares, less, equal, greater}
-use Rattle.code.specs.declared.Order.{Order}
-use Rattle.code.specs.declared.Order.the-variants.{Less, Equal, Greater}
-use Rattle.vertices.specs.Vertices.{depths, depth, subtree}
+use Rattle.digit_code.specs.document.Code.{plain, codes}
+use Rattle.digit_code.specs.Search.{Known}
+use Rattle.digit_code.specs.Compare.{lex, lex-says, Compares, less, equal, greater}
+use Rattle.digit_code.specs.declared.Order.{Order}
+use Rattle.digit_code.specs.declared.Order.the-variants.{Less, Equal, Greater}
+use Rattle.vertices.specs.document.Vertices.{depths, depth, subtree}
 use Rattle.vertices.specs.Search.{Deep, Tells, both, different}
 
 -- the comparer says `Equal` of equal codes, and of no others

@@ -6,7 +6,8 @@ use native.Mathlib.Nat.{le-antisymm}
 use native.Mathlib.Numerals.{add-one}
 use native.Mathlib.Omega.{arith}
 use lib.ListN.{length, take, set}
-use Rattle.laws.specs.Laid.{laidOver, Laid, laid-length}
+use Rattle.laws.specs.Laid.{laid-length}
+use Rattle.laws.specs.document.Laid.{laidOver, Laid}
 use Rattle.laws.specs.Laying.{laid-none, laid-front, laid-more}
 use Rattle.vertices.specs.Classes.{greatest, classOf, numbering}
 use Rattle.vertices.specs.Appearance.{greatest-more, numbering-length, numbering-most}

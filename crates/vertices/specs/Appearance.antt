@@ -10,7 +10,7 @@ use native.Mathlib.Decide.{decLt}
 use native.Mathlib.Omega.{arith}
 use lib.ListN.{length, getD, length-append, List·getD-append}
 use lib.Seq.{getD-at, ext-getD}
-use Rattle.vertices.specs.Numbering.{class, ByAppearance}
+use Rattle.vertices.specs.document.Numbering.{class, ByAppearance}
 use Rattle.vertices.specs.Classes.{greatest, classOf, numbering}
 
 -- ---- the greatest number

@@ -8,7 +8,7 @@ use mathlib.Core.List.{List, [], _∷_, _++_, cons≢nil, nil≢cons, head-eq-of
 use Prim.Native.Nat.{ℕ, zero, suc, max}
 use native.Mathlib.Decide.{ℕ-discrete}
 use lib.ListN.{length}
-use Rattle.vertices.specs.Vertices.{depth, subtree, Alike}
+use Rattle.vertices.specs.document.Vertices.{depth, subtree, Alike}
 
 -- the greatest number of a list, 0 where it has none
 unfoldable pub greatest : List ℕ → ℕ

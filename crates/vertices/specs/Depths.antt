@@ -7,9 +7,9 @@ use native.Mathlib.Nat.{add-zero}
 use native.Mathlib.Omega.{arith}
 use lib.ListN.{length, getD, drop, replicate, length-append, length-replicate}
 use lib.Seq.{drop-drop, getD-drop}
-use Rattle.code.specs.Code.{edgesFrom, decode}
-use Rattle.code.specs.Ends.{Ends}
-use Rattle.vertices.specs.Vertices.{depths, depthsFrom, depth}
+use Rattle.digit_code.specs.document.Code.{edgesFrom, decode}
+use Rattle.digit_code.specs.Ends.{Ends}
+use Rattle.vertices.specs.document.Vertices.{depths, depthsFrom, depth}
 
 -- the parent of vertex v, from 2: the first end of the edge whose second is v
 abbrev pub parent : List ℕ → ℕ → ℕ

@@ -3,8 +3,8 @@ use mathlib.Core.Path.{_≡_, refl, subst}
 use mathlib.Core.List.{List, [], _∷_, flatten}
 use Prim.Native.Nat.{ℕ}
 use native.Mathlib.Decide.{ℕ-discrete}
-use Rattle.code.specs.Code.{codes}
-use Rattle.vertices.specs.Vertices.{depths, depthsFrom, ClassesOf}
+use Rattle.digit_code.specs.document.Code.{codes}
+use Rattle.vertices.specs.document.Vertices.{depths, depthsFrom, ClassesOf}
 use Rattle.vertices.specs.Classes.{greatest, classOf, numbering, same?, alike?, classes}
 use Rattle.vertices.specs.Theorems.{classes-numbered}
 

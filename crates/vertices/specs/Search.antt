@@ -4,8 +4,8 @@ use mathlib.Core.Bool.{Bool, true, false, true≢false, false≢true}
 use mathlib.Core.List.{List}
 use Prim.Native.Nat.{ℕ, _<_}
 use lib.ListN.{length, getD}
-use Rattle.limits.specs.Limits.{size}
-use Rattle.vertices.specs.Vertices.{depths, Alike}
+use Rattle.limits.specs.document.Limits.{size}
+use Rattle.vertices.specs.document.Vertices.{depths, Alike}
 
 -- an array has the depth of each vertex, places counted from 0
 pub record Deep (c deep : List ℕ) : Type 0 where

@@ -4,8 +4,8 @@ use mathlib.Core.Path.{_≡_, refl, sym, _∙_}
 use mathlib.Core.List.{List}
 use Prim.Native.Nat.{ℕ, _≤_}
 use lib.ListN.{length}
-use Rattle.vertices.specs.Numbering.{class}
-use Rattle.vertices.specs.Vertices.{ClassesOf}
+use Rattle.vertices.specs.document.Numbering.{class}
+use Rattle.vertices.specs.document.Vertices.{ClassesOf}
 use Rattle.vertices.specs.Classes.{alike?, classes}
 use Rattle.vertices.specs.Appearance.{numbering-is, first-class, one-numbering}
 

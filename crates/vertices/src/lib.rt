@@ -1,17 +1,17 @@
 // Equal vertices: the class of each vertex of a right code, by depth and subtree code, numbered by first appearance.
-use code::Order;
-use code::compare;
-use code::ends_of;
-use code::push;
+use digit_code::Order;
+use digit_code::compare;
+use digit_code::ends_of;
+use digit_code::push;
 use limits::SIZE;
 ghost use mathlib.Core.Path.{_≡_};
 ghost use Prim.Native.Nat.{suc, _≤_, _<_};
 ghost use lib.ListN.{length, take};
-ghost use Rattle.laws.specs.Laid.{Laid};
-ghost use Rattle.limits.specs.Limits.{size};
-ghost use Rattle.code.specs.Ends.{Ends};
-ghost use Rattle.code.specs.Code.{plain};
-ghost use Rattle.code.specs.Search.{Known};
+ghost use Rattle.laws.specs.document.Laid.{Laid};
+ghost use Rattle.limits.specs.document.Limits.{size};
+ghost use Rattle.digit_code.specs.Ends.{Ends};
+ghost use Rattle.digit_code.specs.document.Code.{plain};
+ghost use Rattle.digit_code.specs.Search.{Known};
 ghost use Rattle.vertices.specs.Classes.{classOf, alike?, classes};
 ghost use Rattle.vertices.specs.Search.{Deep, Tells};
 

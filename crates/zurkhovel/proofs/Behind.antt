@@ -3,7 +3,7 @@ use mathlib.Core.Path.{refl}
 use mathlib.Core.List.{List, [], _∷_, _++_}
 use Prim.Native.Nat.{ℕ}
 use lib.ListN.{length}
-use Rattle.refusal.specs.Table.{Row, Clear, Outcome, Promise, kept, left, Writes, short, Gives}
+use Rattle.refusal.specs.document.Table.{Row, Clear, Outcome, Promise, kept, left, Writes, short, Gives}
 use Rattle.refusal.specs.Laws.{clear-both, refusal-back, Alike, alike-clear, alike-refusal}
 
 -- a table of no rows

@@ -5,15 +5,15 @@ use mathlib.Core.List.{List}
 use Prim.Native.Nat.{ℕ}
 use native.Mathlib.Omega.{arith}
 use lib.ListN.{length, take}
-use Rattle.refusal.specs.Table.{Row, Gives}
+use Rattle.refusal.specs.document.Table.{Row, Gives}
 use Rattle.refusal.specs.Giving.{refused-first}
-use Rattle.refusal.specs.Outcome.{told}
+use Rattle.refusal.specs.document.Outcome.{told}
 use Rattle.refusal.specs.declared.Answer.{Answer}
-use Rattle.limits.specs.Limits.{size, valence}
-use Rattle.code.specs.Code.{decode}
+use Rattle.limits.specs.document.Limits.{size, valence}
+use Rattle.digit_code.specs.document.Code.{decode}
 use Rattle.bits.specs.Reading.{one-reading}
 use Rattle.bits.specs.Decided.{Decided, gives, refuses, Decision}
-use Rattle.zurkhovel.specs.Bits.{Decodes}
+use Rattle.zurkhovel.specs.document.Bits.{Decodes}
 use Rattle.zurkhovel.specs.Rooting.{Readable, EdgesOf}
 use Rattle.zurkhovel.proofs.Behind.{behind}
 

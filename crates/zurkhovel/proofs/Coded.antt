@@ -3,11 +3,11 @@ use mathlib.Core.Path.{_≡_, refl, ap, _∙_}
 use mathlib.Core.List.{List}
 use Prim.Native.Nat.{ℕ, _≤_, _<_}
 use lib.ListN.{length}
-use Rattle.refusal.specs.Table.{Clear, gives, refuses, Writes, Gives}
+use Rattle.refusal.specs.document.Table.{Clear, gives, refuses, Writes, Gives}
 use Rattle.refusal.specs.Giving.{refused-short, given}
-use Rattle.limits.specs.Limits.{size, valence}
-use Rattle.tree.specs.Skeleton.{rooted}
-use Rattle.skeleton.specs.Edges.{edgeRows}
+use Rattle.limits.specs.document.Limits.{size, valence}
+use Rattle.skeleton.specs.document.Skeleton.{rooted}
+use Rattle.edge_list.specs.document.Edges.{edgeRows}
 use Rattle.form.specs.Forms.{IsForm, form-size}
 use Rattle.zurkhovel.specs.Accepted.{skeleton-of, rooted-size}
 

@@ -4,16 +4,16 @@ use mathlib.Core.List.{List}
 use Prim.Native.Nat.{ℕ, _-_, _*_, _≤_, _<_}
 use native.Mathlib.Omega.{arith}
 use lib.ListN.{length}
-use Rattle.laws.specs.Laid.{Laid}
-use Rattle.refusal.specs.Table.{Clear, gives, refuses}
+use Rattle.laws.specs.document.Laid.{Laid}
+use Rattle.refusal.specs.document.Table.{Clear, gives, refuses}
 use Rattle.refusal.specs.Laws.{clear-left}
 use Rattle.refusal.specs.Giving.{refused-short, given-laid}
-use Rattle.limits.specs.Limits.{size, valence}
-use Rattle.code.specs.Code.{codeRows, decode}
-use Rattle.code.specs.Right.{clear-right}
-use Rattle.tree.specs.Theorems.{decoded-tree}
-use Rattle.form.specs.Form.{formRows}
-use Rattle.zurkhovel.specs.Codes.{LaysEdges}
+use Rattle.limits.specs.document.Limits.{size, valence}
+use Rattle.digit_code.specs.document.Code.{codeRows, decode}
+use Rattle.digit_code.specs.Right.{clear-right}
+use Rattle.skeleton.specs.Theorems.{decoded-tree}
+use Rattle.form.specs.document.Form.{formRows}
+use Rattle.zurkhovel.specs.Rooting.{LaysEdges}
 use Rattle.zurkhovel.proofs.Behind.{none}
 
 -- a code of a form is a right rooted code

@@ -5,16 +5,16 @@ use mathlib.Core.List.{List}
 use Prim.Native.Nat.{ℕ, _≤_, _<_}
 use native.Mathlib.Omega.{arith}
 use lib.ListN.{length, take}
-use Rattle.laws.specs.Laid.{Laid}
-use Rattle.refusal.specs.Table.{Clear, gives, refuses, Writes, Gives}
+use Rattle.laws.specs.document.Laid.{Laid}
+use Rattle.refusal.specs.document.Table.{Clear, gives, refuses, Writes, Gives}
 use Rattle.refusal.specs.Laws.{clear-left, others}
 use Rattle.refusal.specs.Giving.{refused-short, given, written, written-length}
-use Rattle.limits.specs.Limits.{size, valence}
-use Rattle.code.specs.Code.{codeRows}
-use Rattle.code.specs.Right.{Right, clear-right}
-use Rattle.tree.specs.Skeleton.{IsSkeleton}
-use Rattle.skeleton.specs.Edges.{edgeRows}
-use Rattle.form.specs.Form.{centred, ofCentred}
+use Rattle.limits.specs.document.Limits.{size, valence}
+use Rattle.digit_code.specs.document.Code.{codeRows}
+use Rattle.digit_code.specs.Right.{RightCode, clear-right}
+use Rattle.skeleton.specs.document.Skeleton.{IsSkeleton}
+use Rattle.edge_list.specs.document.Edges.{edgeRows}
+use Rattle.form.specs.document.Form.{centred, ofCentred}
 use Rattle.form.specs.Forms.{centred-form, form-size}
 use Rattle.form.specs.Accepted.{form-accepted}
 use Rattle.lines.specs.Damage.{Code}
@@ -26,7 +26,7 @@ module _ {N : ℕ} {E old digits : List ℕ} (s : IsSkeleton size valence N E) (
   pub code-clear : Clear (codeRows size valence (take N digits))
   code-clear = rw (written w) (clear-left (codeRows size valence (w .result)) _ (form-accepted centred centred-form size valence (w .result) N E s (w .right)))
 
-  pub right-code : Right size valence (take N digits)
+  pub right-code : RightCode size valence (take N digits)
   right-code = clear-right size valence (take N digits) code-clear
 
   pub code-digits : Code (take N digits)

@@ -4,12 +4,12 @@ use mathlib.Core.List.{List}
 use Prim.Native.Nat.{ℕ, _-_, _*_, _≤_, _<_}
 use native.Mathlib.Omega.{arith}
 use lib.ListN.{length}
-use Rattle.laws.specs.Laid.{laidOver}
-use Rattle.refusal.specs.Table.{Row, Clear, gives, refuses, Gives}
+use Rattle.laws.specs.document.Laid.{laidOver}
+use Rattle.refusal.specs.document.Table.{Row, Clear, gives, refuses, Gives}
 use Rattle.refusal.specs.Laws.{clear-left}
 use Rattle.refusal.specs.Giving.{refused-short, given-laid}
-use Rattle.limits.specs.Limits.{valence, aSize}
-use Rattle.adjacency.specs.Adjacency.{aEdges, aRows, madeRows}
+use Rattle.limits.specs.document.Limits.{valence, aSize}
+use Rattle.adjacency.specs.document.Adjacency.{aEdges, aRows, madeRows}
 use Rattle.adjacency.specs.Accepted.{aFront, a-long}
 
 pub a-bytes : (N x : ℕ) → Clear (aRows aSize valence N x) → length (aEdges N x) ≡ 2 * (N - 1)

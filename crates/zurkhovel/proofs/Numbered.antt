@@ -5,19 +5,19 @@ use Prim.Native.Nat.{ℕ, _-_, _*_, _≤_, _<_}
 use native.Mathlib.Omega.{arith}
 use lib.ListN.{length, take}
 use lib.Seq.{length-take-le}
-use Rattle.laws.specs.Laid.{laidOver, Laid}
+use Rattle.laws.specs.document.Laid.{laidOver, Laid}
 use Rattle.laws.specs.Laying.{laid-front}
-use Rattle.refusal.specs.Table.{Clear, Writes, gives, refuses, Gives}
+use Rattle.refusal.specs.document.Table.{Clear, Writes, gives, refuses, Gives}
 use Rattle.refusal.specs.Laws.{at-most}
 use Rattle.refusal.specs.Giving.{refused-short, given, written, written-length}
-use Rattle.limits.specs.Limits.{size, valence}
-use Rattle.code.specs.Code.{decode}
-use Rattle.tree.specs.Skeleton.{IsSkeleton}
-use Rattle.skeleton.specs.Edges.{edgeRows}
-use Rattle.form.specs.Form.{centred}
-use Rattle.adjacency.specs.Adjacency.{Physical, cam}
+use Rattle.limits.specs.document.Limits.{size, valence}
+use Rattle.digit_code.specs.document.Code.{decode}
+use Rattle.skeleton.specs.document.Skeleton.{IsSkeleton}
+use Rattle.edge_list.specs.document.Edges.{edgeRows}
+use Rattle.form.specs.document.Form.{centred}
+use Rattle.adjacency.specs.document.Adjacency.{Physical, cam}
 use Rattle.adjacency.specs.Coded.{cam-length}
-use Rattle.zurkhovel.specs.Matrix.{ByCode}
+use Rattle.zurkhovel.specs.document.Matrix.{ByCode}
 use Rattle.zurkhovel.specs.RoundMatrix.{by-code-skeleton, by-code-physical}
 use Rattle.zurkhovel.specs.Rooting.{ListedByCode}
 use Rattle.zurkhovel.proofs.Derived.{code-clear}

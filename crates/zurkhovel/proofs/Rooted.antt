@@ -8,17 +8,18 @@ use native.Mathlib.Nat.{le-refl}
 use native.Mathlib.Omega.{arith}
 use lib.ListN.{length, take, drop}
 use lib.Seq.{take-all}
-use Rattle.laws.specs.Laid.{laidOver, Laid}
-use Rattle.refusal.specs.Table.{Clear, Outcome, gives, Answered, kept, Writes, Gives}
+use Rattle.laws.specs.document.Laid.{laidOver, Laid}
+use Rattle.refusal.specs.document.Table.{Clear, Outcome, gives, Answered, kept, Writes, Gives}
 use Rattle.refusal.specs.Laws.{at-most}
 use Rattle.refusal.specs.Giving.{written}
-use Rattle.limits.specs.Limits.{size, valence}
-use Rattle.code.specs.Code.{digitRows}
-use Rattle.tree.specs.Skeleton.{rooted}
-use Rattle.tree.specs.Theorems.{right, degrees}
-use Rattle.tree.specs.Accepted.{digits-pass}
-use Rattle.skeleton.specs.Edges.{edgeRows}
-use Rattle.bits.specs.Written.{Coded, Packs, packed-again, right-coded}
+use Rattle.limits.specs.document.Limits.{size, valence}
+use Rattle.digit_code.specs.document.Code.{digitRows}
+use Rattle.skeleton.specs.document.Skeleton.{rooted}
+use Rattle.skeleton.specs.Theorems.{right, degrees}
+use Rattle.skeleton.specs.Accepted.{digits-pass}
+use Rattle.edge_list.specs.document.Edges.{edgeRows}
+use Rattle.bits.specs.Written.{Coded, packed-again, right-coded}
+use Rattle.bits.specs.document.Written.{Packs}
 use Rattle.zurkhovel.specs.Rooting.{Rooted}
 use Rattle.zurkhovel.specs.Accepted.{skeleton-of, root-of, rooted-size}
 use Rattle.zurkhovel.proofs.Behind.{behind}

@@ -5,11 +5,11 @@ use mathlib.Core.List.{List}
 use Prim.Native.Nat.{ℕ}
 use lib.ListN.{take}
 use Rattle.refusal.specs.Giving.{written}
-use Rattle.refusal.specs.Table.{ofList, Clear, FirstRefusal, gives, refuses, kept, left, Writes}
+use Rattle.refusal.specs.document.Table.{ofList, Clear, FirstRefusal, gives, refuses, kept, left, Writes}
 use Rattle.refusal.specs.Laws.{refusal-front, refusal-back, list-clear, list-refused}
-use Rattle.form.specs.Form.{centred}
+use Rattle.form.specs.document.Form.{centred}
 use Rattle.form.specs.Forms.{centred-form, form-size}
-use Rattle.zurkhovel.specs.Same.{listRows, SameSkeleton}
+use Rattle.zurkhovel.specs.document.Same.{listRows, SameSkeleton}
 use Rattle.zurkhovel.specs.Accepted.{tree-of}
 use Rattle.zurkhovel.specs.Theorems.{both-clear}
 

@@ -4,19 +4,20 @@ use mathlib.Core.List.{List}
 use Prim.Native.Nat.{ℕ, _≤_}
 use native.Mathlib.Omega.{arith}
 use lib.ListN.{length}
-use Rattle.refusal.specs.Table.{Clear}
+use Rattle.refusal.specs.document.Table.{Clear}
 use Rattle.refusal.specs.Laws.{others}
-use Rattle.limits.specs.Limits.{size, valence, width}
-use Rattle.tree.specs.Skeleton.{IsTree, IsSkeleton, rooted}
-use Rattle.tree.specs.Theorems as Theorems
-use Rattle.skeleton.specs.Edges.{edgeRows}
-use Rattle.skeleton.specs.Tables.{in-rows}
-use Rattle.skeleton.specs.Theorems.{accepted}
-use Rattle.form.specs.Form.{centred}
+use Rattle.limits.specs.document.Limits.{size, valence}
+use Rattle.limits.specs.Width.{width}
+use Rattle.skeleton.specs.document.Skeleton.{IsTree, IsSkeleton, rooted}
+use Rattle.skeleton.specs.Theorems as Theorems
+use Rattle.edge_list.specs.document.Edges.{edgeRows}
+use Rattle.edge_list.specs.Tables.{in-rows}
+use Rattle.edge_list.specs.Theorems.{accepted}
+use Rattle.form.specs.document.Form.{centred}
 use Rattle.form.specs.Forms.{centred-form, form-size}
 use Rattle.form.specs.Accepted.{form-accepted}
 use Rattle.lines.specs.Damage.{Accept}
-use Rattle.lines.specs.Judged.{digitTable}
+use Rattle.lines.specs.document.Judged.{digitTable}
 
 pub skeleton-of : {most N r : ℕ} {E : List ℕ} → Clear (edgeRows most valence N E r) → IsSkeleton most valence N E
 skeleton-of {most} {N} {r} {E} k = accepted most valence N E r .0 k .0
@@ -34,7 +35,7 @@ module _ {most N r : ℕ} (E : List ℕ) (k : Clear (edgeRows most valence N E r
 
   -- its code has N digits
   pub rooted-size : length (rooted N E r) ≡ N
-  rooted-size = Theorems.size N E r (skeleton-of k .tree) (root-of .0) (root-of .1)
+  rooted-size = Theorems.code-length N E r (skeleton-of k .tree) (root-of .0) (root-of .1)
 
 -- a lower limit of N
 pub wider : {most N : ℕ} {E : List ℕ} → most ≤ size → IsSkeleton most valence N E → IsSkeleton size valence N E

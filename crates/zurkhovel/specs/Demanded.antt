@@ -5,21 +5,23 @@ use Prim.Native.Nat.{ℕ, zero, suc, _+_, _*_, _≤_, _<_}
 use native.Mathlib.Decide.{decLt}
 use native.Mathlib.Omega.{arith}
 use lib.ListN.{length, getD, take, drop, replicate, length-append, length-drop, length-map, drop-of-length-le, length-replicate}
-use Rattle.refusal.specs.Table.{gives}
+use Rattle.refusal.specs.document.Table.{gives}
 use Rattle.refusal.specs.Giving.{gave, must-give}
-use Rattle.limits.specs.Limits.{size, valence}
-use Rattle.form.specs.Form.{centred}
+use Rattle.limits.specs.document.Limits.{size, valence}
+use Rattle.form.specs.document.Form.{centred}
 use Rattle.form.specs.Forms.{centred-form, form-size}
-use Rattle.lines.specs.Line.{line, written, TextAnswers, Reply}
+use Rattle.lines.specs.document.Line.{line, written, TextAnswers, Reply}
 use Rattle.lines.specs.Bodies.{line-short}
 use Rattle.lines.specs.Records.{records-given, records-before, records-refusals}
-use Rattle.lines.specs.Damage.{records, refusals, Accepted}
-use Rattle.lines.specs.Reading.{counted}
-use Rattle.lines.specs.Judged.{digitTable, lawful-table}
+use Rattle.lines.specs.Damage.{Accepted}
+use Rattle.lines.specs.document.Damage.{records, refusals}
+use Rattle.lines.specs.document.Reading.{counted}
+use Rattle.lines.specs.Judged.{lawful-table}
+use Rattle.lines.specs.document.Judged.{digitTable}
 use Rattle.lines.specs.Theorems as Lines
-use Rattle.zurkhovel.specs.Lines.{ReadText, zeros, Counted}
+use Rattle.zurkhovel.specs.document.Lines.{ReadText, zeros, Counted}
 use Rattle.zurkhovel.specs.Accepted.{skeleton-of, centred-accepted}
-use Rattle.zurkhovel.specs.Demand.{Clean, none, one-more, GivesALine, GivesEachLine, CleanLines, InTurns, ended, turn, handedOut, OneCall, TurnsAgree, CountsAdd, CleanText, OneByteChanged, AnyDamage, linesIn, AnswersEachLine, ReachesTheEnd, GetsOn, TurnsEnd}
+use Rattle.zurkhovel.specs.document.Demand.{Clean, none, one-more, GivesALine, GivesEachLine, CleanLines, InTurns, ended, turn, handedOut, OneCall, TurnsAgree, CountsAdd, CleanText, OneByteChanged, AnyDamage, linesIn, AnswersEachLine, ReachesTheEnd, GetsOn, TurnsEnd}
 use Rattle.zurkhovel.specs.Seen.{numbersOf, placesOf, Shows, Seen, seen, answered, counts-records, refusal-shows, taken-none-zero, lines-taken, lines-answered, lines-some}
 
 -- ---- the clean text

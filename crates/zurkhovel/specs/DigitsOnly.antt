@@ -3,25 +3,28 @@
 --
 -- What is allowed and what a mark is, is in `Marks` of the crate `lines`. Assumes nothing.
 use mathlib.Core.Path.{_≡_, refl, sym, ap, subst, _∙_}
-use mathlib.Core.Logic.{_⊎_, inl, inr}
+use mathlib.Core.Logic.{inl, inr}
 use mathlib.Core.List.{List, [], _∷_, _++_, map-append, append-assoc}
 use Prim.Native.Nat.{ℕ}
 use native.Mathlib.Omega.{arith}
 use lib.ListN.{length, getD, take, length-map}
 use lib.Seq.{getD-at}
-use Rattle.refusal.specs.Table.{Outcome, gives, refuses}
+use Rattle.refusal.specs.document.Table.{Outcome, gives, refuses}
 use Rattle.refusal.specs.Giving.{gave}
-use Rattle.limits.specs.Limits.{size, valence}
-use Rattle.lines.specs.Line.{line, Each, Cut, TextAnswers, none, Reply}
-use Rattle.lines.specs.Judged.{digitTable, lawful-table}
-use Rattle.lines.specs.Reading.{counted}
+use Rattle.limits.specs.document.Limits.{size, valence}
+use Rattle.lines.specs.document.Line.{line, Each, Cut, TextAnswers, none, Reply}
+use Rattle.lines.specs.Judged.{lawful-table}
+use Rattle.lines.specs.document.Judged.{digitTable}
+use Rattle.lines.specs.document.Reading.{counted}
 use Rattle.lines.specs.Answered.{fits}
 use Rattle.lines.specs.Texts.{first, halves}
-use Rattle.lines.specs.Marks.{Allowed, DigitsOnly, Mark, line-digits, each-allowed, marked-answer, marked-line}
-use Rattle.zurkhovel.specs.Lines.{ReadLine, WriteLine}
+use Rattle.lines.specs.Marks.{line-digits, each-allowed, marked-answer, marked-line}
+use Rattle.lines.specs.document.Marks.{Allowed, DigitsOnly, Mark}
+use Rattle.zurkhovel.specs.document.Lines.{ReadLine, WriteLine}
 use Rattle.zurkhovel.specs.Accepted.{skeleton-of, centred-accepted}
-use Rattle.zurkhovel.specs.Demand.{InTurns, linesIn}
+use Rattle.zurkhovel.specs.document.Demand.{InTurns, linesIn}
 use Rattle.zurkhovel.specs.Seen.{numbersOf, placesOf, seen, answered, lines-answered}
+use Rattle.zurkhovel.specs.document.DigitsOnly.{WholeLines}
 
 -- what `write_line` gives: digits, one space, digits, and one line feed, the last byte
 pub write-line-digits : (N : ℕ) (E old new : List ℕ) (n : ℕ) → WriteLine N E old new (gives n) → DigitsOnly (take n new)
@@ -38,10 +41,6 @@ pub read-line-marked :
     (t x y rest : List ℕ) (m : ℕ) (old new : List ℕ) (o : Outcome ℕ) → Cut 10 t (x ++ (m ∷ y)) rest → Mark m → ReadLine t old new o
     → (o ≡ refuses 2 0) × (new ≡ old)
 read-line-marked t x y rest m old new o c k g = marked-line c x y m refl k valence g
-
--- v is whole lines: it is empty, or its last byte is a line feed
-abbrev pub WholeLines : List ℕ → Type 0
-WholeLines v = (v ≡ []) ⊎ ((w : List ℕ) × (v ≡ w ++ (10 ∷ [])))
 
 -- the answers to a text behind whole lines
 record Parted (v y : List ℕ) (os : List Reply) : Type 0 where

@@ -4,8 +4,8 @@ use mathlib.Core.List.{List, [], _∷_, _++_}
 use Prim.Native.Nat.{ℕ}
 use native.Mathlib.Decide.{ℕ-discrete}
 use lib.ListN.{replicate}
-use Rattle.zurkhovel.specs.Lines.{zeros, Counted}
-use Rattle.zurkhovel.specs.Demand.{handedOut, linesIn}
+use Rattle.zurkhovel.specs.document.Lines.{zeros, Counted}
+use Rattle.zurkhovel.specs.document.Demand.{handedOut, linesIn}
 
 -- `8 32100100`, `6 220010`, `6 311000`, `6 2200,10`, `3 20`, each with its line feed, and then `1 0` without one
 abbrev listed : List ℕ

@@ -10,48 +10,29 @@ use Prim.Native.Nat.{ℕ, _-_, _*_, _^_, _<_}
 use native.Mathlib.Decide.{ℕ-discrete, decLt}
 use native.Mathlib.Omega.{arith}
 use lib.ListN.{length}
-use Rattle.laws.specs.Order.{dec≽, insert, sort}
+use Rattle.laws.specs.document.Order.{dec≽, insert, sort}
 use Rattle.laws.specs.Perms.{decIn}
 use Rattle.laws.specs.Once.{upTo}
-use Rattle.limits.specs.Limits.{size, valence}
-use Rattle.code.specs.Code.{sum, edgesFrom, decode}
-use Rattle.tree.specs.Skeleton.{arcs, neighbours, degree, IsSkeleton, children, join, codeAt, rooted}
-use Rattle.path.specs.Path.{middle₁, middle₂}
-use Rattle.path.specs.Run.{seek, sift, decTwo, peel}
-use Rattle.form.specs.Form.{nTuple, centred}
+use Rattle.limits.specs.document.Limits.{size, valence}
+use Rattle.digit_code.specs.document.Code.{sum, edgesFrom, decode}
+use Rattle.skeleton.specs.document.Skeleton.{arcs, neighbours, degree, IsSkeleton, children, join, codeAt, rooted}
+use Rattle.longest_path.specs.document.Path.{middle₁, middle₂}
+use Rattle.longest_path.specs.Run.{seek, sift, decTwo, peel}
+use Rattle.form.specs.document.Form.{nTuple, centred}
 use Rattle.form.specs.One.{largest, some-n-tuple}
 use Rattle.form.specs.Computed.{left, larger, computed}
-use Rattle.bits.specs.Bits.{bit, bits, word}
-use Rattle.bits.specs.Written.{Numbers}
-use Rattle.adjacency.specs.Mixed.{mixed}
-use Rattle.adjacency.specs.Adjacency as A
+use Rattle.bits.specs.document.Bits.{bit, bits, word}
+use Rattle.adjacency.specs.document.Mixed.{mixed}
+use Rattle.adjacency.specs.document.Adjacency as A
 use Rattle.adjacency.specs.Entries.{none, more, cam-physical}
-use Rattle.zurkhovel.specs.Matrix.{ByCode}
-
--- a row: the skeleton of N vertices with the edges E has the centred code c and the N-tuple code d, and x is the whole number of c
-pub record Figure (N : ℕ) (E c d : List ℕ) (x : ℕ) : Type 0 where
-  pub skeleton : IsSkeleton size valence N E
-  pub centre : centred N E c
-  pub n-tuple : nTuple N E d
-  pub whole : Numbers c x
+use Rattle.zurkhovel.specs.document.Matrix.{ByCode}
+use Rattle.zurkhovel.specs.document.Figures.{Figure, Numbered}
 
 row :
     {N : ℕ} {E c d : List ℕ} {x : ℕ} → IsSkeleton size valence N E × centred N E c × nTuple N E d → word (2 * length c - 1) x ≡ bits c ++ []
     → x < 2 ^ (2 * length c - 1) → Figure N E c d x
 row (s, c, d) e l =
     record { skeleton = s; centre = c; n-tuple = d; whole = record { carries = record { fill = []; same = e; may = refl }; below = l } }
-
--- 001's line: the CAM f "with N is" the skeleton of a row, with the edges that f decodes to, the 0A z and the A0 a; "its numbering by code has"
--- the CAM g and the 0A y
-pub record Numbered (N : ℕ) (E c d : List ℕ) (x : ℕ) (f : List ℕ) (z a : ℕ) (g : List ℕ) (y : ℕ) : Type 0 where
-  pub figure : Figure N E c d x
-  pub edges : E ≡ A.camEdges f
-  pub physical : A.Physical N E
-  pub cam : f ≡ A.cam N E
-  pub zeroA : z ≡ A.zeroA (A.cam N E)
-  pub aZero : a ≡ A.aZero N E
-  pub cam-by-code : ByCode (A.cam N) N E g
-  pub zeroA-by-code : ByCode (λ F. A.zeroA (A.cam N F)) N E y
 
 -- the numbering by code is that of the row's centred code
 by-code : {B : Type 0} {of : List ℕ → B} {N : ℕ} {E c : List ℕ} {b : B} → centred N E c → b ≡ of (decode c) → ByCode of N E b
@@ -85,7 +66,7 @@ pub table :
     -- 001's line: 3-methylhexane in 001's numbering
     × Numbered 7 (1 ∷ 2 ∷ 2 ∷ 3 ∷ 2 ∷ 4 ∷ 3 ∷ 5 ∷ 1 ∷ 6 ∷ 6 ∷ 7 ∷ []) (3 ∷ 1 ∷ 1 ∷ 0 ∷ 1 ∷ 0 ∷ 0 ∷ []) (3 ∷ 1 ∷ 1 ∷ 0 ∷ 1 ∷ 0 ∷ 0 ∷ []) 7496
     (1 ∷ 2 ∷ 2 ∷ 3 ∷ 1 ∷ 6 ∷ []) 545 1646688 (1 ∷ 2 ∷ 3 ∷ 1 ∷ 5 ∷ 1 ∷ []) 624
-unfolding rooted codeAt join children neighbours degree arcs sort insert dec≽ flatten ℕ-discrete decLt Dec·and Dec·not decIn seek sift decTwo peel left larger upTo middle₁ middle₂ largest some-n-tuple word bit bits decode edgesFrom sum mixed A.from A.lower A.entry A.cam A.entryEdges A.zeroA A.bits A.powers A.aZero
+unfolding rooted codeAt join children neighbours degree arcs sort insert dec≽ flatten ℕ-discrete decLt Dec·and Dec·not decIn seek sift decTwo peel left larger upTo middle₁ middle₂ largest some-n-tuple word bit bits decode edgesFrom sum mixed A.from A.lower A.entry A.cam A.entryEdges A.zeroA A.columnSum A.powers A.aZero
 table = (
   row (computed size valence 0 refl (omega arith) (omega arith) refl refl) refl (omega arith),
   row (computed size valence 0 refl (omega arith) (omega arith) refl refl) refl (omega arith),

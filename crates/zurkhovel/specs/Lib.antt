@@ -1,20 +1,13 @@
 -- The promises of the public calls. Assumes nothing.
-pub mod Codes
-pub mod Same
 pub mod Tables
 pub mod Accepted
 pub mod Theorems
-pub mod Lines
-pub mod Alike
 pub mod One
-pub mod Matrix
 pub mod OneMatrix
 pub mod OneText
 pub mod Rooting
-pub mod Bits
 pub mod OneBits
 pub mod Figures
-pub mod Demand
 pub mod Seen
 pub mod Demanded
 pub mod DigitsOnly
@@ -23,3 +16,4 @@ pub mod Round
 pub mod RoundBits
 pub mod RoundMatrix
 pub mod RoundText
+pub mod document

@@ -5,18 +5,18 @@ use mathlib.Core.Path.{_≡_, refl, sym, ap, _∙_}
 use mathlib.Core.Bool.{Bool, true, false}
 use mathlib.Core.List.{List}
 use Prim.Native.Nat.{ℕ}
-use Rattle.refusal.specs.Table.{Row, Answered}
-use Rattle.refusal.specs.Outcome.{told}
+use Rattle.refusal.specs.document.Table.{Row, Answered}
+use Rattle.refusal.specs.document.Outcome.{told}
 use Rattle.refusal.specs.declared.Answer.{Answer}
 use Rattle.refusal.specs.Apart.{told-apart, told-both}
 use Rattle.refusal.specs.Laws.{one-result}
 use Rattle.refusal.specs.Giving.{one-given, one-clear}
-use Rattle.form.specs.Form.{nTuple, centred}
+use Rattle.form.specs.document.Form.{nTuple, centred}
 use Rattle.form.specs.Forms.{IsForm, n-tuple-form, centred-form}
-use Rattle.zurkhovel.specs.Codes.{CheckCode, DecodeCode, DecodeForm, CheckEdges, RootedCode, FormCode}
+use Rattle.zurkhovel.specs.document.Codes.{CheckCode, DecodeCode, DecodeForm, CheckEdges, RootedCode, FormCode}
 use Rattle.zurkhovel.specs.declared.codes.Verdict.{Verdict}
 use Rattle.zurkhovel.specs.declared.codes.Verdict.the-variants.{Same, Different, Refused}
-use Rattle.zurkhovel.specs.Same.{said, EqualCodes, SameSkeleton}
+use Rattle.zurkhovel.specs.document.Same.{said, EqualCodes, SameSkeleton}
 use Rattle.zurkhovel.specs.Accepted.{tree-of}
 
 -- two results that are the same thing are one

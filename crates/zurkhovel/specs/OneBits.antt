@@ -5,21 +5,21 @@ use mathlib.Core.Bool.{Bool}
 use mathlib.Core.List.{List}
 use Prim.Native.Nat.{ℕ}
 use lib.Ieee.{Float}
-use Rattle.refusal.specs.Table.{Row, Outcome, Answered}
-use Rattle.refusal.specs.Outcome.{told, numbered}
+use Rattle.refusal.specs.document.Table.{Row, Outcome, Answered}
+use Rattle.refusal.specs.document.Outcome.{told, numbered}
 use Rattle.refusal.specs.declared.Answer.{Answer}
 use Rattle.refusal.specs.declared.Number.{Number}
 use Rattle.refusal.specs.Apart.{told-both, numbered-apart}
 use Rattle.refusal.specs.Laws.{one-result}
 use Rattle.refusal.specs.Giving.{one-given}
-use Rattle.code.specs.Code.{decode}
+use Rattle.digit_code.specs.document.Code.{decode}
 use Rattle.bits.specs.Reading.{one-reading}
 use Rattle.bits.specs.Written.{packed-again, number-again}
 use Rattle.fraction.specs.declared.Fraction.{Fraction}
-use Rattle.fraction.specs.Outcome as fraction
+use Rattle.fraction.specs.document.Outcome as fraction
 use Rattle.fraction.specs.Apart as apart
 use Rattle.fraction.specs.Back.{fraction-again}
-use Rattle.zurkhovel.specs.Bits.{Pack, Whole, InFraction, Decodes, Unpack, Unwhole, Unfraction}
+use Rattle.zurkhovel.specs.document.Bits.{Pack, Whole, InFraction, Decodes, Unpack, Unwhole, Unfraction}
 
 -- a call that gives a value, where the right one is one: what is told is one
 one-value :
@@ -36,7 +36,7 @@ pub one-whole : (N : ℕ) (E : List ℕ) (root : ℕ) (r s : Number) → Whole N
 one-whole N E root r s a b = numbered-apart r s (one-value (λ x y p q. number-again p q) a b)
 
 pub one-fraction :
-    (N : ℕ) (E : List ℕ) (root : ℕ) (r s : Fraction) → InFraction N E root (fraction.told r) → InFraction N E root (fraction.told s) → r ≡ s
+    (N : ℕ) (E : List ℕ) (root : ℕ) (r s : Fraction) → InFraction N E root (fraction.toldFraction r) → InFraction N E root (fraction.toldFraction s) → r ≡ s
 one-fraction N E root r s a b = apart.told-apart r s (one-value (λ x y p q. fraction-again p q) a b)
 
 -- bits carry one code, and so have one list of edges

@@ -6,20 +6,20 @@
 use mathlib.Core.Path.{_≡_, refl, sym, ap, _∙_}
 use mathlib.Core.List.{List}
 use Prim.Native.Nat.{ℕ}
-use Rattle.refusal.specs.Table.{Answered}
-use Rattle.refusal.specs.Outcome.{told, numbered}
+use Rattle.refusal.specs.document.Table.{Answered}
+use Rattle.refusal.specs.document.Outcome.{told, numbered}
 use Rattle.refusal.specs.declared.Answer.{Answer}
 use Rattle.refusal.specs.declared.Number.{Number}
 use Rattle.refusal.specs.Apart.{told-both, numbered-apart}
 use Rattle.refusal.specs.Laws.{one-accepted, one-result}
 use Rattle.refusal.specs.Giving.{one-given, one-clear}
-use Rattle.limits.specs.Limits.{valence}
-use Rattle.code.specs.Code.{decode}
-use Rattle.tree.specs.Skeleton.{IsTree}
-use Rattle.skeleton.specs.Edges.{edgeRows}
+use Rattle.limits.specs.document.Limits.{valence}
+use Rattle.digit_code.specs.document.Code.{decode}
+use Rattle.skeleton.specs.document.Skeleton.{IsTree}
+use Rattle.edge_list.specs.document.Edges.{edgeRows}
 use Rattle.form.specs.Forms.{centred-form}
 use Rattle.zurkhovel.specs.Accepted.{tree-of}
-use Rattle.zurkhovel.specs.Matrix.{DecodeCam, DecodeZeroA, DecodeAZero, Cam, ZeroA, AZero, Numbering, ByCode, CamByCode, ZeroAByCode, AZeroByCode}
+use Rattle.zurkhovel.specs.document.Matrix.{DecodeCam, DecodeZeroA, DecodeAZero, Cam, ZeroA, AZero, NumberedByCode, ByCode, CamByCode, ZeroAByCode, AZeroByCode}
 
 -- ---- a form read into edges
 
@@ -49,7 +49,7 @@ one-a-zero N E r s a b = numbered-apart r s (one-result (λ x y p q. (p ∙ sym 
 -- ---- by code
 
 -- the edges by code are one
-pub one-numbering : {N : ℕ} {E F G : List ℕ} → IsTree N E → Numbering N E F → Numbering N E G → F ≡ G
+pub one-numbering : {N : ℕ} {E F G : List ℕ} → IsTree N E → NumberedByCode N E F → NumberedByCode N E G → F ≡ G
 one-numbering t x y = x .edges ∙ ap decode (centred-form .one t (x .right) (y .right)) ∙ sym (y .edges)
 
 one-by-code : {A : Type 0} {of : List ℕ → A} {N : ℕ} {E : List ℕ} → IsTree N E → (a b : A) → ByCode of N E a → ByCode of N E b → a ≡ b

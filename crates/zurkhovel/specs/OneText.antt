@@ -4,24 +4,24 @@ use mathlib.Core.Path.{_≡_, sym, ap₂, subst, _∙_}
 use mathlib.Core.List.{List}
 use Prim.Native.Nat.{ℕ}
 use native.Mathlib.Omega.{arith}
-use Rattle.refusal.specs.Table.{Clear}
-use Rattle.refusal.specs.Outcome.{told}
+use Rattle.refusal.specs.document.Table.{Clear}
+use Rattle.refusal.specs.document.Outcome.{told}
 use Rattle.refusal.specs.declared.Answer.{Answer}
 use Rattle.refusal.specs.Apart.{told-both}
 use Rattle.refusal.specs.Giving.{one-clear}
-use Rattle.limits.specs.Limits.{size, valence}
-use Rattle.skeleton.specs.Edges.{edgeRows}
-use Rattle.form.specs.Form.{centred}
+use Rattle.limits.specs.document.Limits.{size, valence}
+use Rattle.edge_list.specs.document.Edges.{edgeRows}
+use Rattle.form.specs.document.Form.{centred}
 use Rattle.form.specs.Forms.{centred-form}
-use Rattle.lines.specs.Judged.{digitTable}
+use Rattle.lines.specs.document.Judged.{digitTable}
 use Rattle.lines.specs.declared.Progress.{Progress}
 use Rattle.lines.specs.Theorems as Lines
-use Rattle.answers.specs.Theorems as Answers
-use Rattle.vertices.specs.Vertices.{ClassesOf}
+use Rattle.listing_text.specs.Theorems as Answers
+use Rattle.vertices.specs.document.Vertices.{ClassesOf}
 use Rattle.vertices.specs.Theorems.{one-classes}
 use Rattle.zurkhovel.specs.declared.text.Counts.{Counts}
-use Rattle.zurkhovel.specs.Lines.{ReadLine, WriteLine, ReadText, Counted, ListText}
-use Rattle.zurkhovel.specs.Alike.{EqualVertices}
+use Rattle.zurkhovel.specs.document.Lines.{ReadLine, WriteLine, ReadText, Counted, ListText}
+use Rattle.zurkhovel.specs.document.Alike.{EqualVertices}
 use Rattle.zurkhovel.specs.Accepted.{tree-of}
 
 pub one-read-line : (t old new new′ : List ℕ) (r s : Answer) → ReadLine t old new (told r) → ReadLine t old new′ (told s) → (r ≡ s) × (new ≡ new′)

@@ -4,19 +4,19 @@ use mathlib.Core.Path.{_≡_}
 use mathlib.Core.List.{List, []}
 use Prim.Native.Nat.{ℕ, _-_, _*_, _≤_}
 use lib.ListN.{length, take}
-use Rattle.refusal.specs.Table.{Row, Clear, FirstRefusal, Outcome, Gives}
-use Rattle.refusal.specs.Outcome.{told}
+use Rattle.refusal.specs.document.Table.{Row, Clear, FirstRefusal, Outcome, Gives}
+use Rattle.refusal.specs.document.Outcome.{told}
 use Rattle.refusal.specs.declared.Answer.{Answer}
 use Rattle.refusal.specs.declared.Answer.the-variants.{Done, Refused}
 use Rattle.refusal.specs.declared.Check.{Check}
 use Rattle.refusal.specs.declared.Check.the-variants.{Passed, Refuse}
-use Rattle.limits.specs.Limits.{size, valence}
-use Rattle.code.specs.Code.{codeRows}
-use Rattle.tree.specs.Skeleton.{rooted}
-use Rattle.skeleton.specs.Edges.{edgeRows}
-use Rattle.adjacency.specs.Adjacency.{camEdges}
-use Rattle.zurkhovel.specs.Codes.{LaysEdges}
-use Rattle.zurkhovel.specs.Matrix.{Numbering}
+use Rattle.limits.specs.document.Limits.{size, valence}
+use Rattle.digit_code.specs.document.Code.{codeRows, decode}
+use Rattle.skeleton.specs.document.Skeleton.{rooted}
+use Rattle.edge_list.specs.document.Edges.{edgeRows}
+use Rattle.adjacency.specs.document.Adjacency.{camEdges}
+use Rattle.zurkhovel.specs.document.Codes.{LaysEdges}
+use Rattle.zurkhovel.specs.document.Matrix.{NumberedByCode}
 
 -- what is Known where none of rs applies, or the refusal of rs
 abbrev pub Judged : List Row → Type 0 → Check → Type 0
@@ -35,7 +35,7 @@ Rooting most N E r code a = Judged (edgeRows most valence N E r) (Rooted most N 
 -- no row applies, and the edges by code stand at the start of ends
 pub record ListedByCode (most N : ℕ) (E ends : List ℕ) : Type 0 where
   pub clear : Clear (edgeRows most valence N E 1)
-  pub numbering : Numbering N E (take (2 * (N - 1)) ends)
+  pub numbering : NumberedByCode N E (take (2 * (N - 1)) ends)
   pub long : length ends ≡ 2 * (size - 1)
 
 abbrev pub ListingByCode : ℕ → ℕ → List ℕ → List ℕ → Check → Type 0
@@ -54,3 +54,7 @@ EdgesOf digits old new (Refused k p) r = (r ≡ Refused k p) × (new ≡ old)
 -- the edges of a CAM, with row 15 alone
 abbrev pub LaysCam : List ℕ → List ℕ → List ℕ → Outcome ℕ → Type 0
 LaysCam c old new o = Gives [] (λ E. E ≡ camEdges c) old new o
+
+-- the same where no row of c applies
+abbrev pub LaysEdges : List ℕ → List ℕ → List ℕ → Outcome ℕ → Type 0
+LaysEdges c old new o = Gives [] (λ E. E ≡ decode c) old new o

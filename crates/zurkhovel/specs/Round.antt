@@ -5,29 +5,27 @@
 -- In order: a right code decoded, and edges read back; rooted codes; N-tuple and centred codes, once for both. The bit-tuple's forms are in
 -- `RoundBits`, CAM, 0A and A0 in `RoundMatrix`, lines in `RoundText`. Assumes nothing.
 use mathlib.Core.Path.{_≡_, refl, sym, ap, subst, _∙_}
-use mathlib.Core.List.{List, []}
+use mathlib.Core.List.{List}
 use Prim.Native.Nat.{ℕ, _≤_}
 use native.Mathlib.Omega.{arith}
 use lib.ListN.{length, take}
 use Rattle.laws.specs.Laying.{laid-front}
-use Rattle.refusal.specs.Table.{Row, Clear, Outcome, gives, Gives}
-use Rattle.refusal.specs.Giving.{Given, gave, must-give}
-use Rattle.limits.specs.Limits.{size, valence}
-use Rattle.code.specs.Code.{codeRows, decode}
-use Rattle.code.specs.Right.{clear-right, right-clear}
-use Rattle.tree.specs.Skeleton.{IsTree, IsSkeleton, Renumbering, rooted}
-use Rattle.tree.specs.Theorems as Tree
-use Rattle.tree.specs.Accepted.{code-passes}
-use Rattle.skeleton.specs.Edges.{edgeRows}
-use Rattle.skeleton.specs.Theorems.{accepted}
-use Rattle.form.specs.Form.{nTuple, centred}
+use Rattle.refusal.specs.document.Table.{Row, Clear, Outcome, gives, Gives}
+use Rattle.refusal.specs.Giving.{gave, must-give}
+use Rattle.refusal.specs.document.Given.{Given}
+use Rattle.limits.specs.document.Limits.{size, valence}
+use Rattle.digit_code.specs.document.Code.{codeRows, decode}
+use Rattle.digit_code.specs.Right.{clear-right, right-clear}
+use Rattle.skeleton.specs.document.Skeleton.{IsTree, IsSkeleton, Renumbering, rooted}
+use Rattle.skeleton.specs.Theorems as Tree
+use Rattle.skeleton.specs.Accepted.{code-passes}
+use Rattle.edge_list.specs.document.Edges.{edgeRows}
+use Rattle.edge_list.specs.Theorems.{accepted}
+use Rattle.form.specs.document.Form.{nTuple, centred}
 use Rattle.form.specs.Forms.{IsForm, form-decoded, form-ends, form-size, n-tuple-form, centred-form}
 use Rattle.form.specs.Accepted.{right-decoded, form-accepted, form-passes}
-use Rattle.zurkhovel.specs.Codes.{DecodeCode, RootedCode, FormCode, DecodeForm}
-
--- the skeleton of N vertices with the edges E is given, under other numbers
-abbrev pub Renumbered : ℕ → List ℕ → List ℕ → Outcome ℕ → Type 0
-Renumbered N E new o = (o ≡ gives (length E)) × Renumbering N E (take (length E) new)
+use Rattle.zurkhovel.specs.document.Codes.{DecodeCode, RootedCode, FormCode, DecodeForm}
+use Rattle.zurkhovel.specs.document.Round.{Renumbered}
 
 -- ---- a right code decoded, and edges read back
 
@@ -54,7 +52,7 @@ module _ {most N : ℕ} {E : List ℕ} (s : IsSkeleton most valence N E) {r : �
 
   pub code-tree : IsTree N (decode (rooted N E r))
   code-tree =
-      subst (λ n. IsTree n (decode (rooted N E r))) (Tree.size N E r (s .tree) a b)
+      subst (λ n. IsTree n (decode (rooted N E r))) (Tree.code-length N E r (s .tree) a b)
       (Tree.decoded-tree (rooted N E r) (Tree.decode-code (rooted N E r) .0 (Tree.right N E r (s .tree) a b) .0))
 
   pub code-numbers : Renumbering N E (decode (rooted N E r))

@@ -11,27 +11,30 @@ use lib.Dec.{T}
 use lib.ListN.{length, take, length-append}
 use lib.Seq.{take-length}
 use lib.Ieee.{Float, binary64, fits}
-use Rattle.refusal.specs.Table.{Row, Clear, Outcome, gives, Gives, row3}
+use Rattle.refusal.specs.document.Table.{Row, Clear, Outcome, gives, Gives, row3}
 use Rattle.refusal.specs.Laws.{clear-one, clear-both, never, others, at-most, at-least, size-clear}
-use Rattle.refusal.specs.Giving.{Given, gave, gave-value, must-give, must-answer}
-use Rattle.limits.specs.Limits.{size, valence, packedBytes, wholeSize, fractionSize}
-use Rattle.code.specs.Code.{digitRows, codeRows, decode}
-use Rattle.bits.specs.Bits.{word, Nothing, Reads, row4}
+use Rattle.refusal.specs.Giving.{gave, gave-value, must-give, must-answer}
+use Rattle.refusal.specs.document.Given.{Given}
+use Rattle.limits.specs.document.Limits.{size, valence, packedBytes, wholeSize, fractionSize}
+use Rattle.digit_code.specs.document.Code.{digitRows, codeRows, decode}
+use Rattle.bits.specs.document.Bits.{word, Nothing, Reads, row4-whole}
 use Rattle.bits.specs.Ends.{end-sum, right-ends}
 use Rattle.bits.specs.Laws.{length-bits}
 use Rattle.bits.specs.Words.{length-bytes}
 use Rattle.bits.specs.Reading.{reading-clear}
-use Rattle.bits.specs.Written.{Bytes, Packs, Numbers, packed-back, packed-read, packed-again, number-back, number-size, number-read, number-again}
-use Rattle.fraction.specs.Fraction.{IsFraction}
-use Rattle.fraction.specs.Fraction as Fraction
+use Rattle.bits.specs.Written.{packed-back, packed-read, packed-again, number-back, number-size, number-read, number-again}
+use Rattle.bits.specs.document.Written.{Bytes, Packs, Numbers}
+use Rattle.fraction.specs.document.Fraction.{IsFraction}
+use Rattle.fraction.specs.document.Fraction as Fraction
 use Rattle.fraction.specs.Back.{fraction-inside, fraction-size, fraction-read}
 use Rattle.fraction.specs.Back as Back
-use Rattle.tree.specs.Skeleton.{IsSkeleton, rooted}
-use Rattle.skeleton.specs.Edges.{edgeRows}
-use Rattle.zurkhovel.specs.Bits.{Pack, Whole, InFraction, Decodes, Unpack, Unwhole, Unfraction}
+use Rattle.skeleton.specs.document.Skeleton.{IsSkeleton, rooted}
+use Rattle.edge_list.specs.document.Edges.{edgeRows}
+use Rattle.zurkhovel.specs.document.Bits.{Pack, Whole, InFraction, Decodes, Unpack, Unwhole, Unfraction}
 use Rattle.zurkhovel.specs.OneBits.{one-decoded}
 use Rattle.zurkhovel.specs.Accepted.{skeleton-of, root-of, rooted-size, wider}
-use Rattle.zurkhovel.specs.Round.{Renumbered, its-skeleton, its-rows, its-code, code-clear, code-tree, code-numbers, edges-back}
+use Rattle.zurkhovel.specs.Round.{its-skeleton, its-rows, its-code, code-clear, code-tree, code-numbers, edges-back}
+use Rattle.zurkhovel.specs.document.Round.{Renumbered}
 
 -- ---- what bits that are read carry
 
@@ -126,7 +129,7 @@ whole-back N E r v old new o p h g =
     let x : Reads valence Nothing (word (2 * N - 1) v) (rooted N E r) = rw z at (number-back (code-right wholeSize N E r k (omega arith)) w) in
     let below : v < 2 ^ (2 * N - 1) = rw z at (w .below) in
     let a : Clear (row3 wholeSize N ∷ []) = size-clear (omega (arith, i)) (at-most k) in
-    let b : Clear (row4 N v ∷ []) = clear-one (λ q f. let n : ⊥ = omega (arith, f .1) in n) in
+    let b : Clear (row4-whole N v ∷ []) = clear-one (λ q f. let n : ⊥ = omega (arith, f .1) in n) in
     form-back wholeSize N E r k (omega arith) (clear-both a (clear-both b (reading-clear x))) x h g
 
 -- ---- fraction
@@ -151,5 +154,5 @@ fraction-back N E r x old new o p h g =
     let (k, w) = gave-value p in
     let z = code-size fractionSize N E r k (omega arith) in
     let b = Back.fraction-back w (omega (arith, at-most k)) (code-right fractionSize N E r k (omega arith)) in
-    let a : Clear (Fraction.row4 x ∷ []) = clear-one (λ q f. fraction-inside w (f .1)) in
+    let a : Clear (Fraction.row4-fraction x ∷ []) = clear-one (λ q f. fraction-inside w (f .1)) in
     form-back fractionSize N E r k (omega arith) (clear-both a (reading-clear b)) b h g

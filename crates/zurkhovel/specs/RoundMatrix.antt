@@ -10,22 +10,24 @@ use Prim.Native.Nat.{ℕ, _≤_}
 use native.Mathlib.Decide.{ℕ-discrete}
 use native.Mathlib.Omega.{arith}
 use lib.ListN.{length, take}
-use Rattle.refusal.specs.Table.{Row, Clear, Outcome, gives, Gives}
+use Rattle.refusal.specs.document.Table.{Row, Clear, Outcome, gives, Gives}
 use Rattle.refusal.specs.Laws.{clear-one, clear-both, clear-left, clear-right, never}
-use Rattle.refusal.specs.Giving.{Given, gave, gave-value, must-give, must-answer}
-use Rattle.limits.specs.Limits.{size, valence, zeroSize, aSize}
-use Rattle.code.specs.Right.{Right}
-use Rattle.tree.specs.Skeleton.{arcs, IsTree, IsSkeleton, Renumbering}
-use Rattle.skeleton.specs.Edges.{edgeRows}
-use Rattle.form.specs.Form.{centred}
+use Rattle.refusal.specs.Giving.{gave, gave-value, must-give, must-answer}
+use Rattle.refusal.specs.document.Given.{Given}
+use Rattle.limits.specs.document.Limits.{size, valence, zeroSize, aSize}
+use Rattle.digit_code.specs.Right.{RightCode}
+use Rattle.skeleton.specs.document.Skeleton.{arcs, IsTree, IsSkeleton, Renumbering}
+use Rattle.edge_list.specs.document.Edges.{edgeRows}
+use Rattle.form.specs.document.Form.{centred}
 use Rattle.form.specs.Forms.{centred-form, form-size, form-decoded}
 use Rattle.form.specs.Accepted.{right-decoded, form-passes, form-exactly}
-use Rattle.adjacency.specs.Adjacency.{OneLower, lower, Physical, row14, cam, camEdges, zeroA, zeroCam, aZero}
+use Rattle.adjacency.specs.document.Adjacency.{OneLower, lower, Physical, row14-physical, cam, camEdges, zeroA, zeroCam, aZero}
 use Rattle.adjacency.specs.Theorems.{cam-decode, cam-read, zero-decode, zero-read, cam-code, zero-code, a-decode, a-read, a-code}
 use Rattle.adjacency.specs.ByCode.{code-physical}
 use Rattle.zurkhovel.specs.Accepted.{skeleton-of, plain-rows}
-use Rattle.zurkhovel.specs.Matrix.{DecodeCam, DecodeZeroA, DecodeAZero, physicalRows, Cam, ZeroA, AZero, Numbering, CamByCode, ZeroAByCode, AZeroByCode}
-use Rattle.zurkhovel.specs.Round.{Renumbered, edges-given}
+use Rattle.zurkhovel.specs.document.Matrix.{DecodeCam, DecodeZeroA, DecodeAZero, physicalRows, Cam, ZeroA, AZero, NumberedByCode, CamByCode, ZeroAByCode, AZeroByCode}
+use Rattle.zurkhovel.specs.Round.{edges-given}
+use Rattle.zurkhovel.specs.document.Round.{Renumbered, Kept}
 
 -- ---- a physical numbering
 
@@ -33,9 +35,9 @@ use Rattle.zurkhovel.specs.Round.{Renumbered, edges-given}
 pub physical-exactly : (most N : ℕ) (E : List ℕ) → Clear (physicalRows most N E) ↔ (IsSkeleton most valence N E × Physical N E)
 physical-exactly most N E = (
   λ k.
-      let n = never (clear-right (edgeRows most valence N E 1) (row14 N E ∷ []) k) in
-      (skeleton-of (clear-left (edgeRows most valence N E 1) (row14 N E ∷ []) k), record { only = λ v a b. step v (λ m. n v (a, b, m)) (ℕ-discrete (length (lower E v)) 1) }),
-  λ (s, p). clear-both (plain-rows s) (clear-one {r = row14 N E} (λ v (a, b, n). n (p .only v a b))),
+      let n = never (clear-right (edgeRows most valence N E 1) (row14-physical N E ∷ []) k) in
+      (skeleton-of (clear-left (edgeRows most valence N E 1) (row14-physical N E ∷ []) k), record { only = λ v a b. step v (λ m. n v (a, b, m)) (ℕ-discrete (length (lower E v)) 1) }),
+  λ (s, p). clear-both (plain-rows s) (clear-one {r = row14-physical N E} (λ v (a, b, n). n (p .only v a b))),
 )
   where
     step : (v : ℕ) → ((OneLower E v → ⊥) → ⊥) → Dec (OneLower E v) → OneLower E v
@@ -65,10 +67,6 @@ a-zero-again N x old new m o d g =
     must-answer (plain-rows s) x (sym z) (λ b y. y ∙ z) (subst (λ F. AZero N F o) e g)
 
 -- ---- coded and decoded
-
--- the skeleton with the edges E is given, under its own numbers
-abbrev pub Kept : List ℕ → List ℕ → Outcome ℕ → Type 0
-Kept E new o = (o ≡ gives (length E)) × List·Permᴰ (arcs E) (arcs (take (length E) new))
 
 -- a reader that gives edges with the arcs of E
 same-arcs :
@@ -118,11 +116,11 @@ a-zero-back N E x old new o c h g =
 
 -- ---- coded by code and decoded
 
-module _ {most N : ℕ} {E F : List ℕ} (s : IsSkeleton most valence N E) (x : Numbering N E F) where
+module _ {most N : ℕ} {E F : List ℕ} (s : IsSkeleton most valence N E) (x : NumberedByCode N E F) where
   sized : length (x .code) ≡ N
   sized = form-size centred centred-form N E (x .code) (s .tree) (x .right)
 
-  right : Right most valence (x .code)
+  right : RightCode most valence (x .code)
   right = form-passes centred centred-form most valence (x .code) .0 (form-exactly centred centred-form most valence (x .code) .1 (N, E, s, x .right)) .0
 
   -- the numbering by code is the skeleton under other numbers, and physical

@@ -5,23 +5,26 @@ use mathlib.Core.List.{List, [], _∷_, _++_, append-assoc}
 use Prim.Native.Nat.{ℕ, _≤_}
 use native.Mathlib.Omega.{arith}
 use lib.ListN.{length, take}
-use Rattle.refusal.specs.Table.{Outcome, gives, kept}
+use Rattle.refusal.specs.document.Table.{Outcome, gives, kept}
 use Rattle.refusal.specs.Laws.{clear-left}
-use Rattle.refusal.specs.Giving.{Given, gave, must-give, written}
-use Rattle.limits.specs.Limits.{size, valence}
-use Rattle.form.specs.Form.{centred}
+use Rattle.refusal.specs.Giving.{gave, must-give, written}
+use Rattle.refusal.specs.document.Given.{Given}
+use Rattle.limits.specs.document.Limits.{size, valence}
+use Rattle.form.specs.document.Form.{centred}
 use Rattle.form.specs.Forms.{centred-form}
 use Rattle.form.specs.Accepted.{right-decoded, form-passes}
-use Rattle.lines.specs.Line.{body, line, Cut, lineRows, LineAnswers}
+use Rattle.lines.specs.document.Line.{body, line, Cut, lineRows, LineAnswers}
 use Rattle.lines.specs.Damage.{Accept}
-use Rattle.lines.specs.Judged.{digitTable, lawful-table}
+use Rattle.lines.specs.Judged.{lawful-table}
+use Rattle.lines.specs.document.Judged.{digitTable}
 use Rattle.lines.specs.Bodies.{body-free}
 use Rattle.lines.specs.Answered.{Look, good, fits, gives-code, answered-once, look}
-use Rattle.lines.specs.Reading.{block, counted}
+use Rattle.lines.specs.document.Reading.{block, counted}
 use Rattle.lines.specs.Taking.{line-read}
-use Rattle.zurkhovel.specs.Codes.{DecodeForm}
-use Rattle.zurkhovel.specs.Lines.{ReadLine, WriteLine}
+use Rattle.zurkhovel.specs.document.Codes.{DecodeForm}
+use Rattle.zurkhovel.specs.document.Lines.{ReadLine, WriteLine}
 use Rattle.zurkhovel.specs.Accepted.{skeleton-of, plain-rows, centred-accepted}
+use Rattle.zurkhovel.specs.document.Round.{Begins}
 
 -- ---- written and read
 
@@ -45,10 +48,6 @@ line-back N E old new n old′ new′ o w h g =
     (c, x, line-given c old′ new′ o a h (subst (λ t. ReadLine t old′ new′ o) e g))
 
 -- ---- read and written
-
--- t begins with the line of c
-abbrev pub Begins : List ℕ → List ℕ → Type 0
-Begins c t = (rest : List ℕ) × (t ≡ line c ++ rest)
 
 looked : (t b rest c : List ℕ) → t ≡ b ++ (10 ∷ rest) → Look size (digitTable valence) b (gives c) → Begins c t
 unfolding line

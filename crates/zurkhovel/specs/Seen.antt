@@ -9,20 +9,21 @@ use native.Mathlib.Omega.{arith}
 use borrow.Author.Needs.{needs}
 use lib.ListN.{length, getD, take, drop, length-append, length-drop, length-map}
 use lib.Seq.{take-append-le, drop-append-le, take-append-add, take-at, drop-at, length-take-le}
-use Rattle.laws.specs.Laid.{laidOver, laid-length}
+use Rattle.laws.specs.Laid.{laid-length}
+use Rattle.laws.specs.document.Laid.{laidOver}
 use Rattle.laws.specs.Laying.{laid-front}
-use Rattle.refusal.specs.Table.{Row, Applies, gives, refuses, kept, left}
+use Rattle.refusal.specs.document.Table.{Row, Applies, gives, refuses, kept, left}
 use Rattle.refusal.specs.Laws.{applied}
-use Rattle.limits.specs.Limits.{size, valence}
-use Rattle.lines.specs.Line.{Free, lineRows, LineAnswers, TextAnswers, Reply}
-use Rattle.lines.specs.Judged.{digitTable}
-use Rattle.lines.specs.Damage.{records, refusals}
+use Rattle.limits.specs.document.Limits.{size, valence}
+use Rattle.lines.specs.document.Line.{Free, lineRows, LineAnswers, TextAnswers, Reply}
+use Rattle.lines.specs.document.Judged.{digitTable}
+use Rattle.lines.specs.document.Damage.{records, refusals}
 use Rattle.lines.specs.Records.{records-join}
-use Rattle.lines.specs.Reading.{block, blocks, counted, numberOf, placeOf, Taken, none, unfinished, next}
+use Rattle.lines.specs.document.Reading.{block, blocks, counted, numberOf, placeOf, Taken, none, unfinished, next}
 use Rattle.lines.specs.FirstLines.{AllFit, taken-all, all-taken, taken-join, taken-fit}
 use Rattle.lines.specs.Turns.{read-lengths}
-use Rattle.zurkhovel.specs.Lines.{ReadText, zeros}
-use Rattle.zurkhovel.specs.Demand.{InTurns, ended, turn, handedOut, linesIn}
+use Rattle.zurkhovel.specs.document.Lines.{ReadText, zeros}
+use Rattle.zurkhovel.specs.document.Demand.{InTurns, ended, turn, handedOut, linesIn}
 
 -- the answers' numbers, and their places
 abbrev pub numbersOf : List Reply → List ℕ

@@ -7,22 +7,23 @@ use mathlib.Core.Logic.{_⊎_, inl, inr, ⊎-elim, _↔_}
 use mathlib.Core.List.{List, [], _∷_, _++_}
 use Prim.Native.Nat.{ℕ}
 use lib.Ieee.{Float}
-use Rattle.refusal.specs.Table.{Row, ofList, Clear, FirstRefusal, short}
+use Rattle.refusal.specs.document.Table.{Row, ofList, Clear, FirstRefusal, short}
 use Rattle.refusal.specs.Laws.{refusal-front, refusal-back, refusal-either, list-clear, list-refused, list-told}
-use Rattle.refusal.specs.Lowest.{Lowest, LowestWins, lowest-number}
-use Rattle.limits.specs.Limits.{size, valence}
-use Rattle.code.specs.Code.{codeRows}
-use Rattle.skeleton.specs.Edges.{edgeRows}
-use Rattle.skeleton.specs.Theorems.{lowest-refused}
-use Rattle.form.specs.Form.{formRows}
-use Rattle.bits.specs.Bits.{packedRows, wholeRows}
-use Rattle.fraction.specs.Fraction.{fractionRows}
-use Rattle.adjacency.specs.Adjacency.{camRows, zeroRows, aRows}
-use Rattle.lines.specs.Line.{lineRows}
-use Rattle.lines.specs.Judged.{digitTable}
-use Rattle.lines.specs.Reading.{lineRow15}
-use Rattle.zurkhovel.specs.Same.{listRows, bothRows}
-use Rattle.zurkhovel.specs.Matrix.{physicalRows}
+use Rattle.refusal.specs.Lowest.{lowest-number}
+use Rattle.refusal.specs.document.Lowest.{Lowest, LowestWins}
+use Rattle.limits.specs.document.Limits.{size, valence}
+use Rattle.digit_code.specs.document.Code.{codeRows}
+use Rattle.edge_list.specs.document.Edges.{edgeRows}
+use Rattle.edge_list.specs.Theorems.{lowest-refused}
+use Rattle.form.specs.document.Form.{formRows}
+use Rattle.bits.specs.document.Bits.{packedRows, wholeRows}
+use Rattle.fraction.specs.document.Fraction.{fractionRows}
+use Rattle.adjacency.specs.document.Adjacency.{camRows, zeroRows, aRows}
+use Rattle.lines.specs.document.Line.{lineRows}
+use Rattle.lines.specs.document.Judged.{digitTable}
+use Rattle.lines.specs.document.Reading.{lineRow15}
+use Rattle.zurkhovel.specs.document.Same.{listRows, bothRows}
+use Rattle.zurkhovel.specs.document.Matrix.{physicalRows}
 
 -- the table of a call that writes: 15 stands behind
 module _ (Right : List ℕ → Type 0) (lent : ℕ) where

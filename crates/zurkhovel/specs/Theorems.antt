@@ -4,13 +4,13 @@ use mathlib.Core.Logic.{_↔_}
 use mathlib.Core.Bool.{true}
 use mathlib.Core.List.{List}
 use Prim.Native.Nat.{ℕ}
-use Rattle.refusal.specs.Table.{ofList, Clear, gives, kept}
+use Rattle.refusal.specs.document.Table.{ofList, Clear, gives, kept}
 use Rattle.refusal.specs.Laws.{clear-both, clear-left, clear-right, list-clear}
-use Rattle.tree.specs.Skeleton.{Renumbering}
-use Rattle.form.specs.Form.{centred}
+use Rattle.skeleton.specs.document.Skeleton.{Renumbering}
+use Rattle.form.specs.document.Form.{centred}
 use Rattle.form.specs.Forms.{centred-form, form-verdict}
 use Rattle.zurkhovel.specs.Accepted.{tree-of}
-use Rattle.zurkhovel.specs.Same.{listRows, bothRows, SameSkeleton}
+use Rattle.zurkhovel.specs.document.Same.{listRows, bothRows, SameSkeleton}
 
 -- no row applies to two lists where none applies to the first and none to the second
 pub both-clear : (N P : ℕ) (E F : List ℕ) → Clear (bothRows N E P F) ↔ (Clear (listRows N E) × Clear (listRows P F))

@@ -9,22 +9,22 @@ ghost use mathlib.Core.Path.{_≡_};
 ghost use mathlib.Core.List.{[]};
 ghost use Prim.Native.Nat.{_≤_};
 ghost use lib.ListN.{length};
-ghost use Rattle.refusal.specs.Table.{Gives};
-ghost use Rattle.refusal.specs.Outcome.{told, numbered};
-ghost use Rattle.limits.specs.Limits.{size};
-ghost use Rattle.fraction.specs.Outcome as fraction;
+ghost use Rattle.refusal.specs.document.Table.{Gives};
+ghost use Rattle.refusal.specs.document.Outcome.{told, numbered};
+ghost use Rattle.limits.specs.document.Limits.{size};
+ghost use Rattle.fraction.specs.document.Outcome as fraction;
 ghost use Rattle.zurkhovel.specs.Rooting.{Rooting, Readable, EdgesOf};
-ghost use Rattle.zurkhovel.specs.Bits.{Pack, Unpack, Whole, Unwhole, InFraction, Unfraction};
+ghost use Rattle.zurkhovel.specs.document.Bits.{Pack, Unpack, Whole, Unwhole, InFraction, Unfraction};
 
 // The rooted code at a vertex of a skeleton of at most `most` vertices.
 fn rooted(most: usize, n: usize, edges: &[u8], root: usize, code: &mut [u8]) -> Check
     requires { ⌜ (most ≤ size) × (length (now code) ≡ size) ⌝ }
     ensures { λ r. ⌜ Rooting most n (now (edges .entry)) root (now (code .exit)) r ⌝ }
 {
-    if let Check::Refuse(k, p) = skeleton::check(most, VALENCE, n, edges, root) {
+    if let Check::Refuse(k, p) = edge_list::check(most, VALENCE, n, edges, root) {
         return Check::Refuse(k, p);
     }
-    coding::rooted(n, edges, root, code);
+    form_coder::rooted(n, edges, root, code);
     Check::Passed
 }
 
@@ -64,7 +64,7 @@ pub fn whole(n: usize, edges: &[u8], root: usize) -> Number
 
 // The fraction of the rooted code at a vertex.
 pub fn fraction(n: usize, edges: &[u8], root: usize) -> Fraction
-    ensures { λ r. ⌜ InFraction n (now (edges .entry)) root (fraction.told r) ⌝ }
+    ensures { λ r. ⌜ InFraction n (now (edges .entry)) root (fraction.toldFraction r) ⌝ }
 {
     let mut code = [0u8; SIZE];
     match rooted(limits::FRACTION, n, edges, root, &mut code) {

@@ -1,23 +1,24 @@
 // Digit codes and edge lists.
-use code::Order;
+use digit_code::Order;
 use limits::SIZE;
 use limits::VALENCE;
 use refusal::Answer;
 use refusal::Check;
-ghost use Rattle.refusal.specs.Outcome.{told};
-ghost use Rattle.refusal.specs.Table.{Clear};
-ghost use Rattle.limits.specs.Limits.{size, valence};
-ghost use Rattle.code.specs.Code.{codeRows};
-ghost use Rattle.skeleton.specs.Edges.{edgeRows};
-ghost use Rattle.zurkhovel.specs.Codes.{CheckCode, LaysEdges, DecodeCode, DecodeForm, CheckEdges, RootedCode, FormCode};
-ghost use Rattle.zurkhovel.specs.Same.{SameSkeleton, said};
-ghost use Rattle.form.specs.Form.{nTuple, centred};
+ghost use Rattle.refusal.specs.document.Outcome.{told};
+ghost use Rattle.refusal.specs.document.Table.{Clear};
+ghost use Rattle.limits.specs.document.Limits.{size, valence};
+ghost use Rattle.digit_code.specs.document.Code.{codeRows};
+ghost use Rattle.edge_list.specs.document.Edges.{edgeRows};
+ghost use Rattle.zurkhovel.specs.document.Codes.{CheckCode, DecodeCode, DecodeForm, CheckEdges, RootedCode, FormCode};
+ghost use Rattle.zurkhovel.specs.Rooting.{LaysEdges};
+ghost use Rattle.zurkhovel.specs.document.Same.{SameSkeleton, said};
+ghost use Rattle.form.specs.document.Form.{nTuple, centred};
 
 // Whether digits lent by themselves are a right rooted code.
 pub fn check_code(code: &[u8]) -> Answer
     ensures { λ r. ⌜ CheckCode (now (code .entry)) (told r) ⌝ }
 {
-    refusal::handed(code::check(VALENCE, code))
+    refusal::handed(digit_code::check(VALENCE, code))
 }
 
 // The edges of digits that are a right rooted code.
@@ -29,14 +30,14 @@ pub(crate) fn lay_edges(code: &[u8], out: &mut [u8]) -> Answer
     if out.len() < need {
         return Answer::Refused(15, need);
     }
-    Answer::Done(code::write_edges(code, out))
+    Answer::Done(digit_code::write_edges(code, out))
 }
 
 // The edges (parent, child), for child 2 to N, of a right rooted code.
 pub fn decode_code(code: &[u8], out: &mut [u8]) -> Answer
     ensures { λ r. ⌜ DecodeCode (now (code .entry)) (now (out .entry)) (now (out .exit)) (told r) ⌝ }
 {
-    if let Check::Refuse(k, p) = code::check(VALENCE, code) {
+    if let Check::Refuse(k, p) = digit_code::check(VALENCE, code) {
         return Answer::Refused(k, p);
     }
     lay_edges(code, out)
@@ -46,20 +47,20 @@ pub fn decode_code(code: &[u8], out: &mut [u8]) -> Answer
 pub fn check_edges(n: usize, edges: &[u8], root: usize) -> Answer
     ensures { λ r. ⌜ CheckEdges n (now (edges .entry)) root (told r) ⌝ }
 {
-    refusal::handed(skeleton::check(SIZE, VALENCE, n, edges, root))
+    refusal::handed(edge_list::check(SIZE, VALENCE, n, edges, root))
 }
 
 // The rooted code at a vertex.
 pub fn rooted_code(n: usize, edges: &[u8], root: usize, out: &mut [u8]) -> Answer
     ensures { λ r. ⌜ RootedCode n (now (edges .entry)) root (now (out .entry)) (now (out .exit)) (told r) ⌝ }
 {
-    if let Check::Refuse(k, p) = skeleton::check(SIZE, VALENCE, n, edges, root) {
+    if let Check::Refuse(k, p) = edge_list::check(SIZE, VALENCE, n, edges, root) {
         return Answer::Refused(k, p);
     }
     if out.len() < n {
         return Answer::Refused(15, n);
     }
-    coding::rooted(n, edges, root, out);
+    form_coder::rooted(n, edges, root, out);
     Answer::Done(n)
 }
 
@@ -67,13 +68,13 @@ pub fn rooted_code(n: usize, edges: &[u8], root: usize, out: &mut [u8]) -> Answe
 pub fn n_tuple_code(n: usize, edges: &[u8], out: &mut [u8]) -> Answer
     ensures { λ r. ⌜ FormCode nTuple n (now (edges .entry)) (now (out .entry)) (now (out .exit)) (told r) ⌝ }
 {
-    if let Check::Refuse(k, p) = skeleton::check(SIZE, VALENCE, n, edges, 1) {
+    if let Check::Refuse(k, p) = edge_list::check(SIZE, VALENCE, n, edges, 1) {
         return Answer::Refused(k, p);
     }
     if out.len() < n {
         return Answer::Refused(15, n);
     }
-    coding::n_tuple(n, edges, out);
+    form_coder::n_tuple(n, edges, out);
     Answer::Done(n)
 }
 
@@ -81,13 +82,13 @@ pub fn n_tuple_code(n: usize, edges: &[u8], out: &mut [u8]) -> Answer
 pub fn centred_code(n: usize, edges: &[u8], out: &mut [u8]) -> Answer
     ensures { λ r. ⌜ FormCode centred n (now (edges .entry)) (now (out .entry)) (now (out .exit)) (told r) ⌝ }
 {
-    if let Check::Refuse(k, p) = skeleton::check(SIZE, VALENCE, n, edges, 1) {
+    if let Check::Refuse(k, p) = edge_list::check(SIZE, VALENCE, n, edges, 1) {
         return Answer::Refused(k, p);
     }
     if out.len() < n {
         return Answer::Refused(15, n);
     }
-    coding::centred(n, edges, out);
+    form_coder::centred(n, edges, out);
     Answer::Done(n)
 }
 
@@ -95,7 +96,7 @@ pub fn centred_code(n: usize, edges: &[u8], out: &mut [u8]) -> Answer
 pub fn decode_centred(code: &[u8], out: &mut [u8]) -> Answer
     ensures { λ r. ⌜ DecodeForm centred (now (code .entry)) (now (out .entry)) (now (out .exit)) (told r) ⌝ }
 {
-    if let Check::Refuse(k, p) = fast::check(VALENCE, code) {
+    if let Check::Refuse(k, p) = centred_check::check(VALENCE, code) {
         return Answer::Refused(k, p);
     }
     lay_edges(code, out)
@@ -105,7 +106,7 @@ pub fn decode_centred(code: &[u8], out: &mut [u8]) -> Answer
 pub fn decode_n_tuple(code: &[u8], out: &mut [u8]) -> Answer
     ensures { λ r. ⌜ DecodeForm nTuple (now (code .entry)) (now (out .entry)) (now (out .exit)) (told r) ⌝ }
 {
-    if let Check::Refuse(k, p) = coding::check_n_tuple(VALENCE, code) {
+    if let Check::Refuse(k, p) = form_coder::check_n_tuple(VALENCE, code) {
         return Answer::Refused(k, p);
     }
     lay_edges(code, out)
@@ -132,9 +133,9 @@ fn judge(n1: usize, edges1: &[u8], n2: usize, edges2: &[u8]) -> Verdict
     }
     let mut a = [0u8; SIZE];
     let mut b = [0u8; SIZE];
-    coding::centred(n1, edges1, &mut a);
-    coding::centred(n2, edges2, &mut b);
-    match code::compare(&a[..n1], &b[..n2]) {
+    form_coder::centred(n1, edges1, &mut a);
+    form_coder::centred(n2, edges2, &mut b);
+    match digit_code::compare(&a[..n1], &b[..n2]) {
         Order::Less => Verdict::Different,
         Order::Equal => Verdict::Same,
         Order::Greater => Verdict::Different,
@@ -145,10 +146,10 @@ fn judge(n1: usize, edges1: &[u8], n2: usize, edges2: &[u8]) -> Verdict
 pub fn same_skeleton(n1: usize, edges1: &[u8], n2: usize, edges2: &[u8]) -> Verdict
     ensures { λ r. ⌜ SameSkeleton n1 (now (edges1 .entry)) n2 (now (edges2 .entry)) (said r) ⌝ }
 {
-    if let Check::Refuse(k, p) = skeleton::check(SIZE, VALENCE, n1, edges1, 1) {
+    if let Check::Refuse(k, p) = edge_list::check(SIZE, VALENCE, n1, edges1, 1) {
         return Verdict::Refused(1, k, p);
     }
-    if let Check::Refuse(k, p) = skeleton::check(SIZE, VALENCE, n2, edges2, 1) {
+    if let Check::Refuse(k, p) = edge_list::check(SIZE, VALENCE, n2, edges2, 1) {
         return Verdict::Refused(2, k, p);
     }
     judge(n1, edges1, n2, edges2)

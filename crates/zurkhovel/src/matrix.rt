@@ -7,13 +7,13 @@ use refusal::Number;
 ghost use mathlib.Core.Path.{_≡_};
 ghost use Prim.Native.Nat.{_-_, _*_, _≤_, _<_};
 ghost use lib.ListN.{length};
-ghost use Rattle.refusal.specs.Table.{Answers};
-ghost use Rattle.refusal.specs.Outcome.{told, numbered};
-ghost use Rattle.limits.specs.Limits.{size, valence, zeroSize};
-ghost use Rattle.tree.specs.Skeleton.{IsSkeleton};
-ghost use Rattle.adjacency.specs.Adjacency as adjacency;
+ghost use Rattle.refusal.specs.Checks.{Answers};
+ghost use Rattle.refusal.specs.document.Outcome.{told, numbered};
+ghost use Rattle.limits.specs.document.Limits.{size, valence, zeroSize};
+ghost use Rattle.skeleton.specs.document.Skeleton.{IsSkeleton};
+ghost use Rattle.adjacency.specs.document.Adjacency as adjacency;
 ghost use Rattle.zurkhovel.specs.Rooting.{LaysCam, ListingByCode};
-ghost use Rattle.zurkhovel.specs.Matrix.{DecodeCam, DecodeZeroA, DecodeAZero, physicalRows, Cam, ZeroA, AZero, CamByCode, ZeroAByCode, AZeroByCode};
+ghost use Rattle.zurkhovel.specs.document.Matrix.{DecodeCam, DecodeZeroA, DecodeAZero, physicalRows, Cam, ZeroA, AZero, CamByCode, ZeroAByCode, AZeroByCode};
 
 // The edges of a CAM that is accepted, with row 15.
 fn lay_cam(cam: &[u8], out: &mut [u8]) -> Answer
@@ -70,7 +70,7 @@ fn check(most: usize, n: usize, edges: &[u8]) -> Check
     requires { ⌜ most ≤ size ⌝ }
     ensures { λ r. ⌜ Answers (physicalRows most n (now (edges .entry))) r ⌝ }
 {
-    if let Check::Refuse(k, p) = skeleton::check(most, VALENCE, n, edges, 1) {
+    if let Check::Refuse(k, p) = edge_list::check(most, VALENCE, n, edges, 1) {
         return Check::Refuse(k, p);
     }
     adjacency::physical(n, edges)
@@ -115,7 +115,7 @@ pub fn zero_a(n: usize, edges: &[u8]) -> Number
 pub fn a_zero(n: usize, edges: &[u8]) -> Number
     ensures { λ r. ⌜ AZero n (now (edges .entry)) (numbered r) ⌝ }
 {
-    if let Check::Refuse(k, p) = skeleton::check(limits::A_ZERO, VALENCE, n, edges, 1) {
+    if let Check::Refuse(k, p) = edge_list::check(limits::A_ZERO, VALENCE, n, edges, 1) {
         return Number::Refused(k, p);
     }
     Number::Value(adjacency::a_zero(n, edges))
@@ -126,12 +126,12 @@ fn by_code(most: usize, n: usize, edges: &[u8], ends: &mut [u8]) -> Check
     requires { ⌜ (most ≤ size) × (length (now ends) ≡ 2 * (size - 1)) ⌝ }
     ensures { λ r. ⌜ ListingByCode most n (now (edges .entry)) (now (ends .exit)) r ⌝ }
 {
-    if let Check::Refuse(k, p) = skeleton::check(most, VALENCE, n, edges, 1) {
+    if let Check::Refuse(k, p) = edge_list::check(most, VALENCE, n, edges, 1) {
         return Check::Refuse(k, p);
     }
     let mut code = [0u8; SIZE];
-    coding::centred(n, edges, &mut code);
-    code::write_edges(&code[..n], ends);
+    form_coder::centred(n, edges, &mut code);
+    digit_code::write_edges(&code[..n], ends);
     Check::Passed
 }
 

@@ -4,8 +4,8 @@ use limits::VALENCE;
 use lines::Progress;
 use refusal::Answer;
 use refusal::Check;
-ghost use Rattle.refusal.specs.Outcome.{told};
-ghost use Rattle.zurkhovel.specs.Lines.{ReadLine, WriteLine, ReadText, Counted, ListText};
+ghost use Rattle.refusal.specs.document.Outcome.{told};
+ghost use Rattle.zurkhovel.specs.document.Lines.{ReadLine, WriteLine, ReadText, Counted, ListText};
 
 // The digits of a text's first line, as values.
 pub fn read_line(text: &[u8], out: &mut [u8]) -> Answer
@@ -18,7 +18,7 @@ pub fn read_line(text: &[u8], out: &mut [u8]) -> Answer
 pub fn write_line(n: usize, edges: &[u8], out: &mut [u8]) -> Answer
     ensures { λ r. ⌜ WriteLine n (now (edges .entry)) (now (out .entry)) (now (out .exit)) (told r) ⌝ }
 {
-    if let Check::Refuse(k, p) = skeleton::check(SIZE, VALENCE, n, edges, 1) {
+    if let Check::Refuse(k, p) = edge_list::check(SIZE, VALENCE, n, edges, 1) {
         return Answer::Refused(k, p);
     }
     let need = lines::extent(n);
@@ -26,7 +26,7 @@ pub fn write_line(n: usize, edges: &[u8], out: &mut [u8]) -> Answer
         return Answer::Refused(15, need);
     }
     let mut digits = [0u8; SIZE];
-    coding::centred(n, edges, &mut digits);
+    form_coder::centred(n, edges, &mut digits);
     Answer::Done(lines::write(&digits[..n], out))
 }
 
@@ -76,5 +76,5 @@ pub fn count(numbers: &[u8]) -> Counts
 pub fn list(text: &[u8], from: usize, out: &mut [u8]) -> usize
     ensures { λ r. ⌜ ListText (now (text .entry)) (now (out .entry)) (now (out .exit)) from r ⌝ }
 {
-    answers::list(VALENCE, text, from, out)
+    listing_text::list(VALENCE, text, from, out)
 }

@@ -2,10 +2,10 @@
 use mathlib.Core.Path.{_≡_, refl, sym, ap, _∙_}
 use Prim.Native.Nat.{ℕ, _-_, _*_, _≤_}
 use lib.ListN.{length}
-use Rattle.refusal.specs.Table.{Clear}
+use Rattle.refusal.specs.document.Table.{Clear}
 use Rattle.refusal.specs.Laws.{stops, goes-on, was-clear, at-least, at-most}
-use Rattle.limits.specs.Limits.{aSize}
-use Rattle.adjacency.specs.Adjacency.{aEdges, madeRows}
+use Rattle.limits.specs.document.Limits.{aSize}
+use Rattle.adjacency.specs.document.Adjacency.{aEdges, madeRows}
 use Rattle.adjacency.specs.Made.{edgeFront}
 use Rattle.adjacency.specs.Accepted.{aFront, a-long, a-front}
 use Rattle.adjacency.proofs.Behind.{front-length, array-length, front-is, front-laid, behind}

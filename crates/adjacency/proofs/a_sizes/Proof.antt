@@ -2,12 +2,13 @@
 use mathlib.Core.Path.{_≡_, refl}
 use Prim.Native.Nat.{ℕ, _-_, _*_, _/_, _^_, _≤_, _<_, _%_}
 use lib.Count.{ones-le}
-use Rattle.refusal.specs.Table.{Row, Clear, Answers, passes, fails, row3}
+use Rattle.refusal.specs.document.Table.{Row, Clear, row3}
+use Rattle.refusal.specs.Checks.{Answers, passes, fails}
 use Rattle.refusal.specs.declared.Check.the-variants.{Passed}
 use mathlib.Core.List.{[], _∷_}
 use Rattle.refusal.specs.Laws.{was-clear, stops, goes-on, clear-one, first-place, at-least, at-most, then-refused, then-passed}
-use Rattle.adjacency.specs.Adjacency.{row4}
-use Rattle.limits.specs.Limits.{aSize}
+use Rattle.adjacency.specs.document.Adjacency.{row4-number}
+use Rattle.limits.specs.document.Limits.{aSize}
 use Rattle.adjacency.proofs.Summing.{rows-few, shift-one}
 use native.Mathlib.Omega.{arith}
 use borrow.Author.Needs.{needs}
@@ -16,7 +17,7 @@ use Rattle.adjacency.proofs.a_sizes.Tie as tie
 
 -- 4
 abbrev top : ℕ → ℕ → Row
-top n x = row4 (2 ^ (n * (n - 1) / 2)) x
+top n x = row4-number (2 ^ (n * (n - 1) / 2)) x
 
 -- 3 does not apply
 clear : (c : tie.After-enum-told) → Clear (row3 aSize (c .before .before .before .args .n) ∷ [])

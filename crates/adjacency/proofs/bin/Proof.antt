@@ -1,7 +1,7 @@
 -- `adjacency::bin` meets its contract. The loop's invariant: b is what the edges before p give. Assumes nothing.
 use Prim.Native.Nat.{_+_, _-_, _/_, _≤_, _<_}
 use lib.ListN.{length}
-use Rattle.limits.specs.Limits.{aSize}
+use Rattle.limits.specs.document.Limits.{aSize}
 use Rattle.adjacency.proofs.Summing.{Summed, summed-none, summed-miss, summed-hit, summed-all, shift-one, power-small}
 use native.Mathlib.Omega.{arith}
 use Rattle.adjacency.proofs.bin.Statement.{statement}

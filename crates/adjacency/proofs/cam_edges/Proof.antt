@@ -3,8 +3,8 @@ use mathlib.Core.Path.{_≡_, refl, sym}
 use Prim.Native.Nat.{_-_, _≤_}
 use lib.ListN.{length, length-set, take}
 use lib.Seq.{take-all}
-use Rattle.laws.specs.Laid.{laidOver}
-use Rattle.adjacency.specs.Adjacency.{entryEdges}
+use Rattle.laws.specs.document.Laid.{laidOver}
+use Rattle.adjacency.specs.document.Adjacency.{entryEdges}
 use Rattle.adjacency.proofs.Writing.{edges-more, laid-none}
 use native.Mathlib.Omega.{arith}
 use Rattle.adjacency.proofs.cam_edges.Statement.{statement}

@@ -3,9 +3,9 @@ use mathlib.Core.Logic.{inl, inr, ⊎-elim}
 use Prim.Native.Nat.{ℕ, _+_, _-_, _≤_, _<_}
 use lib.ListN.{length}
 use borrow.Author.Count.{below-more}
-use Rattle.refusal.specs.Table.{passes, fails}
+use Rattle.refusal.specs.Checks.{passes, fails}
 use Rattle.refusal.specs.Laws.{clear-one, first-place}
-use Rattle.adjacency.specs.Adjacency.{row6-cam}
+use Rattle.adjacency.specs.document.Adjacency.{row6-cam}
 use native.Mathlib.Omega.{arith}
 use Rattle.adjacency.proofs.cam_entries.Statement.{statement}
 use Rattle.adjacency.proofs.cam_entries.Tie as tie

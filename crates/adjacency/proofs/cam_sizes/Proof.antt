@@ -2,10 +2,10 @@
 use mathlib.Core.Path.{refl}
 use mathlib.Core.List.{[], _∷_}
 use native.Mathlib.Omega.{arith}
-use Rattle.refusal.specs.Table.{Clear, row3}
+use Rattle.refusal.specs.document.Table.{Clear, row3}
 use Rattle.refusal.specs.Laws.{was-clear, stops, at-least, then-refused, then-passed}
-use Rattle.limits.specs.Limits.{size}
-use Rattle.adjacency.specs.Adjacency.{row5-cam}
+use Rattle.limits.specs.document.Limits.{size}
+use Rattle.adjacency.specs.document.Adjacency.{row5-cam}
 use borrow.Author.Needs.{needs}
 use Rattle.adjacency.proofs.cam_sizes.Statement.{statement}
 use Rattle.adjacency.proofs.cam_sizes.Tie as tie

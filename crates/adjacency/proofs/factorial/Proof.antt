@@ -1,8 +1,8 @@
 -- `adjacency::factorial` meets its contract. The loop's invariant: f is the factorial of i. Assumes nothing.
 use mathlib.Core.Path.{_≡_, refl}
 use Prim.Native.Nat.{_+_, _-_, _≤_, _<_}
-use Rattle.limits.specs.Limits.{zeroSize}
-use Rattle.adjacency.specs.Adjacency.{factorial}
+use Rattle.limits.specs.document.Limits.{zeroSize}
+use Rattle.adjacency.specs.document.Adjacency.{factorial}
 use Rattle.adjacency.proofs.Mixing.{factorial-fits, factorial-more}
 use native.Mathlib.Omega.{arith}
 use Rattle.adjacency.proofs.factorial.Statement.{statement}

@@ -3,8 +3,8 @@ use mathlib.Core.Path.{_≡_, sym, ap, _∙_}
 use Prim.Native.Nat.{ℕ, _-_, _*_, _≤_}
 use lib.ListN.{length}
 use Rattle.adjacency.specs.Made.{few, edgeFront, front-cam, made-length}
-use Rattle.limits.specs.Limits.{size}
-use Rattle.adjacency.specs.Adjacency.{camEdges, madeRows}
+use Rattle.limits.specs.document.Limits.{size}
+use Rattle.adjacency.specs.document.Adjacency.{camEdges, madeRows}
 use Rattle.adjacency.proofs.Behind.{front-length, array-length, front-is, front-laid, behind}
 use native.Mathlib.Omega.{arith}
 use borrow.Author.Needs.{needs}

@@ -5,13 +5,13 @@ use native.Mathlib.Omega.{arith}
 use borrow.Author.Count.{below-more}
 use lib.ListN.{length}
 use Rattle.refusal.specs.Laws.{clear-one, first-place}
-use Rattle.refusal.specs.Table.{passes, fails}
-use Rattle.adjacency.specs.Adjacency.{row14}
+use Rattle.refusal.specs.Checks.{passes, fails}
+use Rattle.adjacency.specs.document.Adjacency.{row14-physical}
 use Rattle.adjacency.proofs.physical.Statement.{statement}
 use Rattle.adjacency.proofs.physical.Tie as tie
 
 abbrev Inv-loop : tie.InvT-loop
-Inv-loop n edges v₀ v = (2 ≤ v) × (v ≤ n + 2) × ((q : ℕ) → q < v → row14 n edges .applies q → ⊥)
+Inv-loop n edges v₀ v = (2 ≤ v) × (v ≤ n + 2) × ((q : ℕ) → q < v → row14-physical n edges .applies q → ⊥)
 
 abbrev μ-loop : tie.MeasureT-loop
 μ-loop n edges v₀ v = n + 1 - v

@@ -2,8 +2,8 @@
 use mathlib.Core.Path.{_≡_, refl, sym}
 use mathlib.Core.List.{map}
 use Prim.Native.Nat.{_+_, _-_, _≤_}
-use Rattle.laws.specs.Laid.{laidOver}
-use Rattle.adjacency.specs.Adjacency.{from, entry, cam}
+use Rattle.laws.specs.document.Laid.{laidOver}
+use Rattle.adjacency.specs.document.Adjacency.{from, entry, cam}
 use lib.ListN.{length, length-set}
 use Rattle.adjacency.proofs.Writing.{cam-more, laid-none}
 use native.Mathlib.Omega.{arith}

@@ -4,9 +4,9 @@ use Rattle.refusal.specs.Laws.{stops, goes-on, was-clear, clear-one, clear-both
 use mathlib.Core.List.{[], _∷_, _++_}
 use Prim.Native.Nat.{ℕ, _-_, _≤_}
 use lib.ListN.{length, take, drop, replicate}
-use Rattle.refusal.specs.Table.{Clear, row3}
-use Rattle.adjacency.specs.Adjacency.{row4, factorial, zeroCam}
-use Rattle.limits.specs.Limits.{zeroSize}
+use Rattle.refusal.specs.document.Table.{Clear, row3}
+use Rattle.adjacency.specs.document.Adjacency.{row4-number, factorial, zeroCam}
+use Rattle.limits.specs.document.Limits.{zeroSize}
 use Rattle.adjacency.specs.Zero.{zero-length, zero-entries}
 use Rattle.adjacency.specs.Made.{entries-clear}
 use Rattle.adjacency.proofs.Behind.{front-length, array-length, front-is, front-laid}
@@ -22,7 +22,7 @@ entries = zeroSize - 1
 -- N is from 1 to zeroSize
 known :
     (c : tie.After-enum-told)
-    → Clear (row3 zeroSize (c .before .before .before .args .n) ∷ row4 (factorial (c .before .before .before .args .n - 1)) (c .before .before .before .args .x) ∷ [])
+    → Clear (row3 zeroSize (c .before .before .before .args .n) ∷ row4-number (factorial (c .before .before .before .args .n - 1)) (c .before .before .before .args .x) ∷ [])
 known c = was-clear (c .before .before .zero-sizes .ensures) (c .enum-told .given .1)
 
 short : (c : tie.After-enum-told) → c .before .before .before .args .n - 1 ≤ entries

@@ -3,10 +3,10 @@ use mathlib.Core.Path.{refl}
 use mathlib.Core.List.{[], _∷_}
 use Prim.Native.Nat.{_-_}
 use native.Mathlib.Omega.{arith}
-use Rattle.refusal.specs.Table.{Clear, row3}
+use Rattle.refusal.specs.document.Table.{Clear, row3}
 use Rattle.refusal.specs.Laws.{was-clear, stops, at-least, at-most, then-refused, then-passed}
-use Rattle.adjacency.specs.Adjacency.{row4, factorial}
-use Rattle.limits.specs.Limits.{zeroSize}
+use Rattle.adjacency.specs.document.Adjacency.{row4-number, factorial}
+use Rattle.limits.specs.document.Limits.{zeroSize}
 use borrow.Author.Needs.{needs}
 use Rattle.adjacency.proofs.zero_sizes.Statement.{statement}
 use Rattle.adjacency.proofs.zero_sizes.Tie as tie
@@ -25,5 +25,5 @@ zero-sizes-spec =
     (λ c. search needs)
     (λ c. at-least (clear c))
     (λ c κs. omega (arith, at-least (clear c), at-most (clear c)))
-    (λ c. let s = c .before .before in let a = s .before .before .before .args in then-refused (clear s) (row4 (factorial (a .n - 1)) (a .x)) (refl, rw (c .before .factorial .ensures) at (c .if1 .taken)))
-    (λ c. let s = c .before .before in let a = s .before .before .before .args in then-passed (clear s) (row4 (factorial (a .n - 1)) (a .x)) (λ p h. let z : ⊥ = omega (arith, h .1, c .before .factorial .ensures) in z)))
+    (λ c. let s = c .before .before in let a = s .before .before .before .args in then-refused (clear s) (row4-number (factorial (a .n - 1)) (a .x)) (refl, rw (c .before .factorial .ensures) at (c .if1 .taken)))
+    (λ c. let s = c .before .before in let a = s .before .before .before .args in then-passed (clear s) (row4-number (factorial (a .n - 1)) (a .x)) (λ p h. let z : ⊥ = omega (arith, h .1, c .before .factorial .ensures) in z)))

@@ -3,7 +3,7 @@ use mathlib.Core.Path.{sym, _∙_}
 use Prim.Native.Nat.{_-_, _*_}
 use native.Mathlib.Omega.{arith}
 use lib.ListN.{length}
-use Rattle.bits.specs.Bits.{bytes}
+use Rattle.bits.specs.document.Bits.{bytes}
 use Rattle.bits.specs.Words.{length-bytes}
 use Rattle.bits.specs.Digit.{near-fewer}
 use Rattle.bits.specs.Found.{Sofar, Turns, sofar-none, twice, sofar-out}

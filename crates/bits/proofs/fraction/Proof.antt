@@ -1,5 +1,5 @@
 -- `bits::fraction` meets its contract: a rest is one bit more. Assumes nothing.
-use Rattle.bits.specs.Bits.{fractionBits}
+use Rattle.bits.specs.document.Bits.{fractionBits}
 use Rattle.bits.specs.Follow.{fraction-rest}
 use borrow.Author.Needs.{needs}
 use Rattle.bits.proofs.fraction.Statement.{statement}

@@ -1,7 +1,7 @@
 -- `bits::number` meets its contract, as `bits::zeros_behind` does; nothing may follow. Assumes nothing.
 use Prim.Native.Nat.{_-_, _*_}
 use native.Mathlib.Omega.{arith}
-use Rattle.bits.specs.Bits.{Nothing}
+use Rattle.bits.specs.document.Bits.{Nothing}
 use Rattle.bits.specs.Words.{length-word}
 use Rattle.bits.specs.Follow.{word-nothing, word-something}
 use Rattle.bits.specs.Answered.{Within, end-within, answer-over, answer-short, answer-more, answer-read}

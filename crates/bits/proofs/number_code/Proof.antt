@@ -2,10 +2,10 @@
 use mathlib.Core.Path.{refl}
 use mathlib.Core.List.{[], _∷_}
 use Prim.Native.Nat.{_-_, _*_}
-use Rattle.refusal.specs.Table.{Clear, row3}
+use Rattle.refusal.specs.document.Table.{Clear, row3}
 use Rattle.refusal.specs.Laws.{was-clear, was-refused, clear-both, refusal-back, at-least, at-most}
-use Rattle.limits.specs.Limits.{wholeSize}
-use Rattle.bits.specs.Bits.{Nothing, word, row4, bitRows}
+use Rattle.limits.specs.document.Limits.{wholeSize}
+use Rattle.bits.specs.document.Bits.{Nothing, word, row4-whole, bitRows}
 use Rattle.bits.specs.Decided.{reading-ended, decide-front, decide-ordered}
 use borrow.Author.Needs.{needs}
 use Rattle.bits.proofs.number_code.Statement.{statement}
@@ -15,7 +15,7 @@ use Rattle.bits.proofs.number_code.Tie as tie
 sizes : (c : tie.After-enum-told) → Clear (row3 wholeSize (c .before .before .before .before .args .n) ∷ [])
 sizes c = was-clear (c .before .before .sized .ensures) (c .enum-told .given .1)
 
-clear : (c : tie.After-enum-told2) → Clear (row3 wholeSize (c .before .before .before .before .before .before .before .args .n) ∷ row4 (c .before .before .before .before .before .before .before .args .n) (c .before .before .before .before .before .before .before .args .x) ∷ [])
+clear : (c : tie.After-enum-told2) → Clear (row3 wholeSize (c .before .before .before .before .before .before .before .args .n) ∷ row4-whole (c .before .before .before .before .before .before .before .args .n) (c .before .before .before .before .before .before .before .args .x) ∷ [])
 clear c = clear-both (sizes (c .before .before .before)) (was-clear (c .before .before .ranged .ensures) (c .enum-told2 .given .1))
 
 pub number-code-spec : {M : Type 1} → statement M
@@ -24,7 +24,7 @@ number-code-spec =
     (tie.spec
     (λ c κs. search needs)
     (λ c. search needs)
-    (λ c. let a = c .before .before .before .before .before .args in decide-front (row4 (a .n) (a .x) ∷ bitRows (a .limit) Nothing (word (2 * a .n - 1) (a .x))) (was-refused (c .before .before .before .sized .ensures) (c .before .k .given .1)) (c .before .before .before .before .before .pre .1))
+    (λ c. let a = c .before .before .before .before .before .args in decide-front (row4-whole (a .n) (a .x) ∷ bitRows (a .limit) Nothing (word (2 * a .n - 1) (a .x))) (was-refused (c .before .before .before .sized .ensures) (c .before .k .given .1)) (c .before .before .before .before .before .pre .1))
     (λ c. search needs)
     (λ c κs. (at-least (sizes c), at-most (sizes c)))
     (λ c. search needs)

@@ -2,7 +2,7 @@
 use Prim.Native.Nat.{_*_}
 use native.Mathlib.Omega.{arith}
 use lib.ListN.{length}
-use Rattle.bits.specs.Bits.{Fill}
+use Rattle.bits.specs.document.Bits.{Fill}
 use Rattle.bits.specs.Words.{length-bytes}
 use Rattle.bits.specs.Follow.{spare-byte, fill-zeros, fill-ones}
 use Rattle.bits.specs.Answered.{Within, end-within, answer-over, answer-short, answer-more, answer-read}

@@ -2,10 +2,10 @@
 use mathlib.Core.Path.{refl}
 use mathlib.Core.List.{[], _∷_}
 use lib.ListN.{length}
-use Rattle.refusal.specs.Table.{Clear, row3}
+use Rattle.refusal.specs.document.Table.{Clear, row3}
 use Rattle.refusal.specs.Laws.{was-clear, was-refused, at-most}
-use Rattle.limits.specs.Limits.{packedBytes}
-use Rattle.bits.specs.Bits.{Fill, bytes, bitRows}
+use Rattle.limits.specs.document.Limits.{packedBytes}
+use Rattle.bits.specs.document.Bits.{Fill, bytes, bitRows}
 use Rattle.bits.specs.Decided.{reading-ended, decide-front, decide-ordered}
 use borrow.Author.Needs.{needs}
 use Rattle.bits.proofs.packed_code.Statement.{statement}

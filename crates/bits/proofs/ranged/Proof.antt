@@ -5,9 +5,9 @@ use native.Mathlib.Nat.{one-mul}
 use native.Mathlib.Omega.{arith}
 use lib.Dec.{lit<}
 use lib.Pow.{shl-exact}
-use Rattle.refusal.specs.Table.{passes, fails}
+use Rattle.refusal.specs.Checks.{passes, fails}
 use Rattle.refusal.specs.Laws.{clear-one, first-place}
-use Rattle.bits.specs.Bits.{row4}
+use Rattle.bits.specs.document.Bits.{row4-whole}
 use borrow.Author.Needs.{needs}
 use Rattle.bits.proofs.ranged.Statement.{statement}
 use Rattle.bits.proofs.ranged.Tie as tie
@@ -25,10 +25,10 @@ power : (c : tie.Start) → 1 * 2 ^ (2 * c .args .n - 1) % 2 ^ 64 ≡ 2 ^ (2 * c
 power c = let k = 2 * c .args .n - 1 in shl-exact {a = 1} 1 k 64 (lit< tt) (omega arith) ∙ one-mul (2 ^ k)
 
 returns : tie.Need-returns
-returns c = let a = c .before .args in fails (first-place {r = row4 (a .n) (a .x)} (refl, rw (power (c .before)) at (c .if1 .taken)) (λ q l h. omega arith))
+returns c = let a = c .before .args in fails (first-place {r = row4-whole (a .n) (a .x)} (refl, rw (power (c .before)) at (c .if1 .taken)) (λ q l h. omega arith))
 
 returns-2 : tie.Need-returns-2
-returns-2 c = let a = c .before .args in passes (clear-one {r = row4 (a .n) (a .x)} (λ p h. omega (arith, power (c .before), h .1)))
+returns-2 c = let a = c .before .args in passes (clear-one {r = row4-whole (a .n) (a .x)} (λ p h. omega (arith, power (c .before), h .1)))
 
 pub ranged-spec : {M : Type 1} → statement M
 ranged-spec = tie.close (tie.spec mul-if1 sub-if1 shl-if1 returns returns-2)

@@ -2,7 +2,7 @@
 use mathlib.Core.Path.{sym, _∙_}
 use Prim.Native.Nat.{_-_}
 use native.Mathlib.Omega.{arith}
-use Rattle.bits.specs.Bits.{word}
+use Rattle.bits.specs.document.Bits.{word}
 use Rattle.bits.specs.Words.{length-word}
 use Rattle.bits.specs.Digit.{near-exact}
 use Rattle.bits.specs.Found.{Sofar, Turns, sofar-none, twice, sofar-out}

@@ -1,6 +1,6 @@
 -- `bits::zeros_behind` meets its contract: the digits found, and what follows them, by `Answered` and `Follow`. Assumes nothing.
 use native.Mathlib.Omega.{arith}
-use Rattle.bits.specs.Bits.{Zeros}
+use Rattle.bits.specs.document.Bits.{Zeros}
 use Rattle.bits.specs.Words.{length-word}
 use Rattle.bits.specs.Follow.{word-none, word-zeros, word-ones}
 use Rattle.bits.specs.Answered.{Within, end-within, answer-over, answer-short, answer-more, answer-read}

@@ -3,7 +3,7 @@ use mathlib.Core.Path.{refl}
 use Prim.Native.Nat.{_-_, _<_}
 use native.Mathlib.Omega.{arith}
 use borrow.Author.Needs.{needs}
-use Rattle.limits.specs.Limits.{size}
+use Rattle.limits.specs.document.Limits.{size}
 use Rattle.centre.proofs.Rounds.{State, listed, v-stays, lone, w-stays, pair, peelable, next, w-kept, at-first, first-listed}
 use Rattle.centre.proofs.centre.Statement.{statement}
 use Rattle.centre.proofs.centre.Tie as tie

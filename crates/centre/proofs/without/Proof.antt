@@ -5,7 +5,7 @@ use Prim.Native.Nat.{_-_, _≤_, _<_}
 use native.Mathlib.Omega.{arith}
 use borrow.Author.Needs.{needs}
 use lib.ListN.{length, length-set}
-use Rattle.limits.specs.Limits.{width}
+use Rattle.limits.specs.Width.{width}
 use Rattle.laws.specs.Part.{part}
 use Rattle.centre.proofs.Rows.{without-row, part-some, part-next}
 use Rattle.centre.proofs.without.Statement.{statement}

@@ -3,14 +3,15 @@ use Prim.Native.Nat.{_-_}
 use native.Mathlib.Omega.{arith}
 use borrow.Author.Needs.{needs}
 use lib.ListN.{length}
-use Rattle.lines.specs.Form.{Figure, all, not-all}
+use Rattle.lines.specs.Form.{all, not-all}
+use Rattle.lines.specs.document.Marks.{WrittenDigit}
 use Rattle.lines.specs.Each.{Passed, passed-more, passed-all}
 use Rattle.lines.proofs.Forming.{is-figure, some-other}
 use Rattle.lines.proofs.digits.Statement.{statement}
 use Rattle.lines.proofs.digits.Tie as tie
 
 abbrev Inv-loop : tie.InvT-loop
-Inv-loop t i₀ i = Passed Figure t i
+Inv-loop t i₀ i = Passed WrittenDigit t i
 
 abbrev μ-loop : tie.MeasureT-loop
 μ-loop t i₀ i = length t - i

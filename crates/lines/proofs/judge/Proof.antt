@@ -5,9 +5,9 @@ use Prim.Native.Nat.{ℕ}
 use borrow.Author.Needs.{needs}
 use lib.ListN.{length, take}
 use Rattle.laws.specs.Laying.{laid-front}
-use Rattle.refusal.specs.Table.{Answers}
-use Rattle.limits.specs.Limits.{size}
-use Rattle.form.specs.Form.{centred, formRows}
+use Rattle.refusal.specs.Checks.{Answers}
+use Rattle.limits.specs.document.Limits.{size}
+use Rattle.form.specs.document.Form.{centred, formRows}
 use Rattle.lines.specs.Form.{values}
 use Rattle.lines.specs.Taking.{length-values}
 use Rattle.lines.proofs.judge.Statement.{statement}

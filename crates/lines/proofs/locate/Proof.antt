@@ -3,7 +3,7 @@ use mathlib.Core.Path.{sym}
 use mathlib.Core.Logic.{inl, inr}
 use borrow.Author.Needs.{needs}
 use lib.Seq.{length-take-le}
-use Rattle.limits.specs.Limits.{size}
+use Rattle.limits.specs.document.Limits.{size}
 use Rattle.lines.specs.Form.{stands, refused}
 use Rattle.lines.proofs.Locating.{Found, no-feed, no-form, found, not-sized, not-as-many, standing}
 use Rattle.lines.proofs.locate.Statement.{statement}

@@ -3,7 +3,8 @@ use Prim.Native.Nat.{_-_}
 use native.Mathlib.Omega.{arith}
 use lib.ListN.{length}
 use Rattle.laws.specs.Laying.{Mapped, mapped-none, mapped-more, mapped-all}
-use Rattle.lines.specs.Form.{Figure, values}
+use Rattle.lines.specs.Form.{values}
+use Rattle.lines.specs.document.Marks.{WrittenDigit}
 use Rattle.lines.specs.Each.{each-at}
 use Rattle.lines.proofs.read_digits.Statement.{statement}
 use Rattle.lines.proofs.read_digits.Tie as tie
@@ -15,7 +16,7 @@ abbrev μ-loop : tie.MeasureT-loop
 μ-loop t out₀ i₀ out i = length t - i
 
 sub-out : tie.Need-sub-out Inv-loop μ-loop
-sub-out c = each-at Figure (c .before .before .before .args .t .now) (c .before .before .loop .i) (c .before .before .before .pre .0) (omega arith) .0
+sub-out c = each-at WrittenDigit (c .before .before .before .args .t .now) (c .before .before .loop .i) (c .before .before .before .pre .0) (omega arith) .0
 
 returns : tie.Need-returns Inv-loop μ-loop
 unfolding values

@@ -3,10 +3,10 @@ use mathlib.Core.List.{List}
 use native.Mathlib.Omega.{arith}
 use borrow.Author.Needs.{needs}
 use Rattle.refusal.specs.Laws.{was-clear, was-refused}
-use Rattle.limits.specs.Limits.{size}
-use Rattle.lines.specs.Line.{DigitRow}
+use Rattle.limits.specs.document.Limits.{size}
+use Rattle.lines.specs.document.Line.{DigitRow}
 use Rattle.lines.specs.Form.{Stands}
-use Rattle.lines.specs.Judged.{digitTable}
+use Rattle.lines.specs.document.Judged.{digitTable}
 use Rattle.lines.specs.Taking.{stands-length, read-front, read-digits, read-short, read-line}
 use Rattle.lines.proofs.Locating.{located, unlocated}
 use Rattle.lines.proofs.read_line.Statement.{statement}

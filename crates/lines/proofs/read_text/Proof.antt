@@ -6,7 +6,7 @@ use mir.Syntax.{w64}
 use mir.Val.{Fits}
 use borrow.Author.Count.{falls}
 use borrow.Author.Needs.{needs}
-use Rattle.limits.specs.Limits.{size}
+use Rattle.limits.specs.document.Limits.{size}
 use Rattle.lines.specs.Turns.{read-none}
 use Rattle.lines.proofs.Passing.{Going, lengths, room-now, fits, not-past, at-end, no-room, going-more}
 use Rattle.lines.proofs.read_text.Statement.{statement}

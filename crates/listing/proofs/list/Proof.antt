@@ -5,9 +5,9 @@ use native.Mathlib.Omega.{arith}
 use borrow.Author.Needs.{needs}
 use lib.ListN.{length}
 use lib.Seq.{length-take-le}
-use Rattle.limits.specs.Limits.{size, valence}
-use Rattle.lines.specs.Judged.{digitTable}
-use Rattle.answers.specs.Theorems.{piece-within}
+use Rattle.limits.specs.document.Limits.{size, valence}
+use Rattle.lines.specs.document.Judged.{digitTable}
+use Rattle.listing_text.specs.Theorems.{piece-within}
 use Rattle.listing.proofs.list.Statement.{statement}
 use Rattle.listing.proofs.list.Tie as tie
 

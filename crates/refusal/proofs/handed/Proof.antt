@@ -1,7 +1,7 @@
 -- `refusal::handed` meets its contract. Assumes nothing.
 use mathlib.Core.Path.{sym, ap}
 use borrow.Author.Needs.{needs}
-use Rattle.refusal.specs.Outcome.{checked}
+use Rattle.refusal.specs.Checks.{checked}
 use Rattle.refusal.proofs.handed.Statement.{statement}
 use Rattle.refusal.proofs.handed.Tie as tie
 

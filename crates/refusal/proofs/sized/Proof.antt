@@ -2,7 +2,7 @@
 use mathlib.Core.Path.{refl}
 use mathlib.Core.Logic.{inl, inr}
 use native.Mathlib.Omega.{arith}
-use Rattle.refusal.specs.Table.{passes, fails}
+use Rattle.refusal.specs.Checks.{passes, fails}
 use Rattle.refusal.specs.Laws.{first-place, size-clear}
 use Rattle.refusal.proofs.sized.Statement.{statement}
 use Rattle.refusal.proofs.sized.Tie as tie

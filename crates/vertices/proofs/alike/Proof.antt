@@ -4,8 +4,8 @@ use native.Mathlib.Omega.{arith}
 use denote.Ref.{now}
 use lib.ListN.{length, getD}
 use borrow.Author.Needs.{needs}
-use Rattle.code.specs.Code.{plain}
-use Rattle.code.specs.Parts.{Ending}
+use Rattle.digit_code.specs.document.Code.{plain}
+use Rattle.digit_code.specs.Parts.{Ending}
 use Rattle.vertices.proofs.Telling.{depths-differ, lengths-differ, codes-differ, codes-agree, less-apart, greater-apart}
 use Rattle.vertices.proofs.alike.Statement.{statement}
 use Rattle.vertices.proofs.alike.Tie as tie

@@ -6,9 +6,9 @@ use Prim.Native.Nat.{ℕ, max, _-_, _≤_}
 use native.Mathlib.Omega.{arith}
 use denote.Ref.{now}
 use lib.ListN.{length}
-use Rattle.laws.specs.Laid.{Laid}
-use Rattle.code.specs.Code.{plain}
-use Rattle.code.specs.Search.{Known}
+use Rattle.laws.specs.document.Laid.{Laid}
+use Rattle.digit_code.specs.document.Code.{plain}
+use Rattle.digit_code.specs.Search.{Known}
 use Rattle.vertices.specs.Classes.{alike?, classes}
 use Rattle.vertices.specs.Search.{Deep}
 use Rattle.vertices.proofs.Writing.{Writing, writing-none, writing-length, writing-low, writing-next, writing-all}

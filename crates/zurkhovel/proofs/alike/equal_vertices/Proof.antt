@@ -3,12 +3,12 @@ use mathlib.Core.Path.{refl, _∙_}
 use native.Mathlib.Omega.{arith}
 use denote.Ref.{now}
 use borrow.Author.Needs.{needs}
-use Rattle.refusal.specs.Table.{Clear}
+use Rattle.refusal.specs.document.Table.{Clear}
 use Rattle.refusal.specs.Laws.{was-clear, was-refused, at-most}
 use Rattle.refusal.specs.Giving.{refused-first, written-length}
-use Rattle.limits.specs.Limits.{size, valence}
-use Rattle.skeleton.specs.Edges.{edgeRows}
-use Rattle.vertices.specs.Vertices.{ClassesOf}
+use Rattle.limits.specs.document.Limits.{size, valence}
+use Rattle.edge_list.specs.document.Edges.{edgeRows}
+use Rattle.vertices.specs.document.Vertices.{ClassesOf}
 use Rattle.vertices.specs.Classes.{classes}
 use Rattle.vertices.specs.Theorems.{classes-numbered}
 use Rattle.zurkhovel.specs.Accepted.{skeleton-of, tabled}

@@ -2,8 +2,8 @@
 use mathlib.Core.Path.{refl, sym}
 use native.Mathlib.Omega.{arith}
 use borrow.Author.Needs.{needs}
-use Rattle.refusal.specs.Table.{left}
-use Rattle.fraction.specs.Fraction.{IsFraction}
+use Rattle.refusal.specs.document.Table.{left}
+use Rattle.fraction.specs.document.Fraction.{IsFraction}
 use Rattle.zurkhovel.proofs.Rooted.{digits-length, digits-within, digits-coded, value-given}
 use Rattle.zurkhovel.proofs.bit_tuple.fraction.Statement.{statement}
 use Rattle.zurkhovel.proofs.bit_tuple.fraction.Tie as tie

@@ -2,8 +2,8 @@
 use mathlib.Core.Path.{refl, sym}
 use native.Mathlib.Omega.{arith}
 use borrow.Author.Needs.{needs}
-use Rattle.refusal.specs.Table.{left}
-use Rattle.bits.specs.Written.{Numbers}
+use Rattle.refusal.specs.document.Table.{left}
+use Rattle.bits.specs.document.Written.{Numbers}
 use Rattle.zurkhovel.proofs.Rooted.{digits-length, digits-within, digits-coded, value-given}
 use Rattle.zurkhovel.proofs.bit_tuple.whole.Statement.{statement}
 use Rattle.zurkhovel.proofs.bit_tuple.whole.Tie as tie

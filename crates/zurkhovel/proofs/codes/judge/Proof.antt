@@ -1,7 +1,7 @@
 -- `zurkhovel::codes::judge` keeps its promise. Assumes nothing.
 use mathlib.Core.Path.{sym, _∙_}
 use borrow.Author.Needs.{needs}
-use Rattle.code.specs.Compare.{told-equal, told-less, told-greater}
+use Rattle.digit_code.specs.Compare.{told-equal, told-less, told-greater}
 use Rattle.refusal.specs.Giving.{written-room, written-length}
 use Rattle.zurkhovel.specs.Accepted.{skeleton-of, tabled}
 use Rattle.zurkhovel.proofs.Verdicts.{verdict-sizes, verdict-same, verdict-different}

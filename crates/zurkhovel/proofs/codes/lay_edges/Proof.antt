@@ -3,8 +3,8 @@ use mathlib.Core.Path.{refl}
 use denote.Ref.{now}
 use borrow.Author.Needs.{needs}
 use Rattle.refusal.specs.Laws.{at-least}
-use Rattle.limits.specs.Limits.{size, valence}
-use Rattle.code.specs.Right.{clear-right}
+use Rattle.limits.specs.document.Limits.{size, valence}
+use Rattle.digit_code.specs.Right.{clear-right}
 use Rattle.zurkhovel.proofs.Decoded.{edges-short, edges-room, edges-given}
 use Rattle.zurkhovel.proofs.codes.lay_edges.Statement.{statement}
 use Rattle.zurkhovel.proofs.codes.lay_edges.Tie as tie

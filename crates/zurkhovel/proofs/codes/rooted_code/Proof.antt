@@ -2,11 +2,11 @@
 use mathlib.Core.Path.{refl}
 use denote.Ref.{now}
 use borrow.Author.Needs.{needs}
-use Rattle.refusal.specs.Table.{Clear}
+use Rattle.refusal.specs.document.Table.{Clear}
 use Rattle.refusal.specs.Laws.{was-clear, was-refused}
 use Rattle.refusal.specs.Giving.{refused-first}
-use Rattle.limits.specs.Limits.{size, valence}
-use Rattle.skeleton.specs.Edges.{edgeRows}
+use Rattle.limits.specs.document.Limits.{size, valence}
+use Rattle.edge_list.specs.document.Edges.{edgeRows}
 use Rattle.zurkhovel.specs.Accepted.{skeleton-of, tabled, root-of}
 use Rattle.zurkhovel.proofs.Coded.{rooted-short, rooted-given}
 use Rattle.zurkhovel.proofs.codes.rooted_code.Statement.{statement}

@@ -2,10 +2,10 @@
 use mathlib.Core.Path.{refl}
 use denote.Ref.{now}
 use borrow.Author.Needs.{needs}
-use Rattle.refusal.specs.Table.{Clear, kept, left}
+use Rattle.refusal.specs.document.Table.{Clear, kept, left}
 use Rattle.refusal.specs.Laws.{was-clear, was-refused}
-use Rattle.limits.specs.Limits.{valence, aSize}
-use Rattle.skeleton.specs.Edges.{edgeRows}
+use Rattle.limits.specs.document.Limits.{valence, aSize}
+use Rattle.edge_list.specs.document.Edges.{edgeRows}
 use Rattle.zurkhovel.specs.Accepted.{skeleton-of, tabled}
 use Rattle.zurkhovel.proofs.matrix.a_zero.Statement.{statement}
 use Rattle.zurkhovel.proofs.matrix.a_zero.Tie as tie

@@ -3,9 +3,9 @@ use mathlib.Core.Path.{refl, sym}
 use native.Mathlib.Omega.{arith}
 use denote.Ref.{now}
 use borrow.Author.Needs.{needs}
-use Rattle.refusal.specs.Table.{kept, left}
+use Rattle.refusal.specs.document.Table.{kept, left}
 use Rattle.refusal.specs.Laws.{at-least, at-most}
-use Rattle.limits.specs.Limits.{aSize}
+use Rattle.limits.specs.document.Limits.{aSize}
 use Rattle.zurkhovel.specs.Accepted.{tabled}
 use Rattle.zurkhovel.specs.Rooting.{ListedByCode}
 use Rattle.zurkhovel.proofs.Numbered.{ends-within, ends-length, ends-skeleton, made-by-code}

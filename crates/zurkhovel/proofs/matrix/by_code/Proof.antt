@@ -2,12 +2,12 @@
 use native.Mathlib.Omega.{arith}
 use denote.Ref.{now}
 use borrow.Author.Needs.{needs}
-use Rattle.refusal.specs.Table.{Clear}
+use Rattle.refusal.specs.document.Table.{Clear}
 use Rattle.refusal.specs.Laws.{was-clear, was-refused}
 use Rattle.refusal.specs.Giving.{written-room, written-length}
-use Rattle.limits.specs.Limits.{size, valence}
-use Rattle.tree.specs.Skeleton.{IsSkeleton}
-use Rattle.skeleton.specs.Edges.{edgeRows}
+use Rattle.limits.specs.document.Limits.{size, valence}
+use Rattle.skeleton.specs.document.Skeleton.{IsSkeleton}
+use Rattle.edge_list.specs.document.Edges.{edgeRows}
 use Rattle.zurkhovel.specs.Accepted.{skeleton-of, wider, tabled}
 use Rattle.zurkhovel.proofs.Derived.{right-code}
 use Rattle.zurkhovel.proofs.Numbered.{code-bytes, code-written}

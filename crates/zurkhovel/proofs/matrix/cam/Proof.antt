@@ -3,13 +3,13 @@ use mathlib.Core.Path.{refl}
 use native.Mathlib.Omega.{arith}
 use denote.Ref.{now}
 use borrow.Author.Needs.{needs}
-use Rattle.refusal.specs.Table.{Clear}
+use Rattle.refusal.specs.document.Table.{Clear}
 use Rattle.refusal.specs.Laws.{was-clear, was-refused, at-least}
 use Rattle.refusal.specs.Giving.{refused-first}
-use Rattle.limits.specs.Limits.{size}
+use Rattle.limits.specs.document.Limits.{size}
 use Rattle.adjacency.specs.Plain.{numbered}
 use Rattle.adjacency.specs.Coded.{cam-length}
-use Rattle.zurkhovel.specs.Matrix.{physicalRows}
+use Rattle.zurkhovel.specs.document.Matrix.{physicalRows}
 use Rattle.zurkhovel.proofs.Made.{known-short, known-given}
 use Rattle.zurkhovel.specs.RoundMatrix.{physical-exactly}
 use Rattle.zurkhovel.proofs.matrix.cam.Statement.{statement}

@@ -5,7 +5,7 @@ use denote.Ref.{now}
 use borrow.Author.Needs.{needs}
 use Rattle.refusal.specs.Laws.{at-least, at-most}
 use Rattle.refusal.specs.Giving.{refused-first}
-use Rattle.limits.specs.Limits.{size}
+use Rattle.limits.specs.document.Limits.{size}
 use Rattle.adjacency.specs.Plain.{numbered}
 use Rattle.zurkhovel.specs.Rooting.{ListedByCode}
 use Rattle.zurkhovel.proofs.Numbered.{ends-within, ends-length, ends-skeleton, ends-physical, cam-short, cam-given}

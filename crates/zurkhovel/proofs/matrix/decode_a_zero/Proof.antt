@@ -2,11 +2,11 @@
 use mathlib.Core.Path.{refl}
 use native.Mathlib.Omega.{arith}
 use borrow.Author.Needs.{needs}
-use Rattle.refusal.specs.Table.{Clear}
+use Rattle.refusal.specs.document.Table.{Clear}
 use Rattle.refusal.specs.Laws.{was-clear, was-refused, at-least, at-most}
 use Rattle.refusal.specs.Giving.{refused-first}
-use Rattle.limits.specs.Limits.{valence, aSize}
-use Rattle.adjacency.specs.Adjacency.{aRows}
+use Rattle.limits.specs.document.Limits.{valence, aSize}
+use Rattle.adjacency.specs.document.Adjacency.{aRows}
 use Rattle.zurkhovel.proofs.Made.{a-bytes, known-short, known-given}
 use Rattle.zurkhovel.proofs.matrix.decode_a_zero.Statement.{statement}
 use Rattle.zurkhovel.proofs.matrix.decode_a_zero.Tie as tie

@@ -3,11 +3,11 @@ use mathlib.Core.Path.{refl}
 use native.Mathlib.Omega.{arith}
 use denote.Ref.{now}
 use borrow.Author.Needs.{needs}
-use Rattle.refusal.specs.Table.{Clear}
+use Rattle.refusal.specs.document.Table.{Clear}
 use Rattle.refusal.specs.Laws.{was-clear, was-refused, at-least, at-most}
 use Rattle.refusal.specs.Giving.{refused-first}
-use Rattle.limits.specs.Limits.{size, valence}
-use Rattle.adjacency.specs.Adjacency.{camRows}
+use Rattle.limits.specs.document.Limits.{size, valence}
+use Rattle.adjacency.specs.document.Adjacency.{camRows}
 use Rattle.adjacency.specs.Made.{long}
 use Rattle.zurkhovel.proofs.Behind.{behind-same}
 use Rattle.zurkhovel.proofs.matrix.decode_cam.Statement.{statement}

@@ -6,11 +6,11 @@ use lib.ListN.{length, take, replicate}
 use borrow.Author.Needs.{needs}
 use Rattle.laws.specs.Laid.{laid-length}
 use Rattle.laws.specs.Laying.{laid-front}
-use Rattle.refusal.specs.Table.{Clear}
+use Rattle.refusal.specs.document.Table.{Clear}
 use Rattle.refusal.specs.Laws.{was-clear, was-refused, at-least, at-most}
 use Rattle.refusal.specs.Giving.{refused-first}
-use Rattle.limits.specs.Limits.{valence, zeroSize}
-use Rattle.adjacency.specs.Adjacency.{zeroCam, zeroRows}
+use Rattle.limits.specs.document.Limits.{valence, zeroSize}
+use Rattle.adjacency.specs.document.Adjacency.{zeroCam, zeroRows}
 use Rattle.adjacency.specs.Zero.{zero-length}
 use Rattle.zurkhovel.proofs.Behind.{behind-same}
 use Rattle.zurkhovel.proofs.matrix.decode_zero_a.Statement.{statement}

@@ -2,10 +2,10 @@
 use mathlib.Core.Path.{refl}
 use denote.Ref.{now}
 use borrow.Author.Needs.{needs}
-use Rattle.refusal.specs.Table.{Clear, kept, left}
+use Rattle.refusal.specs.document.Table.{Clear, kept, left}
 use Rattle.refusal.specs.Laws.{was-clear, was-refused}
-use Rattle.limits.specs.Limits.{zeroSize}
-use Rattle.zurkhovel.specs.Matrix.{physicalRows}
+use Rattle.limits.specs.document.Limits.{zeroSize}
+use Rattle.zurkhovel.specs.document.Matrix.{physicalRows}
 use Rattle.zurkhovel.specs.RoundMatrix.{physical-exactly}
 use Rattle.zurkhovel.proofs.matrix.zero_a.Statement.{statement}
 use Rattle.zurkhovel.proofs.matrix.zero_a.Tie as tie

@@ -6,7 +6,7 @@ use lib.ListN.{length, take}
 use denote.Ref.{now}
 use borrow.Author.Needs.{needs}
 use Rattle.laws.specs.Laying.{laid-front}
-use Rattle.adjacency.specs.Adjacency.{cam}
+use Rattle.adjacency.specs.document.Adjacency.{cam}
 use Rattle.adjacency.specs.Plain.{plain, numbered}
 use Rattle.adjacency.specs.Coded.{cam-entries, cam-length}
 use Rattle.zurkhovel.proofs.matrix.zero_of.Statement.{statement}

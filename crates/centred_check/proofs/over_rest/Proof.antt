@@ -1,0 +1,61 @@
+-- `fast::over_rest` meets its contract: the first digits decide, or what is behind them. Assumes nothing.
+use mathlib.Core.Path.{_≡_, sym, _∙_}
+use Prim.Native.Nat.{_-_, _≤_}
+use native.Mathlib.Omega.{arith}
+use denote.Ref.{now}
+use lib.ListN.{getD}
+use borrow.Author.Needs.{needs}
+use Rattle.digit_code.specs.Compare.{less-rises, equal-falls, greater-falls}
+use Rattle.centred_check.specs.Middle.{fewer}
+use Rattle.centred_check.specs.Kinds.{kinds, fewer-is, unit-fits}
+use Rattle.centred_check.specs.Over.{rest-not, rest-so, rest-by}
+use Rattle.centred_check.proofs.over_rest.Statement.{statement}
+use Rattle.centred_check.proofs.over_rest.Tie as tie
+
+abbrev start : tie.After-step → tie.Start
+start c = c .before .before .before
+
+some : (c : tie.Start) → 1 ≤ kinds (c .args .named) .arity (getD (now (c .args .code)) 0 0)
+some c = c .pre .1 .1 .1 .1
+
+-- the mark of the root without one child
+left-is : (c : tie.After-step) → fewer (kinds (start c .args .named)) (getD (now (start c .args .code)) 0 0) ≡ getD (now (start c .args .code)) 0 0 - c .step .result
+left-is c =
+    let s = start c in
+    omega (arith, c .step .ensures, fewer-is (s .args .named) (getD (now (s .args .code)) 0 0) (some s))
+
+pub over-rest-spec : {M : Type 1} → statement M
+over-rest-spec =
+    tie.close
+    (tie.spec
+    (λ c. search needs)
+    (λ c κs. search needs)
+    (λ c. let s = start c in omega (arith, c .step .ensures, unit-fits (s .args .named) (getD (now (s .args .code)) 0 0) (some s)))
+    (λ c. search needs)
+    (λ c. search needs)
+    (λ c. let t = c .before .before in let a = start t .args in rest-not (kinds (a .named)) (now (a .code)) (a .x) (a .y) (a .e) (omega arith) (omega arith) (omega arith) (omega arith) (omega (arith, left-is t)))
+    (λ c. let t = c .before .before .before in let a = start t .args in rest-so (kinds (a .named)) (now (a .code)) (a .x) (a .y) (a .e) (omega arith) (omega arith) (omega arith) (omega arith) (omega (arith, left-is t)))
+    (λ c. search needs)
+    (λ c. search needs)
+    (λ c. search needs)
+    (λ c. search needs)
+    (λ c. search needs)
+    (λ c. search needs)
+    (λ c. search needs)
+    (λ c. search needs)
+    (λ c. search needs)
+    (λ c. search needs)
+    (λ c. search needs)
+    (λ c. search needs)
+    (λ c. search needs)
+    (λ c. search needs)
+    (λ c κs. search needs)
+    (λ c. search needs)
+    (λ c. search needs)
+    (λ c. search needs)
+    (λ c. let t = c .before .before .before .before .before .before .before .before .before .before in let a = start t .args in
+    rest-by (kinds (a .named)) (now (a .code)) (a .x) (a .y) (a .e) (omega (arith, start t .pre)) (omega (arith, start t .pre)) (omega (arith, start t .pre)) (omega (arith, start t .pre)) (omega (arith, left-is t)) (less-rises _ _ (sym (c .before .before .compare-three .ensures) ∙ c .enum-told .given .1)))
+    (λ c. let t = c .before .before .before .before .before .before .before .before .before .before in let a = start t .args in
+    rest-by (kinds (a .named)) (now (a .code)) (a .x) (a .y) (a .e) (omega (arith, start t .pre)) (omega (arith, start t .pre)) (omega (arith, start t .pre)) (omega (arith, start t .pre)) (omega (arith, left-is t)) (equal-falls _ _ (sym (c .before .before .compare-three .ensures) ∙ c .enum-told2 .given .1)))
+    (λ c. let t = c .before .before .before .before .before .before .before .before .before .before in let a = start t .args in
+    rest-by (kinds (a .named)) (now (a .code)) (a .x) (a .y) (a .e) (omega (arith, start t .pre)) (omega (arith, start t .pre)) (omega (arith, start t .pre)) (omega (arith, start t .pre)) (omega (arith, left-is t)) (greater-falls _ _ (sym (c .before .before .compare-three .ensures) ∙ c .enum-told3 .given .1))))

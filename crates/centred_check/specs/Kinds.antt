@@ -1,0 +1,55 @@
+-- The marks of the programs, by kind: plain, where a digit is the mark, or with named atoms. In order: marks, the limit of neighbours that a
+-- mark tells, and how far marks with one child more stand apart; then that the program's arithmetic is theirs. Assumes nothing.
+use mathlib.Core.Path.{_≡_, refl}
+use mathlib.Core.Bool.{Bool, true, false}
+use Prim.Native.Nat.{ℕ, _+_, _-_, _%_, _≤_}
+use native.Mathlib.Omega.{arith}
+use Rattle.skeleton.specs.Label.{Marks}
+use Rattle.skeleton.specs.Base.{base}
+use Rattle.skeleton.specs.Atoms.{Atom, C, N, O, rank, named, bonds, atoms, rank-named}
+use Rattle.centred_check.specs.Middle.{more, fewer}
+
+abbrev pub kinds : Bool → Marks
+kinds false = base
+kinds true = atoms
+
+-- R is the limit where the marks are plain
+abbrev pub limits : Bool → ℕ → ℕ → ℕ
+limits false R m = R
+limits true R m = bonds (named (m % 3))
+
+-- between a mark and that of one child more
+abbrev pub unit : Bool → ℕ
+unit false = 1
+unit true = 3
+
+bonds-rank : (a : Atom) → bonds a ≡ 4 - rank a
+bonds-rank C = refl
+bonds-rank N = refl
+bonds-rank O = refl
+
+bonds-are : (m : ℕ) → 4 - m % 3 ≡ bonds (named (m % 3))
+bonds-are m = omega (arith, bonds-rank (named (m % 3)), rank-named (m % 3) (omega arith))
+
+pub limits-named : {b : Bool} (R m : ℕ) → b ≡ true → 4 - m % 3 ≡ limits b R m
+limits-named R m e = rw e (bonds-are m)
+
+pub limits-plain : {b : Bool} (R m : ℕ) → b ≡ false → R ≡ limits b R m
+limits-plain R m e = rw e refl
+
+pub limits-some : (b : Bool) (R m : ℕ) → 1 ≤ R → 1 ≤ limits b R m
+limits-some false R m h = h
+limits-some true R m h = omega (arith, bonds-are m)
+
+pub more-is : (b : Bool) (m : ℕ) → more (kinds b) m ≡ m + unit b
+more-is false m = omega arith
+more-is true m = omega (arith, atoms .mark-of m)
+
+pub fewer-is : (b : Bool) (m : ℕ) → 1 ≤ kinds b .arity m → fewer (kinds b) m ≡ m - unit b
+fewer-is false m h = refl
+fewer-is true m h = omega (arith, atoms .mark-of m)
+
+-- a mark that tells of a child is not below the unit
+pub unit-fits : (b : Bool) (m : ℕ) → 1 ≤ kinds b .arity m → unit b ≤ m
+unit-fits false m h = h
+unit-fits true m h = omega arith

@@ -1,0 +1,410 @@
+// Whether a right rooted code is a centred one, tested on its marks alone: nothing is decoded, sorted or copied. The test is `Middle` of
+// specs/Middle.antt, and specs/Theorems.antt proves that it is document 01's definition. `ds` are the digits that the marks `code` tell; a
+// plain code's marks are its digits, and one slice is lent as both.
+use digit_code::Order;
+use digit_code::compare;
+use limits::SIZE;
+use refusal::Check;
+ghost use mathlib.Core.Path.{_≡_};
+ghost use mathlib.Core.List.{[], _∷_, _++_};
+ghost use Prim.Native.Nat.{suc, _-_, _≤_, _<_};
+ghost use lib.ListN.{length, getD, drop};
+ghost use Rattle.laws.specs.Part.{part};
+ghost use Rattle.refusal.specs.document.Table.{Clear};
+ghost use Rattle.refusal.specs.Checks.{Answers};
+ghost use Rattle.limits.specs.document.Limits.{size};
+ghost use Rattle.digit_code.specs.document.Code.{plain, digits, codes, codeRows};
+ghost use Rattle.digit_code.specs.Ends.{Ends};
+ghost use Rattle.digit_code.specs.Ordered.{Ordered};
+ghost use Rattle.digit_code.specs.Right.{Rightₗ};
+ghost use Rattle.digit_code.specs.Compare.{lex, Falls};
+ghost use Rattle.form.specs.document.Form.{centred, row14-form, formRows};
+ghost use Rattle.form.specs.Labelled.{centredₗ, row14ₗ};
+ghost use Rattle.centred_check.specs.Kinds.{kinds, limits, unit};
+ghost use Rattle.centred_check.specs.Middle.{top, rest, turned, branch, Middle};
+ghost use Rattle.centred_check.specs.Skip.{Skips};
+ghost use Rattle.centred_check.specs.Stack.{Branches};
+ghost use Rattle.centred_check.specs.Placed.{Placed, Joins};
+ghost use Rattle.centred_check.specs.Scan.{Scan, Scanned};
+ghost use Rattle.centred_check.specs.Race.{Tells};
+ghost use Rattle.centred_check.specs.Spot.{Spot};
+
+// Places for where the trees on a stack begin, and where the digits end; above each place of the stack.
+const STARTS: usize = SIZE + 1;
+
+// Atoms that a mark can name, and the neighbours that the first of them may have.
+const ATOMS: u8 = 3;
+
+const BONDS: u8 = 4;
+
+// How many neighbours the vertex of mark m may have.
+fn most(named: bool, limit: u8, m: u8) -> u8
+    ensures { λ r. ⌜ r ≡ limits named limit m ⌝ }
+{
+    if named { BONDS - m % ATOMS } else { limit }
+}
+
+// How far the mark of a vertex with one child more is from a mark.
+fn step(named: bool) -> u8
+    ensures { λ r. ⌜ r ≡ unit named ⌝ }
+{
+    if named { ATOMS } else { 1 }
+}
+
+// Where the codes that begin at digit `from` end, so many of them. `open` counts the places that are still to be filled.
+fn skip(ds: &[u8], from: usize, many: usize) -> usize
+    requires { ⌜ Ends 1 (now ds) ⌝ }
+    requires { ⌜ from ≤ length (now ds) ⌝ }
+    requires { ⌜ many ≤ length (codes plain (drop from (now ds))) ⌝ }
+    ensures { λ r. ⌜ Skips plain (now (ds .entry)) from many r ⌝ }
+{
+    let mut open = many;
+    let mut i = from;
+    while 0 < open {
+        open = open - 1 + ds[i] as usize;
+        i += 1;
+    }
+    i
+}
+
+// Whether the code from a to b stands at or after the one from b to e.
+fn falls_at(code: &[u8], a: usize, b: usize, e: usize) -> bool
+    requires { ⌜ a < b ⌝ }
+    requires { ⌜ b < e ⌝ }
+    requires { ⌜ e ≤ length (now code) ⌝ }
+    ensures { λ r. ⌜ Falls (part a b (now (code .entry))) (part b e (now (code .entry))) r ⌝ }
+{
+    let x = code[a];
+    let y = code[b];
+    if y < x {
+        return true;
+    }
+    if x < y {
+        return false;
+    }
+    digit_code::falls(&code[a + 1..b], &code[b + 1..e])
+}
+
+// How tall a mark's tree is whose children are the trees from `at` to `end`; 0 where one of them is larger than the one before it.
+fn joined(named: bool, code: &[u8], hs: &[u8], starts: &[u8], at: usize, end: usize) -> u8
+    requires { ⌜ Placed (kinds named .arity) (now code) (now starts) (getD (now starts) at 0) at ⌝ }
+    requires { ⌜ at ≤ end ⌝ }
+    requires { ⌜ end ≤ size ⌝ }
+    requires { ⌜ length (now hs) ≡ size ⌝ }
+    requires { ⌜ top (part at end (now hs)) ≤ size ⌝ }
+    ensures { λ r. ⌜ Joins (kinds named .arity) (now (code .entry)) (now (hs .entry)) (getD (now (starts .entry)) at 0) at end r ⌝ }
+{
+    if end <= at {
+        return 1;
+    }
+    let mut j = end - 1;
+    let mut best = hs[j];
+    while at < j {
+        let e = starts[j + 1] as usize;
+        let b = starts[j] as usize;
+        j -= 1;
+        let a = starts[j] as usize;
+        if !falls_at(code, a, b, e) {
+            return 0;
+        }
+        let h = hs[j];
+        if best < h {
+            best = h;
+        }
+    }
+    best + 1
+}
+
+// Whether the marks are a right code, where all but the root's are read.
+fn rooted(
+    named: bool,
+    limit: u8,
+    ds: &[u8],
+    code: &[u8],
+    hs: &[u8],
+    starts: &[u8],
+    at: usize,
+) -> bool
+    requires { ⌜ now ds ≡ digits (kinds named .arity) (now code) ⌝ }
+    requires { ⌜ Scan (kinds named) (limits named limit) (now code) (now hs) (now starts) 1 at ⌝ }
+    requires { ⌜ length (now code) ≤ size ⌝ }
+    ensures { λ r. ⌜ Tells (Rightₗ (kinds named .arity) (limits named limit) size (now (code .entry))) r ⌝ }
+{
+    let k = ds[0];
+    if most(named, limit, code[0]) < k {
+        return false;
+    }
+    if at + k as usize != SIZE {
+        return false;
+    }
+    if joined(named, code, hs, starts, at, SIZE) == 0 {
+        return false;
+    }
+    true
+}
+
+// Reads the marks from the last to the first. The trees behind a mark stand on a stack that grows down from the end of `hs` and `starts`:
+// how tall each is, and where it begins. The result is where the root's branches stand, above SIZE where the marks are no right code.
+fn scan(named: bool, limit: u8, ds: &[u8], code: &[u8], hs: &mut [u8], starts: &mut [u8]) -> usize
+    requires { ⌜ now ds ≡ digits (kinds named .arity) (now code) ⌝ }
+    requires { ⌜ 1 ≤ limit ⌝ }
+    requires { ⌜ length (now hs) ≡ size ⌝ }
+    requires { ⌜ length (now starts) ≡ suc size ⌝ }
+    ensures { λ r. ⌜ Scanned (kinds named) (limits named limit) (now (code .entry)) (now (hs .exit)) r ⌝ }
+{
+    let n = code.len();
+    if n == 0 {
+        return STARTS;
+    }
+    if SIZE < n {
+        return STARTS;
+    }
+    starts[SIZE] = n as u8;
+    let mut i = n;
+    let mut at = SIZE;
+    while 1 < i {
+        i -= 1;
+        let k = ds[i];
+        if most(named, limit, code[i]) <= k {
+            return STARTS;
+        }
+        let end = at + k as usize;
+        if SIZE < end {
+            return STARTS;
+        }
+        let h = joined(named, code, hs, starts, at, end);
+        if h == 0 {
+            return STARTS;
+        }
+        at = end - 1;
+        hs[at] = h;
+        starts[at] = i as u8;
+    }
+    if !rooted(named, limit, ds, code, hs, starts, at) {
+        return STARTS;
+    }
+    at
+}
+
+// A code against one that lies in two parts.
+fn compare_two(u: &[u8], a: &[u8], b: &[u8]) -> Order
+    ensures { λ r. ⌜ r ≡ lex (now (u .entry)) (now (a .entry) ++ now (b .entry)) ⌝ }
+{
+    let n = a.len();
+    if u.len() < n {
+        return compare(u, a);
+    }
+    match compare(&u[..n], a) {
+        Order::Less => Order::Less,
+        Order::Equal => compare(&u[n..], b),
+        Order::Greater => Order::Greater,
+    }
+}
+
+// A code against one that lies in three parts.
+fn compare_three(u: &[u8], a: &[u8], b: &[u8], d: &[u8]) -> Order
+    ensures { λ r. ⌜ r ≡ lex (now (u .entry)) (now (a .entry) ++ (now (b .entry) ++ now (d .entry))) ⌝ }
+{
+    let n = a.len();
+    if u.len() < n {
+        return compare(u, a);
+    }
+    match compare(&u[..n], a) {
+        Order::Less => Order::Less,
+        Order::Equal => compare_two(&u[n..], b, d),
+        Order::Greater => Order::Greater,
+    }
+}
+
+// Whether what is left where the branch from x to e is taken off stands at or after the code from y to z.
+fn covers(named: bool, code: &[u8], x: usize, e: usize, y: usize, z: usize) -> bool
+    requires { ⌜ 1 ≤ x ⌝ }
+    requires { ⌜ x < y ⌝ }
+    requires { ⌜ y < z ⌝ }
+    requires { ⌜ z ≤ length (now code) ⌝ }
+    requires { ⌜ e ≤ length (now code) ⌝ }
+    requires { ⌜ 1 ≤ kinds named .arity (getD (now code) 0 0) ⌝ }
+    ensures { λ r. ⌜ Falls (rest (kinds named) (now (code .entry)) x e) (part y z (now (code .entry))) r ⌝ }
+{
+    let left = code[0] - step(named);
+    let child = code[y];
+    if left < child {
+        return false;
+    }
+    if child < left {
+        return true;
+    }
+    match compare_two(&code[y + 1..z], &code[1..x], &code[e..]) {
+        Order::Less => true,
+        Order::Equal => true,
+        Order::Greater => false,
+    }
+}
+
+// Where what is left is put among the children of x: before the first that it stands at or after.
+fn spot(named: bool, ds: &[u8], code: &[u8], x: usize, e: usize) -> usize
+    requires { ⌜ now ds ≡ digits (kinds named .arity) (now code) ⌝ }
+    requires { ⌜ Ends 1 (now ds) ⌝ }
+    requires { ⌜ 1 ≤ x ⌝ }
+    requires { ⌜ x < length (now code) ⌝ }
+    requires { ⌜ Skips (kinds named .arity) (now code) x 1 e ⌝ }
+    requires { ⌜ 1 ≤ kinds named .arity (getD (now code) 0 0) ⌝ }
+    ensures { λ r. ⌜ Spot (kinds named) (now (code .entry)) x e r ⌝ }
+{
+    let k = ds[x];
+    let mut y = x + 1;
+    let mut m = 0;
+    while m < k {
+        let z = skip(ds, y, 1);
+        if covers(named, code, x, e, y, z) {
+            return y;
+        }
+        y = z;
+        m += 1;
+    }
+    y
+}
+
+// Whether the marks from y - x on stand at or after what is left, with the children from y to e behind it.
+fn over_rest(named: bool, code: &[u8], x: usize, y: usize, e: usize) -> bool
+    requires { ⌜ 1 ≤ x ⌝ }
+    requires { ⌜ x < y ⌝ }
+    requires { ⌜ y ≤ e ⌝ }
+    requires { ⌜ e ≤ length (now code) ⌝ }
+    requires { ⌜ 1 ≤ kinds named .arity (getD (now code) 0 0) ⌝ }
+    ensures { λ r. ⌜ Falls (drop (y - x) (now (code .entry))) (rest (kinds named) (now (code .entry)) x e ++ part y e (now (code .entry))) r ⌝ }
+{
+    let left = code[0] - step(named);
+    let here = code[y - x];
+    if here < left {
+        return false;
+    }
+    if left < here {
+        return true;
+    }
+    match compare_three(&code[y - x + 1..], &code[1..x], &code[e..], &code[y..e]) {
+        Order::Less => false,
+        Order::Equal => true,
+        Order::Greater => true,
+    }
+}
+
+// Whether the marks behind the root stand at or after those behind x in the code at x.
+fn over(named: bool, code: &[u8], x: usize, y: usize, e: usize) -> bool
+    requires { ⌜ 1 ≤ x ⌝ }
+    requires { ⌜ x < y ⌝ }
+    requires { ⌜ y ≤ e ⌝ }
+    requires { ⌜ e ≤ length (now code) ⌝ }
+    requires { ⌜ 1 ≤ kinds named .arity (getD (now code) 0 0) ⌝ }
+    ensures { λ r. ⌜ Falls (drop 1 (now (code .entry))) (part (suc x) y (now (code .entry)) ++ (rest (kinds named) (now (code .entry)) x e ++ part y e (now (code .entry)))) r ⌝ }
+{
+    match compare(&code[1..y - x], &code[x + 1..y]) {
+        Order::Less => false,
+        Order::Equal => over_rest(named, code, x, y, e),
+        Order::Greater => true,
+    }
+}
+
+// Whether the code is not smaller than the one at the root of branch p.
+fn above(named: bool, ds: &[u8], code: &[u8], p: usize) -> bool
+    requires { ⌜ now ds ≡ digits (kinds named .arity) (now code) ⌝ }
+    requires { ⌜ Ends 1 (now ds) ⌝ }
+    requires { ⌜ p < length (codes (kinds named .arity) (drop 1 (now code))) ⌝ }
+    ensures { λ r. ⌜ Falls (now (code .entry)) (turned (kinds named) (now (code .entry)) (branch (kinds named) (now (code .entry)) p) (branch (kinds named) (now (code .entry)) (suc p))) r ⌝ }
+{
+    let x = skip(ds, 1, p);
+    let left = code[0] - step(named);
+    let there = code[x];
+    if left < there {
+        return false;
+    }
+    if there < left {
+        return true;
+    }
+    let e = skip(ds, x, 1);
+    let y = spot(named, ds, code, x, e);
+    over(named, code, x, y, e)
+}
+
+// Whether the root is in the centre with no larger code there: by its two tallest branches, whose heights stand from `from` on.
+fn middle(named: bool, ds: &[u8], code: &[u8], hs: &[u8], from: usize) -> bool
+    requires { ⌜ now ds ≡ digits (kinds named .arity) (now code) ⌝ }
+    requires { ⌜ Ends 1 (now ds) ⌝ }
+    requires { ⌜ Branches (kinds named) (now code) (now hs) from ⌝ }
+    ensures { λ r. ⌜ Tells (Middle (kinds named) (now (code .entry))) r ⌝ }
+{
+    let mut first = 0;
+    let mut next = 0;
+    let mut at = hs.len();
+    let mut j = hs.len();
+    while from < j {
+        j -= 1;
+        let h = hs[j];
+        if h < first {
+            if next < h {
+                next = h;
+            }
+        } else {
+            next = first;
+            first = h;
+            at = j;
+        }
+    }
+    if first == next {
+        return true;
+    }
+    if first - 1 != next {
+        return false;
+    }
+    above(named, ds, code, at - from)
+}
+
+// 14: a right code, whose branches' heights stand from `from` on, that is not the centred one.
+fn judged(named: bool, ds: &[u8], code: &[u8], hs: &[u8], from: usize) -> Check
+    requires { ⌜ now ds ≡ digits (kinds named .arity) (now code) ⌝ }
+    requires { ⌜ Ends 1 (now ds) ⌝ }
+    requires { ⌜ Ordered (kinds named .arity) (now code) ⌝ }
+    requires { ⌜ Branches (kinds named) (now code) (now hs) from ⌝ }
+    ensures { λ r. ⌜ Answers (row14ₗ (kinds named) (centredₗ (kinds named)) (now (code .entry)) ∷ []) r ⌝ }
+{
+    if middle(named, ds, code, hs, from) {
+        return Check::Passed;
+    }
+    Check::Refuse(14, 0)
+}
+
+// 14: a right code of marks that is not the centred one; the digits `ds` tell how many children each mark has.
+pub fn centred_marks(named: bool, limit: u8, ds: &[u8], code: &[u8]) -> Check
+    requires { ⌜ now ds ≡ digits (kinds named .arity) (now code) ⌝ }
+    requires { ⌜ 1 ≤ limit ⌝ }
+    requires { ⌜ Rightₗ (kinds named .arity) (limits named limit) size (now code) ⌝ }
+    ensures { λ r. ⌜ Answers (row14ₗ (kinds named) (centredₗ (kinds named)) (now (code .entry)) ∷ []) r ⌝ }
+{
+    let mut hs = [0u8; SIZE];
+    let mut starts = [0u8; STARTS];
+    let from = scan(named, limit, ds, code, &mut hs, &mut starts);
+    judged(named, ds, code, &hs, from)
+}
+
+// The same of a plain code, whose marks are its digits.
+pub fn centred(limit: u8, code: &[u8]) -> Check
+    requires { ⌜ 1 ≤ limit ⌝ }
+    requires { ⌜ Clear (codeRows size limit (now code)) ⌝ }
+    ensures { λ r. ⌜ Answers (row14-form centred (now (code .entry)) ∷ []) r ⌝ }
+{
+    centred_marks(false, limit, code, code)
+}
+
+// Digits lent by themselves that are to be a centred code: 3, 10 to 13, and 14. Which of 3 to 13 a wrong code has is looked for again.
+pub fn check(limit: u8, code: &[u8]) -> Check
+    requires { ⌜ 1 ≤ limit ⌝ }
+    ensures { λ r. ⌜ Answers (formRows centred size limit (now (code .entry))) r ⌝ }
+{
+    let mut hs = [0u8; SIZE];
+    let mut starts = [0u8; STARTS];
+    let from = scan(false, limit, code, code, &mut hs, &mut starts);
+    if SIZE < from {
+        return digit_code::check(limit, code);
+    }
+    judged(false, code, code, &hs, from)
+}

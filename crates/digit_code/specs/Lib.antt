@@ -1,0 +1,13 @@
+-- Rooted digit codes: what they are, and what is refused. Assumes nothing.
+pub mod Ends
+pub mod Counting
+pub mod Parts
+pub mod Siblings
+pub mod Ordered
+pub mod Search
+pub mod Two
+pub mod Stack
+pub mod Right
+pub mod Compare
+pub mod Examples
+pub mod document

@@ -1,0 +1,131 @@
+// The codes of an accepted edge list: rooted at a vertex, N-tuple and centred. Whether digits are an N-tuple code.
+use digit_code::Order;
+use limits::ENDS;
+use limits::SIZE;
+use limits::WIDTH;
+use refusal::Check;
+ghost use mathlib.Core.Path.{_≡_};
+ghost use mathlib.Core.List.{[], _∷_};
+ghost use Prim.Native.Nat.{_≤_};
+ghost use lib.ListN.{length};
+ghost use Rattle.refusal.specs.document.Table.{Writes};
+ghost use Rattle.refusal.specs.Checks.{Answers};
+ghost use Rattle.limits.specs.document.Limits.{size};
+ghost use Rattle.limits.specs.Width.{width};
+ghost use Rattle.digit_code.specs.document.Code.{decode};
+ghost use Rattle.digit_code.specs.Ends.{Ends};
+ghost use Rattle.skeleton.specs.document.Skeleton as tree;
+ghost use Rattle.form.specs.document.Form.{nTuple, centred, row14-form, formRows};
+ghost use Rattle.form_coder.specs.Raised.{Raised, MaximumDegree};
+
+// The rooted code at a vertex.
+pub fn rooted(n: usize, edges: &[u8], root: usize, out: &mut [u8])
+    requires { ⌜ tree.IsSkeleton size width n (now edges) ⌝ }
+    requires { ⌜ (1 ≤ root) × (root ≤ n) × (n ≤ length (now out)) ⌝ }
+    ensures { λ _. ⌜ Writes (λ c. c ≡ tree.rooted n (now (edges .entry)) root) (now (out .entry)) n (now (out .exit)) ⌝ }
+{
+    let mut rows = [[0u8; WIDTH]; SIZE];
+    let mut degs = [0u8; SIZE];
+    edge_list::fill(n, edges, &mut rows, &mut degs);
+    rooted_coder::rooted(&rows, &degs, n, root, out);
+}
+
+// The larger of the first n digits of two codes is left in the first.
+fn raise(best: &mut [u8], other: &[u8], n: usize)
+    requires { ⌜ (n ≤ length (now best)) × (n ≤ length (now other)) ⌝ }
+    ensures { λ _. ⌜ Raised n (now (best .entry)) (now (other .entry)) (now (best .exit)) ⌝ }
+{
+    if !digit_code::falls(&best[..n], &other[..n]) {
+        bytes::copy(&other[..n], best);
+    }
+}
+
+// The centred code.
+pub fn centred(n: usize, edges: &[u8], out: &mut [u8])
+    requires { ⌜ tree.IsSkeleton size width n (now edges) ⌝ }
+    requires { ⌜ n ≤ length (now out) ⌝ }
+    ensures { λ _. ⌜ Writes (centred n (now (edges .entry))) (now (out .entry)) n (now (out .exit)) ⌝ }
+{
+    let mut rows = [[0u8; WIDTH]; SIZE];
+    let mut degs = [0u8; SIZE];
+    edge_list::fill(n, edges, &mut rows, &mut degs);
+    let m = centre::centre(&rows, &degs, n);
+    let u = m.first;
+    let v = m.second;
+    rooted_coder::rooted(&rows, &degs, n, u, out);
+    if u != v {
+        let mut other = [0u8; SIZE];
+        rooted_coder::rooted(&rows, &degs, n, v, &mut other);
+        raise(out, &other, n);
+    }
+}
+
+// The greatest degree.
+fn widest(degs: &[u8; SIZE], n: usize) -> u8
+    requires { ⌜ (length (now degs) ≡ size) × (n ≤ size) ⌝ }
+    ensures { λ r. ⌜ MaximumDegree (now (degs .entry)) n r ⌝ }
+{
+    let mut d = 0;
+    let mut i = 0;
+    while i < n {
+        let k = degs[i];
+        i += 1;
+        if d < k {
+            d = k;
+        }
+    }
+    d
+}
+
+// The N-tuple code.
+pub fn n_tuple(n: usize, edges: &[u8], out: &mut [u8])
+    requires { ⌜ tree.IsSkeleton size width n (now edges) ⌝ }
+    requires { ⌜ n ≤ length (now out) ⌝ }
+    ensures { λ _. ⌜ Writes (nTuple n (now (edges .entry))) (now (out .entry)) n (now (out .exit)) ⌝ }
+{
+    let mut rows = [[0u8; WIDTH]; SIZE];
+    let mut degs = [0u8; SIZE];
+    edge_list::fill(n, edges, &mut rows, &mut degs);
+    let d = widest(&degs, n);
+    let mut best = [0u8; SIZE];
+    let mut other = [0u8; SIZE];
+    let mut v = 0;
+    while v < n {
+        let k = degs[v];
+        v += 1;
+        if k == d {
+            rooted_coder::rooted(&rows, &degs, n, v, &mut other);
+            raise(&mut best, &other, n);
+        }
+    }
+    bytes::copy(&best[..n], out);
+}
+
+// 14: a rooted code that is not the N-tuple code of what it decodes to.
+fn judged(code: &[u8]) -> Check
+    requires { ⌜ Ends 1 (now code) ⌝ }
+    requires { ⌜ tree.IsSkeleton size width (length (now code)) (decode (now code)) ⌝ }
+    ensures { λ r. ⌜ Answers (row14-form nTuple (now (code .entry)) ∷ []) r ⌝ }
+{
+    let n = code.len();
+    let mut edges = [0u8; ENDS];
+    let mut own = [0u8; SIZE];
+    let m = digit_code::write_edges(code, &mut edges);
+    n_tuple(n, &edges[..m], &mut own);
+    match digit_code::compare(code, &own[..n]) {
+        Order::Less => Check::Refuse(14, 0),
+        Order::Equal => Check::Passed,
+        Order::Greater => Check::Refuse(14, 0),
+    }
+}
+
+// Digits lent by themselves that are to be an N-tuple code: 3, 10 to 13, and 14.
+pub fn check_n_tuple(limit: u8, code: &[u8]) -> Check
+    requires { ⌜ (1 ≤ limit) × (limit ≤ width) ⌝ }
+    ensures { λ r. ⌜ Answers (formRows nTuple size limit (now (code .entry))) r ⌝ }
+{
+    if let Check::Refuse(k, p) = digit_code::check(limit, code) {
+        return Check::Refuse(k, p);
+    }
+    judged(code)
+}

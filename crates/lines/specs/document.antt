@@ -1,0 +1,6 @@
+-- What must be believed: docs/READING.md lists it in the order of document 01. Assumes nothing.
+pub mod Line
+pub mod Reading
+pub mod Judged
+pub mod Damage
+pub mod Marks

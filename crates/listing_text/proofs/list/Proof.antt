@@ -1,0 +1,30 @@
+-- `answers::list` meets its contract. Assumes nothing.
+use mathlib.Core.Path.{refl}
+use mathlib.Core.List.{[]}
+use native.Mathlib.Omega.{arith}
+use borrow.Author.Needs.{needs}
+use Rattle.listing_text.specs.document.Listing.{tooLong, longer}
+use Rattle.listing_text.specs.Window.{shown-none}
+use Rattle.listing_text.proofs.list.Statement.{statement}
+use Rattle.listing_text.proofs.list.Tie as tie
+
+returns : tie.Need-returns
+returns c =
+    let p = c .before .before in
+    record {
+      listing = tooLong;
+      right = longer (omega arith) refl;
+      piece = p .put .ensures [] _ _ (shown-none _ _) .laid;
+    }
+
+pub list-spec : {M : Type 1} → statement M
+list-spec =
+    tie.close
+    (tie.spec
+    (λ c. search needs)
+    (λ c κs. search needs)
+    (λ c. search needs)
+    returns
+    (λ c κs. search needs)
+    (λ c. search needs)
+    (λ c. search needs))

@@ -1,0 +1,5 @@
+-- What must be believed: docs/READING.md lists it in the order of document 01. Assumes nothing.
+pub mod Table
+pub mod Outcome
+pub mod Given
+pub mod Lowest

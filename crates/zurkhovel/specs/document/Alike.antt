@@ -1,0 +1,12 @@
+-- The promise of the call on equal vertices. Assumes nothing.
+use mathlib.Core.List.{List}
+use Prim.Native.Nat.{ℕ}
+use Rattle.refusal.specs.document.Table.{Outcome, Gives}
+use Rattle.limits.specs.document.Limits.{size, valence}
+use Rattle.edge_list.specs.document.Edges.{edgeRows}
+use Rattle.form.specs.document.Form.{centred}
+use Rattle.vertices.specs.document.Vertices.{ClassesOf}
+
+-- the classes of the vertices "in the centred code's numbering"
+abbrev pub EqualVertices : ℕ → List ℕ → List ℕ → List ℕ → Outcome ℕ → Type 0
+EqualVertices N E old new o = Gives (edgeRows size valence N E 1) (λ l. (c : List ℕ) × centred N E c × ClassesOf c l) old new o

@@ -1,0 +1,41 @@
+-- Document 01, "Same skeleton": "Two edge lists are the same when their centred codes are equal. Different sizes are simply "not the
+-- same". A refusal says which list; the first list's comes first."
+--
+-- In order: the verdict's cases as an outcome; the two tables, one behind the other; the promise. That the promise allows one verdict is
+-- in `One`, and what the verdict is without codes in `Theorems`. Assumes nothing.
+use mathlib.Core.Bool.{Bool, true, false}
+use mathlib.Core.List.{List, _++_}
+use Prim.Native.Nat.{ℕ}
+use Rattle.refusal.specs.document.Table.{RowOf, Row, ofList, OutcomeOf, gives, refuses, Answered}
+use Rattle.limits.specs.document.Limits.{size, valence}
+use Rattle.edge_list.specs.document.Edges.{edgeRows}
+use Rattle.form.specs.document.Form.{centred}
+use Rattle.zurkhovel.specs.declared.codes.Verdict.{Verdict}
+use Rattle.zurkhovel.specs.declared.codes.Verdict.the-variants.{Same, Different, Refused}
+
+-- whether the two are the same, or which list is refused, with number and place
+abbrev pub Finding : Type 0
+Finding = OutcomeOf (ℕ × ℕ) Bool
+
+-- `Refused i k p`: list i is refused, number k at place p
+abbrev pub said : Verdict → Finding
+said Same = gives true
+said Different = gives false
+said (Refused i k p) = refuses (i, k) p
+
+-- what is refused of an edge list where no root is named
+abbrev pub listRows : ℕ → List ℕ → List Row
+listRows N E = edgeRows size valence N E 1
+
+-- "the first list's comes first"
+abbrev pub bothRows : ℕ → List ℕ → ℕ → List ℕ → List (RowOf (ℕ × ℕ))
+bothRows N E P F = ofList 1 (listRows N E) ++ ofList 2 (listRows P F)
+
+-- "Two edge lists are the same when their centred codes are equal."
+abbrev pub EqualCodes : ℕ → List ℕ → ℕ → List ℕ → Bool → Type 0
+EqualCodes N E P F true = (c : List ℕ) × centred N E c × centred P F c
+EqualCodes N E P F false = (c : List ℕ) → centred N E c → centred P F c → ⊥
+
+-- N vertices with the edges E, and P vertices with the edges F
+abbrev pub SameSkeleton : ℕ → List ℕ → ℕ → List ℕ → Finding → Type 0
+SameSkeleton N E P F o = Answered (bothRows N E P F) (EqualCodes N E P F) o
