@@ -11,6 +11,7 @@ use Rattle.refusal.specs.declared.Check.{Check}
 use Rattle.refusal.specs.declared.Check.the-variants.{Passed, Refuse}
 use Rattle.digit_code.specs.document.Code.{codeRows}
 use Rattle.digit_code.specs.document.Code as Code
+use Rattle.digit_code.specs.Digits as CodeSaid
 use Rattle.digit_code.specs.Ends.{Ends}
 use Rattle.digit_code.specs.Ordered.{Ordered}
 use Rattle.digit_code.specs.Right.{RightCode, right-clear, clear-right}
@@ -23,7 +24,7 @@ use Rattle.centred_check.specs.Race.{Tells, was-held, was-denied}
 use Rattle.centred_check.specs.Theorems.{rooted-centredₗ, own-base}
 
 -- by what the test told of a right code
-module _ (M : Marks) {c : List ℕ} (e : Ends 1 (Code.digits (M .arity) c)) (o : Ordered (M .arity) c) where
+module _ (M : Marks) {c : List ℕ} (e : Ends 1 (CodeSaid.digits (M .arity) c)) (o : Ordered (M .arity) c) where
   by-test : Middle M c ↔ Own M (centredₗ M) c
   unfolding digits
   by-test = rooted-centredₗ M c e o

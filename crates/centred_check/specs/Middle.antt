@@ -12,7 +12,8 @@ use native.Mathlib.Decide.{decLt}
 use lib.ListN.{length, getD, take, drop}
 use Rattle.laws.specs.document.Order.{_≽_, insert}
 use Rattle.laws.specs.Part.{part}
-use Rattle.digit_code.specs.document.Code.{digits, codes}
+use Rattle.digit_code.specs.document.Code.{codes}
+use Rattle.digit_code.specs.Digits.{digits}
 use Rattle.skeleton.specs.Label.{Marks}
 
 -- the greatest, 0 where there is none

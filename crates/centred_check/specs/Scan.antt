@@ -10,7 +10,8 @@ use lib.ListN.{length, getD, set, take, drop}
 use lib.Seq.{drop-cons, drop-length}
 use Rattle.laws.specs.Falling.{Falling}
 use Rattle.limits.specs.document.Limits.{size}
-use Rattle.digit_code.specs.document.Code.{digits, codes, digit, cap}
+use Rattle.digit_code.specs.document.Code.{codes, digit, cap}
+use Rattle.digit_code.specs.Digits.{digits}
 use Rattle.digit_code.specs.Ends.{Ends}
 use Rattle.digit_code.specs.Ordered.{Ordered, by-places}
 use Rattle.digit_code.specs.Parts.{enough}

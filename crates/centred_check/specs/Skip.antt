@@ -9,7 +9,8 @@ use native.Mathlib.Omega.{arith}
 use lib.ListN.{length, getD, take, drop, length-drop, length-append, take-append-drop, length-map}
 use lib.Seq.{drop-cons, drop-drop, take-at, drop-at}
 use Rattle.laws.specs.Part.{part}
-use Rattle.digit_code.specs.document.Code.{plain, digits, codes}
+use Rattle.digit_code.specs.document.Code.{plain, codes}
+use Rattle.digit_code.specs.Digits.{digits}
 use Rattle.digit_code.specs.Ends.{Ends}
 use Rattle.digit_code.specs.Parts.{flatten-append, flatten-codes, codes-past, codes-count, enough}
 use Rattle.digit_code.specs.Two.{map-take, map-drop, map-flatten, codes-digits, codes-rest, as-long}

@@ -9,7 +9,8 @@ use lib.ListN.{length, getD, take, drop, length-drop}
 use Rattle.laws.specs.document.Order.{_≽_, insert}
 use Rattle.laws.specs.Sorting.{insert-at, insert-past}
 use Rattle.laws.specs.Part.{part, part-none, part-join}
-use Rattle.digit_code.specs.document.Code.{digits, codes}
+use Rattle.digit_code.specs.document.Code.{codes}
+use Rattle.digit_code.specs.Digits.{digits}
 use Rattle.digit_code.specs.Ends.{Ends}
 use Rattle.digit_code.specs.Parts.{enough}
 use Rattle.skeleton.specs.Label.{Marks}

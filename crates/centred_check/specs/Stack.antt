@@ -7,7 +7,8 @@ use lib.ListN.{length, getD, set, take, drop, length-drop, length-set, length-ma
 use lib.Seq.{drop-cons, drop-drop, drop-length, drop-set-lt, getD-set-same}
 use Rattle.laws.specs.Part.{part, part-cons}
 use Rattle.limits.specs.document.Limits.{size}
-use Rattle.digit_code.specs.document.Code.{digits, codes}
+use Rattle.digit_code.specs.document.Code.{codes}
+use Rattle.digit_code.specs.Digits.{digits}
 use Rattle.skeleton.specs.Label.{Marks}
 use Rattle.centred_check.specs.Middle.{top, heights, tops}
 use Rattle.centred_check.specs.Skip.{codes-few}

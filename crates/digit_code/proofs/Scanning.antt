@@ -12,7 +12,7 @@ use lib.Seq.{getD-set-same, getD-set-other}
 use Rattle.laws.specs.document.Order.{_≽_}
 use Rattle.laws.specs.Part.{part}
 use Rattle.limits.specs.document.Limits.{size}
-use Rattle.digit_code.specs.document.Code.{digits}
+use Rattle.digit_code.specs.Digits.{digits}
 use Rattle.digit_code.specs.Ends.{Ends}
 use Rattle.digit_code.specs.Parts.{Ending, Passing, enough, pass-none, pass-one, more-left, end-here}
 use Rattle.digit_code.specs.Siblings.{Fall, none-larger, falls-on, larger-here, no-earlier}

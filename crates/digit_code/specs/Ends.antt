@@ -7,7 +7,8 @@ use Prim.Native.Nat.{ℕ, zero, suc, _+_, _≤_, _<_}
 use native.Mathlib.Omega.{arith}
 use lib.ListN.{length, take}
 use lib.Seq.{take-length}
-use Rattle.digit_code.specs.document.Code.{plain, digits, sum, EndsAt}
+use Rattle.digit_code.specs.document.Code.{plain, sum, EndsAt}
+use Rattle.digit_code.specs.Digits.{digits}
 
 -- w places are open: digit k fills one and opens k more, and the last digit fills the last
 abbrev pub Ends : ℕ → List ℕ → Type 0

@@ -11,3 +11,4 @@ pub mod Right
 pub mod Compare
 pub mod Examples
 pub mod document
+pub mod Digits

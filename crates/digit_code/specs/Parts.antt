@@ -11,7 +11,8 @@ use native.Mathlib.Omega.{arith}
 use lib.ListN.{length, getD, take, drop, length-drop, take-append-drop, drop-of-length-le}
 use lib.Seq.{drop-cons, take-suc}
 use Rattle.laws.specs.Part.{part, part-none, part-cons, part-length, part-join}
-use Rattle.digit_code.specs.document.Code.{digits, codes}
+use Rattle.digit_code.specs.document.Code.{codes}
+use Rattle.digit_code.specs.Digits.{digits}
 use Rattle.digit_code.specs.Ends.{Ends}
 
 pub flatten-append : (x y : List (List ℕ)) → flatten (x ++ y) ≡ flatten x ++ flatten y

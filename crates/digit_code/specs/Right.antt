@@ -10,7 +10,8 @@ use native.Mathlib.Omega.{arith}
 use lib.ListN.{length}
 use Rattle.refusal.specs.document.Table.{Clear, row3}
 use Rattle.refusal.specs.Laws.{clear-one, clear-both, clear-left, never, others, at-most, at-least}
-use Rattle.digit_code.specs.document.Code.{plain, digits, digit, sum, EndsAt, cap, row10, row11, row12, row13, codeRows}
+use Rattle.digit_code.specs.document.Code.{plain, digit, sum, EndsAt, cap, row10, row11, row12, row13, codeRows}
+use Rattle.digit_code.specs.Digits.{digits}
 use Rattle.digit_code.specs.Ends.{Ends, digits-plain, plain-ends, ends-iff, ends-sum, prefix-free}
 use Rattle.digit_code.specs.Ordered.{Ordered, never-larger}
 use Rattle.digit_code.specs.Counting.{clear-ends, ends-whole, one-end}

@@ -5,7 +5,8 @@ use mathlib.Core.List.{List}
 use Prim.Native.Nat.{ℕ, _≤_, _<_}
 use lib.ListN.{length, getD}
 use Rattle.limits.specs.document.Limits.{size}
-use Rattle.digit_code.specs.document.Code.{digits, LargerOf}
+use Rattle.digit_code.specs.document.Code.{LargerOf}
+use Rattle.digit_code.specs.Digits.{digits}
 use Rattle.digit_code.specs.Ends.{Ends}
 use Rattle.digit_code.specs.Parts.{Ending}
 

@@ -9,7 +9,8 @@ use lib.ListN.{length, getD, take, drop, length-append}
 use lib.Seq.{take-take, getD-take, length-take-le, take-add}
 use Rattle.laws.specs.document.Order.{_≽_}
 use Rattle.laws.specs.Part.{part}
-use Rattle.digit_code.specs.document.Code.{digits, codes, childCodes, LargerOf}
+use Rattle.digit_code.specs.document.Code.{codes, childCodes, LargerOf}
+use Rattle.digit_code.specs.Digits.{digits}
 use Rattle.digit_code.specs.Ends.{Ends}
 use Rattle.digit_code.specs.Parts.{Ending, Passing, child-is, pass-one, enough, flatten-append}
 

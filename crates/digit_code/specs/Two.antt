@@ -8,7 +8,8 @@ use native.Mathlib.Omega.{arith}
 use lib.ListN.{length, getD, take, drop, length-map}
 use lib.Seq.{drop-drop, take-at, drop-at}
 use Rattle.laws.specs.Part.{part, part-length}
-use Rattle.digit_code.specs.document.Code.{plain, digits, codes}
+use Rattle.digit_code.specs.document.Code.{plain, codes}
+use Rattle.digit_code.specs.Digits.{digits}
 use Rattle.digit_code.specs.Ends.{Ends, digits-plain}
 use Rattle.digit_code.specs.Parts.{flatten-codes, Ending}
 use Rattle.digit_code.specs.Search.{Known}

@@ -5,7 +5,8 @@ use native.Mathlib.Omega.{arith}
 use denote.Ref.{now}
 use borrow.Author.Needs.{needs}
 use lib.ListN.{length, getD, drop}
-use Rattle.digit_code.specs.document.Code.{plain, digits, codes}
+use Rattle.digit_code.specs.document.Code.{plain, codes}
+use Rattle.digit_code.specs.Digits.{digits}
 use Rattle.digit_code.specs.Ends.{Ends, ends-sum}
 use Rattle.digit_code.specs.Two.{as-long}
 use Rattle.centred_check.specs.Kinds.{kinds, more-is, unit-fits}

@@ -3,7 +3,8 @@ use Prim.Native.Nat.{_-_, _<_}
 use native.Mathlib.Omega.{arith}
 use denote.Ref.{now}
 use lib.ListN.{length}
-use Rattle.digit_code.specs.document.Code.{plain, digits}
+use Rattle.digit_code.specs.document.Code.{plain}
+use Rattle.digit_code.specs.Digits.{digits}
 use Rattle.digit_code.specs.Ends.{Ends, plain-ends}
 use Rattle.centred_check.specs.Skip.{Skipping, skip-start, skip-inside, skip-few, skip-next, skip-last}
 use Rattle.centred_check.proofs.skip.Statement.{statement}

@@ -4,7 +4,7 @@ use Prim.Native.Nat.{_-_, _<_}
 use native.Mathlib.Omega.{arith}
 use denote.Ref.{now}
 use lib.ListN.{length, getD}
-use Rattle.digit_code.specs.document.Code.{digits}
+use Rattle.digit_code.specs.Digits.{digits}
 use Rattle.digit_code.specs.Ends.{Ends}
 use Rattle.digit_code.specs.Two.{as-long, digit-at}
 use Rattle.digit_code.specs.Compare.{was-falling, was-rising}

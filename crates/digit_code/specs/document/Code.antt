@@ -6,7 +6,7 @@
 --
 -- What the rooted code of a skeleton is, and that a right digit code is one, is in the crate `tree`. Assumes nothing.
 use mathlib.Core.Path.{_≡_}
-use mathlib.Core.List.{List, [], _∷_, _++_, map, flatten}
+use mathlib.Core.List.{List, [], _∷_, _++_, flatten}
 use Prim.Native.Nat.{ℕ, zero, suc, _+_, _-_, _≤_, _<_}
 use lib.ListN.{length, getD, take, drop, replicate}
 use Rattle.laws.specs.document.Order.{_≽_}
@@ -29,10 +29,6 @@ pub record EndsAt (c : List ℕ) (e : ℕ) : Type 0 where
 -- a plain code's marks are its digits
 abbrev pub plain : ℕ → ℕ
 plain k = k
-
--- the digits that marks tell
-abbrev pub digits : (ℕ → ℕ) → List ℕ → List ℕ
-digits arity c = map arity c
 
 module _ (arity : ℕ → ℕ) where
   -- the codes that the marks make, one behind the other: a mark takes the next of those behind it for its children, as many as it has
