@@ -1,6 +1,6 @@
 -- Where a digit code ends, by a part of the digits: digits behind the end do not move it, and digits that end nothing are open.
 --
--- That a code ends in one place is in the crate `code`. Assumes nothing.
+-- That a code ends in one place is in the crate `digit_code`. Assumes nothing.
 use mathlib.Core.Path.{_≡_}
 use mathlib.Core.List.{List, [], _∷_, _++_}
 use Prim.Native.Nat.{ℕ, zero, suc, _+_, _≤_, _<_}

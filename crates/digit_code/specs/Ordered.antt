@@ -1,5 +1,5 @@
 -- Document 01, "Codes": "its children's codes, largest first in dictionary order", on the marks alone; and that it is this which row 13
--- asks for. That marks whose digits end and which are so ordered are a rooted code is `code-ordered` of the crate `tree`. Assumes nothing.
+-- asks for. That marks whose digits end and which are so ordered are a rooted code is `code-ordered` of the crate `skeleton`. Assumes nothing.
 use mathlib.Core.Path.{refl}
 use mathlib.Core.Logic.{_↔_}
 use mathlib.Core.List.{List, [], _∷_, flatten}

@@ -19,30 +19,30 @@ pub record Holds (N : ℕ) (A : List Arc) (t : List (List ℕ)) (d : List ℕ) :
   pub shaped : Shaped t d
   pub degs : (v : ℕ) → 1 ≤ v → v ≤ N → getD d (v - 1) 0 ≡ length (neighbours A v)
   pub row : (v j : ℕ) → 1 ≤ v → v ≤ N → j < length (neighbours A v) → getD (getD t (v - 1) []) j 0 ≡ getD (neighbours A v) j 0
-  pub none : (i : ℕ) → N ≤ i → i < 64 → getD d i 0 ≡ 0
-  pub rest : (i j : ℕ) → i < 64 → getD d i 0 ≤ j → j < 4 → getD (getD t i []) j 0 ≡ 0
+  pub none : (i : ℕ) → N ≤ i → i < size → getD d i 0 ≡ 0
+  pub rest : (i j : ℕ) → i < size → getD d i 0 ≤ j → j < width → getD (getD t i []) j 0 ≡ 0
 
 -- arrays that hold nothing but 0
-pub holds-none : (N : ℕ) → N ≤ 64 → Holds N [] (replicate {A = List ℕ} 64 (replicate {A = ℕ} 4 0)) (replicate {A = ℕ} 64 0)
+pub holds-none : (N : ℕ) → N ≤ size → Holds N [] (replicate {A = List ℕ} size (replicate {A = ℕ} width 0)) (replicate {A = ℕ} size 0)
 holds-none N s =
     record {
       shaped =
           record {
-            rows = length-replicate {A = List ℕ} 64 (replicate {A = ℕ} 4 0);
+            rows = length-replicate {A = List ℕ} size (replicate {A = ℕ} width 0);
             wide = λ i h. ap length (line i h);
-            degs = length-replicate {A = ℕ} 64 0;
+            degs = length-replicate {A = ℕ} size 0;
           };
       degs = λ v l h. zero (v - 1) (omega arith) ∙ sym (ap length (neighbours-nil v));
       row = λ v j l h k. absurd (let n : ⊥ = omega (arith, ap length (neighbours-nil v)) in n);
       none = λ i l h. zero i h;
-      rest = λ i j h l k. ap (λ r. getD r j 0) (line i h) ∙ getD-replicate {A = ℕ} 4 j 0 0 k;
+      rest = λ i j h l k. ap (λ r. getD r j 0) (line i h) ∙ getD-replicate {A = ℕ} width j 0 0 k;
     }
   where
-    line : (i : ℕ) → i < 64 → getD (replicate {A = List ℕ} 64 (replicate {A = ℕ} 4 0)) i [] ≡ replicate {A = ℕ} 4 0
-    line i h = getD-replicate {A = List ℕ} 64 i (replicate {A = ℕ} 4 0) [] h
+    line : (i : ℕ) → i < size → getD (replicate {A = List ℕ} size (replicate {A = ℕ} width 0)) i [] ≡ replicate {A = ℕ} width 0
+    line i h = getD-replicate {A = List ℕ} size i (replicate {A = ℕ} width 0) [] h
 
-    zero : (i : ℕ) → i < 64 → getD (replicate {A = ℕ} 64 0) i 0 ≡ 0
-    zero i h = getD-replicate {A = ℕ} 64 i 0 0 h
+    zero : (i : ℕ) → i < size → getD (replicate {A = ℕ} size 0) i 0 ≡ 0
+    zero i h = getD-replicate {A = ℕ} size i 0 0 h
 
 -- ---- one arc more
 
@@ -53,7 +53,7 @@ module _ (A : List Arc) (a b v : ℕ) where
   pub arc-miss : (a ≡ v → ⊥) → neighbours (A ++ ((a, b) ∷ [])) v ≡ neighbours A v
   arc-miss n = neighbours-append A ((a, b) ∷ []) v ∙ ap (λ l. neighbours A v ++ l) (neighbours-miss a b v [] n ∙ neighbours-nil v) ∙ append-nil _
 
-shaped-more : (t : List (List ℕ)) (d : List ℕ) (i k b x : ℕ) → Shaped t d → i < 64 → Shaped (set t i (set (getD t i []) k b)) (set d i x)
+shaped-more : (t : List (List ℕ)) (d : List ℕ) (i k b x : ℕ) → Shaped t d → i < size → Shaped (set t i (set (getD t i []) k b)) (set d i x)
 shaped-more t d i k b x s l =
     record {
       rows = length-set t i _ ∙ s .rows;
@@ -61,7 +61,7 @@ shaped-more t d i k b x s l =
       degs = length-set d i x ∙ s .degs;
     }
   where
-    step : (w : ℕ) → w < 64 → Dec (w ≡ i) → length (getD (set t i (set (getD t i []) k b)) w []) ≡ 4
+    step : (w : ℕ) → w < size → Dec (w ≡ i) → length (getD (set t i (set (getD t i []) k b)) w []) ≡ width
     step w h (yes e) = rw (e, getD-set-same t i (set (getD t i []) k b) [] (rw (s .rows) l)) (length-set (getD t i []) k b ∙ s .wide i l)
     step w h (no n) = rw (getD-set-other t i w (set (getD t i []) k b) [] n) (s .wide w h)
 
@@ -84,8 +84,8 @@ abbrev raised : List ℕ → ℕ → ℕ
 raised d a = getD d (a - 1) 0 + 1
 
 module _
-    {N : ℕ} {A : List Arc} {t : List (List ℕ)} {d : List ℕ} (a b : ℕ) (h : Holds N A t d) (small : N ≤ 64) (low : 1 ≤ a) (high : a ≤ N)
-    (room : length (neighbours A a) < 4)
+    {N : ℕ} {A : List Arc} {t : List (List ℕ)} {d : List ℕ} (a b : ℕ) (h : Holds N A t d) (small : N ≤ size) (low : 1 ≤ a) (high : a ≤ N)
+    (room : length (neighbours A a) < width)
   where
     degs-more : (v : ℕ) → 1 ≤ v → v ≤ N → Dec (a ≡ v) → getD (set d (a - 1) (raised d a)) (v - 1) 0 ≡ length (neighbours (A ++ ((a, b) ∷ [])) v)
     degs-more v l m (yes e) =
@@ -104,11 +104,11 @@ module _
         rw (arc-miss A a b v n, getD-set-other t (a - 1) (v - 1) (grown t d a b) [] (λ e. n (omega arith)))
         (h .row v j l m (rw (arc-miss A a b v n) at k))
 
-    none-more : (i : ℕ) → N ≤ i → i < 64 → getD (set d (a - 1) (raised d a)) i 0 ≡ 0
+    none-more : (i : ℕ) → N ≤ i → i < size → getD (set d (a - 1) (raised d a)) i 0 ≡ 0
     none-more i l m = getD-set-other d (a - 1) i _ 0 (λ e. let n : ⊥ = omega arith in n) ∙ h .none i l m
 
     rest-more :
-        (i j : ℕ) → i < 64 → getD (set d (a - 1) (raised d a)) i 0 ≤ j → j < 4 → Dec (i ≡ a - 1)
+        (i j : ℕ) → i < size → getD (set d (a - 1) (raised d a)) i 0 ≤ j → j < width → Dec (i ≡ a - 1)
         → getD (getD (set t (a - 1) (grown t d a b)) i []) j 0 ≡ 0
     rest-more i j l m o (yes e) =
         let k = rw (e, getD-set-same d (a - 1) (raised d a) 0 (rw (h .shaped .degs) (omega arith))) at m in
@@ -140,15 +140,15 @@ module _
     b-in : (1 ≤ b) × (b ≤ N)
     b-in = rw (j .0) (s .tree .inside (secondEnd E p) (other-in E p h))
 
-    few : (v : ℕ) → (1 ≤ v) × (v ≤ N) → degree (before E p) v + hit a v + hit b v ≤ 4
+    few : (v : ℕ) → (1 ≤ v) × (v ≤ N) → degree (before E p) v + hit a v + hit b v ≤ width
     unfolding Degrees
     few v k = let d = s .degrees v (k .0) (k .1) in let w = degree-within E p v h in rw (i .0, j .0) (omega arith)
 
-    a-few : length (neighbours (arcs (before E p)) a) < 4
+    a-few : length (neighbours (arcs (before E p)) a) < width
     unfolding degree
     a-few = let f = few a a-in in let e = hit-same a a refl in omega arith
 
-    b-few : length (neighbours (arcs (before E p) ++ ((a, b) ∷ [])) b) < 4
+    b-few : length (neighbours (arcs (before E p) ++ ((a, b) ∷ [])) b) < width
     unfolding degree
     b-few =
         let f = few b b-in in

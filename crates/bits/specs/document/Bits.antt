@@ -2,7 +2,7 @@
 -- "Refusal numbers" for these three forms.
 --
 -- In order: digits to bits, bits to digits; the bits that each form carries, and what may follow a code's end in it; the rows; what
--- an accepted input carries. What the rooted code of a skeleton is, is in the crate `tree`; which 53 bits an f64 has, in the crate
+-- an accepted input carries. What the rooted code of a skeleton is, is in the crate `skeleton`; which 53 bits an f64 has, in the crate
 -- `fraction`. Assumes nothing.
 use mathlib.Core.Path.{_≡_}
 use mathlib.Core.Bool.{Bool, true, false}

@@ -1,4 +1,4 @@
--- `fast::above` meets its contract: the first marks decide, or what is behind them. Assumes nothing.
+-- `centred_check::above` meets its contract: the first marks decide, or what is behind them. Assumes nothing.
 use mathlib.Core.Path.{_≡_, subst}
 use Prim.Native.Nat.{ℕ, _≤_, _<_}
 use native.Mathlib.Omega.{arith}

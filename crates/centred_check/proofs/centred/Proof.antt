@@ -1,4 +1,4 @@
--- `fast::centred` meets its contract: a plain code's marks are its digits. Assumes nothing.
+-- `centred_check::centred` meets its contract: a plain code's marks are its digits. Assumes nothing.
 use mathlib.Core.Path.{sym}
 use denote.Ref.{now}
 use Rattle.limits.specs.document.Limits.{size}

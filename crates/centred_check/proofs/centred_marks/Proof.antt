@@ -1,4 +1,4 @@
--- `fast::centred_marks` meets its contract. Assumes nothing.
+-- `centred_check::centred_marks` meets its contract. Assumes nothing.
 use mathlib.Core.Path.{sym, subst}
 use borrow.Author.Needs.{needs}
 use Rattle.digit_code.specs.Ends.{Ends}

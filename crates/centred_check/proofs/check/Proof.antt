@@ -1,4 +1,4 @@
--- `fast::check` meets its contract: a wrong code is refused by 3 to 13, a right one by 14 or not. Assumes nothing.
+-- `centred_check::check` meets its contract: a wrong code is refused by 3 to 13, a right one by 14 or not. Assumes nothing.
 use mathlib.Core.Path.{sym}
 use native.Mathlib.Omega.{arith}
 use denote.Ref.{now}

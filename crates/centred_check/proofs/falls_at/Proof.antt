@@ -1,4 +1,4 @@
--- `fast::falls_at` meets its contract: the first digits decide, or what is behind them. Assumes nothing.
+-- `centred_check::falls_at` meets its contract: the first digits decide, or what is behind them. Assumes nothing.
 use native.Mathlib.Omega.{arith}
 use denote.Ref.{now}
 use borrow.Author.Needs.{needs}

@@ -1,4 +1,4 @@
--- `fast::joined` meets its contract: the loop keeps that the trees passed fall, and the tallest of them. Assumes nothing.
+-- `centred_check::joined` meets its contract: the loop keeps that the trees passed fall, and the tallest of them. Assumes nothing.
 use mathlib.Core.Path.{_≡_, subst}
 use Prim.Native.Nat.{ℕ, _+_, _-_}
 use native.Mathlib.Omega.{arith}

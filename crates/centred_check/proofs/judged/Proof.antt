@@ -1,4 +1,4 @@
--- `fast::judged` meets its contract: the test of the marks is the definition. Assumes nothing.
+-- `centred_check::judged` meets its contract: the test of the marks is the definition. Assumes nothing.
 use mathlib.Core.Path.{subst}
 use Rattle.digit_code.specs.Ends.{Ends}
 use Rattle.centred_check.specs.Kinds.{kinds}

@@ -1,4 +1,4 @@
--- `fast::middle` meets its contract: the loop keeps the two tallest of the branches passed. Assumes nothing.
+-- `centred_check::middle` meets its contract: the loop keeps the two tallest of the branches passed. Assumes nothing.
 use native.Mathlib.Omega.{arith}
 use Rattle.centred_check.specs.Race.{Race, race-start, race-next, race-low, race-first, race-high, race-even, race-apart, race-inside, race-close}
 use Rattle.centred_check.proofs.middle.Statement.{statement}

@@ -1,4 +1,4 @@
--- `fast::most` meets its contract. Assumes nothing.
+-- `centred_check::most` meets its contract. Assumes nothing.
 use native.Mathlib.Omega.{arith}
 use Rattle.centred_check.specs.Kinds.{limits-named, limits-plain}
 use Rattle.centred_check.proofs.most.Statement.{statement}

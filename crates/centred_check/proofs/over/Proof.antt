@@ -1,4 +1,4 @@
--- `fast::over` meets its contract: the first piece decides, or what is behind it. Assumes nothing.
+-- `centred_check::over` meets its contract: the first piece decides, or what is behind it. Assumes nothing.
 use mathlib.Core.Path.{sym, _∙_}
 use native.Mathlib.Omega.{arith}
 use denote.Ref.{now}

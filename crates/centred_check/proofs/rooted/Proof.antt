@@ -1,4 +1,4 @@
--- `fast::rooted` meets its contract. Assumes nothing.
+-- `centred_check::rooted` meets its contract. Assumes nothing.
 use mathlib.Core.Path.{_≡_}
 use native.Mathlib.Omega.{arith}
 use denote.Ref.{now}

@@ -1,4 +1,4 @@
--- `fast::scan` meets its contract: the loop keeps what the marks read say. Assumes nothing.
+-- `centred_check::scan` meets its contract: the loop keeps what the marks read say. Assumes nothing.
 use mathlib.Core.Path.{_≡_, sym, _∙_, subst}
 use Prim.Native.Nat.{ℕ, _+_, _-_, _≤_, _<_}
 use native.Mathlib.Omega.{arith}

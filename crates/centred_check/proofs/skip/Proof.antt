@@ -1,4 +1,4 @@
--- `fast::skip` meets its contract: the loop keeps how many places are open. Assumes nothing.
+-- `centred_check::skip` meets its contract: the loop keeps how many places are open. Assumes nothing.
 use Prim.Native.Nat.{_-_, _<_}
 use native.Mathlib.Omega.{arith}
 use denote.Ref.{now}

@@ -1,4 +1,4 @@
--- `fast::spot` meets its contract: the loop keeps that what is left stands before none of the children passed. Assumes nothing.
+-- `centred_check::spot` meets its contract: the loop keeps that what is left stands before none of the children passed. Assumes nothing.
 use mathlib.Core.Path.{_≡_, subst}
 use Prim.Native.Nat.{_-_, _<_}
 use native.Mathlib.Omega.{arith}

@@ -1,4 +1,4 @@
--- `code::capped` meets its contract: the loop keeps that row 10 applies to no digit passed. Assumes nothing.
+-- `digit_code::capped` meets its contract: the loop keeps that row 10 applies to no digit passed. Assumes nothing.
 use Prim.Native.Nat.{ℕ, _+_, _-_, _≤_, _<_}
 use native.Mathlib.Omega.{arith}
 use borrow.Author.Count.{below-more}

@@ -1,4 +1,4 @@
--- `code::check` meets its contract: its checks answer for the table's rows in order. Assumes nothing.
+-- `digit_code::check` meets its contract: its checks answer for the table's rows in order. Assumes nothing.
 use mathlib.Core.Path.{refl}
 use denote.Ref.{now}
 use borrow.Author.Needs.{needs}

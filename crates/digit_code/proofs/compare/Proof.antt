@@ -1,4 +1,4 @@
--- `code::compare` meets its contract: the loop keeps that the digits passed agree. Assumes nothing.
+-- `digit_code::compare` meets its contract: the loop keeps that the digits passed agree. Assumes nothing.
 use mathlib.Core.Path.{refl}
 use Prim.Native.Nat.{_-_}
 use native.Mathlib.Omega.{arith}

@@ -1,4 +1,4 @@
--- `code::end_of` meets its contract: the loop passes the children of the digit one by one. Assumes nothing.
+-- `digit_code::end_of` meets its contract: the loop passes the children of the digit one by one. Assumes nothing.
 use Prim.Native.Nat.{_-_, _≤_}
 use native.Mathlib.Omega.{arith}
 use Rattle.digit_code.specs.document.Code.{plain}

@@ -1,4 +1,4 @@
--- `code::ended` meets its contract: the loop keeps how many places are open. Assumes nothing.
+-- `digit_code::ended` meets its contract: the loop keeps how many places are open. Assumes nothing.
 use mathlib.Core.Path.{refl}
 use Prim.Native.Nat.{_+_, _-_, _*_, _≤_}
 use native.Mathlib.Omega.{arith}

@@ -1,4 +1,4 @@
--- `code::ends_of` meets its contract: from the last digit down, the ends of the parts behind are known. Assumes nothing.
+-- `digit_code::ends_of` meets its contract: from the last digit down, the ends of the parts behind are known. Assumes nothing.
 use mathlib.Core.Path.{_≡_, refl, sym, _∙_}
 use Prim.Native.Nat.{_≤_}
 use native.Mathlib.Omega.{arith}

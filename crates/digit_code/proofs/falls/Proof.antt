@@ -1,4 +1,4 @@
--- `code::falls` meets its contract. Assumes nothing.
+-- `digit_code::falls` meets its contract. Assumes nothing.
 use mathlib.Core.Path.{sym, _∙_}
 use borrow.Author.Needs.{needs}
 use Rattle.digit_code.specs.Compare.{less-rises, equal-falls, greater-falls}

@@ -1,4 +1,4 @@
--- `code::larger_of` meets its contract: the loop keeps that the children passed fall. Assumes nothing.
+-- `digit_code::larger_of` meets its contract: the loop keeps that the children passed fall. Assumes nothing.
 use mathlib.Core.Path.{_≡_}
 use Prim.Native.Nat.{_-_}
 use native.Mathlib.Omega.{arith}

@@ -1,4 +1,4 @@
--- `code::ordered` meets its contract: a plain code's marks are its digits. Assumes nothing.
+-- `digit_code::ordered` meets its contract: a plain code's marks are its digits. Assumes nothing.
 use mathlib.Core.Path.{sym}
 use denote.Ref.{now}
 use borrow.Author.Needs.{needs}

@@ -1,4 +1,4 @@
--- `code::ordered_marks` meets its contract: the loop keeps the lowest place of a larger child of the marks passed. Assumes nothing.
+-- `digit_code::ordered_marks` meets its contract: the loop keeps the lowest place of a larger child of the marks passed. Assumes nothing.
 use mathlib.Core.Path.{refl, sym}
 use Prim.Native.Nat.{_-_, _≤_}
 use native.Mathlib.Omega.{arith}

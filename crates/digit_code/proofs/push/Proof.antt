@@ -1,4 +1,4 @@
--- `code::push` meets its contract. Assumes nothing.
+-- `digit_code::push` meets its contract. Assumes nothing.
 use Prim.Native.Nat.{_-_, _≤_}
 use native.Mathlib.Omega.{arith}
 use Rattle.digit_code.specs.Stack.{Pushed, push-none, push-one, push-all}

@@ -1,4 +1,4 @@
--- `code::top` meets its contract. Assumes nothing.
+-- `digit_code::top` meets its contract. Assumes nothing.
 use mathlib.Core.Path.{_≡_, refl}
 use Prim.Native.Nat.{ℕ, zero, suc, _-_, _≤_, _<_}
 use native.Mathlib.Omega.{arith}

@@ -1,4 +1,4 @@
--- `code::write_edges` meets its contract: the loop keeps what is written and which places are open. Assumes nothing.
+-- `digit_code::write_edges` meets its contract: the loop keeps what is written and which places are open. Assumes nothing.
 use mathlib.Core.Path.{refl, sym}
 use Prim.Native.Nat.{_-_}
 use native.Mathlib.Omega.{arith}

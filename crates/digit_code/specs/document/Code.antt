@@ -4,7 +4,7 @@
 -- What is compared at a vertex is its mark: a number from which `arity` tells how many children the vertex has. A plain code's mark is
 -- its digit. Codes end, decode and are capped by their digits; the children's codes in them, and row 13, are of marks.
 --
--- What the rooted code of a skeleton is, and that a right digit code is one, is in the crate `tree`. Assumes nothing.
+-- What the rooted code of a skeleton is, and that a right digit code is one, is in the crate `skeleton`. Assumes nothing.
 use mathlib.Core.Path.{_≡_}
 use mathlib.Core.List.{List, [], _∷_, _++_, flatten}
 use Prim.Native.Nat.{ℕ, zero, suc, _+_, _-_, _≤_, _<_}

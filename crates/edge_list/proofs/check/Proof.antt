@@ -1,4 +1,4 @@
--- `skeleton::check` meets its contract: a check that refuses answers for the whole table, and behind one that passes the rest does.
+-- `edge_list::check` meets its contract: a check that refuses answers for the whole table, and behind one that passes the rest does.
 -- Assumes nothing.
 use mathlib.Core.Path.{refl}
 use Rattle.refusal.specs.Laws.{stops, goes-on}

@@ -1,4 +1,4 @@
--- `skeleton::degrees` meets its contract. The loop's invariant: the edges before p are counted, and 9 applies at no place before p.
+-- `edge_list::degrees` meets its contract. The loop's invariant: the edges before p are counted, and 9 applies at no place before p.
 -- Assumes nothing.
 use mathlib.Core.Logic.{inl, inr}
 use Prim.Native.Nat.{ℕ, _+_, _-_, _/_, _≤_, _<_}

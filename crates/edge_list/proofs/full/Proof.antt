@@ -1,4 +1,4 @@
--- `skeleton::full` meets its contract: the first count is tested, then the other. Assumes nothing.
+-- `edge_list::full` meets its contract: the first count is tested, then the other. Assumes nothing.
 use native.Mathlib.Omega.{arith}
 use Rattle.edge_list.proofs.Tests.{tells-le, by-first, by-second}
 use Rattle.edge_list.proofs.full.Statement.{statement}

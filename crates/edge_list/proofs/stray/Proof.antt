@@ -1,4 +1,4 @@
--- `skeleton::stray` meets its contract: the first end is tested, then the other. Assumes nothing.
+-- `edge_list::stray` meets its contract: the first end is tested, then the other. Assumes nothing.
 use Rattle.edge_list.proofs.Tests.{by-first, by-second}
 use borrow.Author.Needs.{needs}
 use Rattle.edge_list.proofs.stray.Statement.{statement}

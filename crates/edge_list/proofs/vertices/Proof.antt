@@ -1,4 +1,4 @@
--- `skeleton::vertices` meets its contract. The loop's invariant: 6 applies at no place before p. Assumes nothing.
+-- `edge_list::vertices` meets its contract. The loop's invariant: 6 applies at no place before p. Assumes nothing.
 use mathlib.Core.Path.{refl}
 use mathlib.Core.Logic.{inl, inr, ⊎-elim}
 use Prim.Native.Nat.{ℕ, _+_, _-_, _/_, _≤_, _<_}

@@ -1,7 +1,7 @@
 -- Document 01, "Codes": the N-tuple code and the centred code, and row 14 of "Refusal numbers" for digits of either form.
 --
 -- `at v` is the code at the root v; for the codes of document 01 it is `rooted N E v`. What a longest path and the centre are is in the
--- crate `path`. Assumes nothing.
+-- crate `longest_path`. Assumes nothing.
 use mathlib.Core.Path.{_≡_}
 use mathlib.Core.Logic.{_⊎_}
 use mathlib.Core.List.{List, [], _∷_, _++_}

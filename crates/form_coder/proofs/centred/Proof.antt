@@ -1,4 +1,4 @@
--- `coding::centred` meets its contract. Assumes nothing.
+-- `form_coder::centred` meets its contract. Assumes nothing.
 use borrow.Author.Needs.{needs}
 use denote.Ref.{now}
 use Rattle.longest_path.specs.Theorems.{centre-inside}

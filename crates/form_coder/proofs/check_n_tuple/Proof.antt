@@ -1,4 +1,4 @@
--- `coding::check_n_tuple` meets its contract. Assumes nothing.
+-- `form_coder::check_n_tuple` meets its contract. Assumes nothing.
 use mathlib.Core.Path.{refl}
 use borrow.Author.Needs.{needs}
 use Rattle.refusal.specs.Laws.{stops, goes-on, was-clear}

@@ -1,4 +1,4 @@
--- `coding::judged` meets its contract. Assumes nothing.
+-- `form_coder::judged` meets its contract. Assumes nothing.
 use mathlib.Core.Path.{sym, _∙_}
 use denote.Ref.{now}
 use borrow.Author.Needs.{needs}

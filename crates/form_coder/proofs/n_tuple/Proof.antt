@@ -1,4 +1,4 @@
--- `coding::n_tuple` meets its contract: the loop keeps the largest code of those passed. Assumes nothing.
+-- `form_coder::n_tuple` meets its contract: the loop keeps the largest code of those passed. Assumes nothing.
 use mathlib.Core.Path.{sym, _∙_}
 use Prim.Native.Nat.{_-_, _<_}
 use native.Mathlib.Omega.{arith}

@@ -1,4 +1,4 @@
--- `coding::raise` meets its contract. Assumes nothing.
+-- `form_coder::raise` meets its contract. Assumes nothing.
 use mathlib.Core.Path.{refl, sym}
 use native.Mathlib.Omega.{arith}
 use lib.Seq.{length-take-le}

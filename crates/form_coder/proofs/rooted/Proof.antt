@@ -1,4 +1,4 @@
--- `coding::rooted` meets its contract. Assumes nothing.
+-- `form_coder::rooted` meets its contract. Assumes nothing.
 use borrow.Author.Needs.{needs}
 use denote.Ref.{now}
 use Rattle.form_coder.proofs.Written.{rooted-written}

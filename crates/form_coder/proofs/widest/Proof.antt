@@ -1,4 +1,4 @@
--- `coding::widest` meets its contract: the loop keeps the greatest of those passed. Assumes nothing.
+-- `form_coder::widest` meets its contract: the loop keeps the greatest of those passed. Assumes nothing.
 use Prim.Native.Nat.{_-_, _≤_}
 use native.Mathlib.Omega.{arith}
 use Rattle.form_coder.proofs.Largest.{Passed, passed-none, passed-up, passed-by, passed-all}

@@ -1,4 +1,4 @@
--- `answers::first` meets its contract: `size` bytes are room enough. Assumes nothing.
+-- `listing_text::first` meets its contract: `size` bytes are room enough. Assumes nothing.
 use native.Mathlib.Omega.{arith}
 use borrow.Author.Needs.{needs}
 use Rattle.limits.specs.document.Limits.{size}

@@ -1,4 +1,4 @@
--- `answers::list` meets its contract. Assumes nothing.
+-- `listing_text::list` meets its contract. Assumes nothing.
 use mathlib.Core.Path.{refl}
 use mathlib.Core.List.{[]}
 use native.Mathlib.Omega.{arith}

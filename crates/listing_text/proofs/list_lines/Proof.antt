@@ -1,4 +1,4 @@
--- `answers::list_lines` meets its contract: the loop keeps that the answers to the lines passed are put. Assumes nothing.
+-- `listing_text::list_lines` meets its contract: the loop keeps that the answers to the lines passed are put. Assumes nothing.
 use mathlib.Core.Path.{_∙_}
 use Prim.Native.Nat.{_-_}
 use native.Mathlib.Omega.{arith}

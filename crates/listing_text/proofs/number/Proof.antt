@@ -1,4 +1,4 @@
--- `answers::number` meets its contract. Assumes nothing.
+-- `listing_text::number` meets its contract. Assumes nothing.
 use borrow.Author.Needs.{needs}
 use Rattle.listing_text.proofs.Wording.{spelt-part}
 use Rattle.listing_text.proofs.number.Statement.{statement}

@@ -1,4 +1,4 @@
--- `answers::put` meets its contract. Assumes nothing.
+-- `listing_text::put` meets its contract. Assumes nothing.
 use borrow.Author.Needs.{needs}
 use Rattle.listing_text.proofs.Putting.{passed-over, full, written}
 use Rattle.listing_text.proofs.put.Statement.{statement}

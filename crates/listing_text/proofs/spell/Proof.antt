@@ -1,4 +1,4 @@
--- `answers::spell` meets its contract: the loop keeps that what is left of the number stands before its last digits. Assumes nothing.
+-- `listing_text::spell` meets its contract: the loop keeps that what is left of the number stands before its last digits. Assumes nothing.
 use native.Mathlib.Omega.{arith}
 use Rattle.listing_text.proofs.Spelling.{Spelling, begun, room, digit-more, spelt}
 use Rattle.listing_text.proofs.spell.Statement.{statement}

@@ -1,4 +1,4 @@
--- `ordering::arrange` meets its contract. Assumes nothing.
+-- `rooted_coder::arrange` meets its contract. Assumes nothing.
 use Prim.Native.Nat.{_+_, _-_, _≤_, _<_}
 use native.Mathlib.Omega.{arith}
 use Rattle.limits.specs.document.Limits.{size}

@@ -1,4 +1,4 @@
--- `ordering::compare` meets its contract. Assumes nothing.
+-- `rooted_coder::compare` meets its contract. Assumes nothing.
 use Prim.Native.Nat.{_-_}
 use native.Mathlib.Omega.{arith}
 use borrow.Author.Needs.{needs}

@@ -1,4 +1,4 @@
--- `ordering::cover` meets its contract. Assumes nothing.
+-- `rooted_coder::cover` meets its contract. Assumes nothing.
 use mathlib.Core.Path.{refl, subst}
 use Prim.Native.Nat.{_*_, _≤_}
 use native.Mathlib.Omega.{arith}

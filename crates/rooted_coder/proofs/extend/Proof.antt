@@ -1,4 +1,4 @@
--- `ordering::extend` meets its contract. Assumes nothing.
+-- `rooted_coder::extend` meets its contract. Assumes nothing.
 use mathlib.Core.Path.{ap}
 use Prim.Native.Nat.{_+_}
 use native.Mathlib.Omega.{arith}

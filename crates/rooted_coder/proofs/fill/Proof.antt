@@ -1,4 +1,4 @@
--- `ordering::fill` meets its contract. Assumes nothing.
+-- `rooted_coder::fill` meets its contract. Assumes nothing.
 use mathlib.Core.Path.{_≡_, sym, ap, _∙_}
 use mathlib.Core.List.{List, _++_}
 use Prim.Native.Nat.{ℕ, _+_, _-_, _≤_, _<_}

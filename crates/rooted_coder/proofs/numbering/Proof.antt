@@ -1,4 +1,4 @@
--- `ordering::numbering` meets its contract. Assumes nothing.
+-- `rooted_coder::numbering` meets its contract. Assumes nothing.
 use mathlib.Core.Path.{_≡_, refl, sym, ap, ap₂, _∙_}
 use mathlib.Core.List.{List, _++_}
 use Prim.Native.Nat.{ℕ}

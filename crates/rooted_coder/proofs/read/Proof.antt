@@ -1,4 +1,4 @@
--- `ordering::read` meets its contract. Assumes nothing.
+-- `rooted_coder::read` meets its contract. Assumes nothing.
 use mathlib.Core.Path.{sym, subst}
 use Prim.Native.Nat.{_+_, _-_}
 use native.Mathlib.Omega.{arith}

@@ -1,4 +1,4 @@
--- `ordering::rooted` meets its contract. Assumes nothing.
+-- `rooted_coder::rooted` meets its contract. Assumes nothing.
 use mathlib.Core.Path.{_≡_, sym, ap, _∙_}
 use native.Mathlib.Omega.{arith}
 use lib.ListN.{length, take}

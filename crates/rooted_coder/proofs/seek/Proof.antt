@@ -1,4 +1,4 @@
--- `ordering::seek` meets its contract. Assumes nothing.
+-- `rooted_coder::seek` meets its contract. Assumes nothing.
 use Prim.Native.Nat.{_+_, _-_, _≤_}
 use borrow.Author.Needs.{needs}
 use native.Mathlib.Omega.{arith}

@@ -1,4 +1,4 @@
--- `ordering::settle` meets its contract. Assumes nothing.
+-- `rooted_coder::settle` meets its contract. Assumes nothing.
 use mathlib.Core.Path.{_∙_}
 use Prim.Native.Nat.{_≤_}
 use native.Mathlib.Omega.{arith}

@@ -1,4 +1,4 @@
--- `ordering::several` meets its contract. Assumes nothing.
+-- `rooted_coder::several` meets its contract. Assumes nothing.
 use mathlib.Core.Path.{_≡_}
 use mathlib.Core.Logic.{inl, inr}
 use mathlib.Core.Bool.{true, false}

@@ -1,4 +1,4 @@
--- `ordering::transfer` meets its contract. Assumes nothing.
+-- `rooted_coder::transfer` meets its contract. Assumes nothing.
 use borrow.Author.Needs.{needs}
 use Rattle.rooted_coder.proofs.Copying.{transferred}
 use Rattle.rooted_coder.proofs.transfer.Statement.{statement}

@@ -1,4 +1,4 @@
--- `ordering::turned` meets its contract. Assumes nothing.
+-- `rooted_coder::turned` meets its contract. Assumes nothing.
 use borrow.Author.Needs.{needs}
 use Rattle.rooted_coder.proofs.Copying.{exchanged}
 use Rattle.rooted_coder.proofs.turned.Statement.{statement}

@@ -1,4 +1,4 @@
--- `ordering::vertices` meets its contract. Assumes nothing.
+-- `rooted_coder::vertices` meets its contract. Assumes nothing.
 use native.Mathlib.Omega.{arith}
 use Rattle.rooted_coder.proofs.Tables.{root-rows, root-length, digits-placed}
 use Rattle.rooted_coder.proofs.vertices.Statement.{statement}

@@ -1,7 +1,7 @@
 -- Document 01, "The skeletons we send" and "Codes": a skeleton by its edge list, its rooted code at a vertex, and what it is to be
 -- the same skeleton under other numbers.
 --
--- Digits alone (where a code ends, decoding) are in the crate `code`. Theorems are in `Theorems`. Assumes nothing.
+-- Digits alone (where a code ends, decoding) are in the crate `digit_code`. Theorems are in `Theorems`. Assumes nothing.
 use mathlib.Core.Path.{_≡_}
 use mathlib.Core.Logic.{Dec·not}
 use mathlib.Core.List.{List, [], _∷_, map, filter, flatten, List·Memᴰ, List·Permᴰ}
