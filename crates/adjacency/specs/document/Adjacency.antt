@@ -44,6 +44,7 @@ row14-physical N E = record { number = 14; applies = λ p. (2 ≤ p) × (p ≤ N
 unfoldable pub entry : List ℕ → ℕ → ℕ
 entry E i = getD (lower E (suc i)) 0 0
 
+-- CAM(1) to CAM(N-1)
 unfoldable pub cam : ℕ → List ℕ → List ℕ
 cam N E = map (entry E) (from 1 (N - 1))
 
@@ -62,6 +63,7 @@ camEdges c = entryEdges 1 c
 unfoldable pub zeroA : List ℕ → ℕ
 zeroA c = let X = drop 1 c in mixed 0 (from 2 (length X)) (map (λ x. x - 1) X)
 
+-- n!
 unfoldable pub factorial : ℕ → ℕ
 factorial zero = 1
 factorial (suc n) = suc n * factorial n

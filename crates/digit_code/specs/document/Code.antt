@@ -16,6 +16,7 @@ use Rattle.refusal.specs.document.Table.{Row, row3}
 abbrev pub digit : List ℕ → ℕ → ℕ
 digit c p = getD c (p - 1) 0
 
+-- the sum of the digits
 unfoldable pub sum : List ℕ → ℕ
 sum [] = 0
 sum (k ∷ ds) = k + sum ds

@@ -16,10 +16,11 @@ use Rattle.skeleton.specs.document.Skeleton.{arcs, degree, Walk}
 abbrev pub Edge : List ℕ → ℕ → Type 0
 Edge E p = (1 ≤ p) × (p ≤ length E / 2)
 
--- its ends
+-- its first end
 abbrev pub firstEnd : List ℕ → ℕ → ℕ
 firstEnd E p = getD E (2 * (p - 1)) 0
 
+-- its second end
 abbrev pub secondEnd : List ℕ → ℕ → ℕ
 secondEnd E p = getD E (2 * (p - 1) + 1) 0
 

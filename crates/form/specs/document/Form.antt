@@ -30,10 +30,11 @@ pub record Centred (N : ℕ) (E : List ℕ) (at : ℕ → List ℕ) (c : List �
   pub above-first : c ≽ at first
   pub above-second : c ≽ at second
 
--- c is the N-tuple code, or the centred code, of the skeleton with the edges E
+-- c is the N-tuple code of the skeleton of N vertices with the edges E
 abbrev pub nTuple : ℕ → List ℕ → List ℕ → Type 0
 nTuple N E c = NTuple N E (rooted N E) c
 
+-- c is its centred code
 abbrev pub centred : ℕ → List ℕ → List ℕ → Type 0
 centred N E c = Centred N E (rooted N E) c
 

@@ -29,9 +29,11 @@ numeralIn (suc k) n = ite (decLt n 10) ((48 + n) ∷ []) (numeralIn k (n / 10) +
 unfoldable pub numeral : ℕ → List ℕ
 numeral n = numeralIn (suc n) n
 
+-- the byte of a space
 abbrev pub space : List ℕ
 space = 32 ∷ []
 
+-- the byte of a line feed
 abbrev pub feed : List ℕ
 feed = 10 ∷ []
 

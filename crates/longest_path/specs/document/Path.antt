@@ -25,10 +25,11 @@ pub record IsLongest (N : ℕ) (E p : List ℕ) : Type 0 where
   pub path : IsPath N E p
   pub longest : (q : List ℕ) → IsPath N E q → length q ≤ length p
 
--- the two middle vertices of a path, which are one where it has an odd number of vertices
+-- the first of the two middle vertices of a path, which are one where it has an odd number of vertices
 unfoldable pub middle₁ : List ℕ → ℕ
 middle₁ p = getD p ((length p - 1) / 2) 0
 
+-- the second of them
 unfoldable pub middle₂ : List ℕ → ℕ
 middle₂ p = getD p (length p / 2) 0
 

@@ -56,6 +56,7 @@ pub data OutcomeOf (K A : Type 0) : Type 0 where
   gives : A → OutcomeOf K A
   refuses : K → ℕ → OutcomeOf K A
 
+-- the same, with a number alone
 abbrev pub Outcome : Type 0 → Type 0
 Outcome A = OutcomeOf ℕ A
 

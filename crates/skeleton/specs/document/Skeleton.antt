@@ -10,6 +10,7 @@ use native.Mathlib.Decide.{ℕ-discrete}
 use lib.ListN.{length}
 use Rattle.laws.specs.document.Order.{sort}
 
+-- an edge from one of its ends: this end, and the other
 abbrev pub Arc : Type 0
 Arc = ℕ × ℕ
 
@@ -23,6 +24,7 @@ arcs (a ∷ b ∷ E) = (a, b) ∷ (b, a) ∷ arcs E
 unfoldable pub neighbours : List Arc → ℕ → List ℕ
 neighbours A v = map (λ e. e .1) (filter {p = λ e. e .0 ≡ v} (λ e. ℕ-discrete (e .0) v) A)
 
+-- how many neighbours v has
 unfoldable pub degree : List ℕ → ℕ → ℕ
 degree E v = length (neighbours (arcs E) v)
 

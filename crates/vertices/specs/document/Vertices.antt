@@ -17,6 +17,7 @@ depthsFrom W [] = []
 depthsFrom [] (k ∷ ds) = []
 depthsFrom (d ∷ W) (k ∷ ds) = d ∷ depthsFrom (replicate k (suc d) ++ W) ds
 
+-- the depth of each vertex, the root having 0
 unfoldable pub depths : List ℕ → List ℕ
 depths c = depthsFrom (0 ∷ []) c
 

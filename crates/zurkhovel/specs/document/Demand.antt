@@ -94,6 +94,7 @@ pub record Unharmed (cs : List (List ℕ)) (ns ps bs : List ℕ) : Type 0 where
   pub handed : handedOut ns ps bs ≡ cs
   pub counts : (read refused : ℕ) → Counted ns read refused → (read ≡ length cs) × (refused ≡ 0)
 
+-- the clean text is answered so, in whatever turns it is read
 abbrev pub CleanText : Type 0
 CleanText = (t ns ps bs : List ℕ) (cs : List (List ℕ)) → Clean t cs → InTurns t ns ps bs → Unharmed cs ns ps bs
 
@@ -107,6 +108,7 @@ pub record Survives (cs : List (List ℕ)) (ns ps bs : List ℕ) : Type 0 where
   pub loses : length cs ≤ length (handedOut ns ps bs) + 2
   pub counts : (read refused : ℕ) → Counted ns read refused → (read ≡ length (handedOut ns ps bs)) × (1 ≤ refused)
 
+-- so is a text in which one byte of the clean text was changed
 abbrev pub OneByteChanged : Type 0
 OneByteChanged = (t u ns ps bs : List ℕ) (cs : List (List ℕ)) → Clean t cs → Change t u → InTurns u ns ps bs → Survives cs ns ps bs
 

@@ -30,6 +30,7 @@ zeros [] = 0
 zeros (zero ∷ ns) = suc (zeros ns)
 zeros (suc n ∷ ns) = zeros ns
 
+-- read records, and refused lines
 pub record Counted (numbers : List ℕ) (read refused : ℕ) : Type 0 where
   pub records : read ≡ zeros numbers
   pub others : read + refused ≡ length numbers
