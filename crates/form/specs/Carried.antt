@@ -65,7 +65,7 @@ module _ (N : ℕ) (E F : List ℕ) (t : IsTree N E) (ρ : Renumbering N E F) wh
         record {
           root = ρ .to (x .root);
           inside = ρ .to-in (x .root) a b;
-          widest = λ v h k. let (i, j) = ρ .from-in v h k in omega (arith, x .widest (ρ .from v) i j, from-degree v h k);
+          maximum = λ v h k. let (i, j) = ρ .from-in v h k in omega (arith, x .maximum (ρ .from v) i j, from-degree v h k);
           is = x .is ∙ same (x .root) a b;
           largest = λ v h k e. let (i, j) = ρ .from-in v h k in rw (← from-code v h k) (x .largest (ρ .from v) i j (omega (arith, from-degree v h k)));
         }

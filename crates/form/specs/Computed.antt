@@ -101,7 +101,7 @@ unfolding Degrees
 computed most R {N} {E} n e l (few, k, one, two) p q =
     let t : IsTree N E = lower-tree N E e l in
     let top = some-n-tuple N E (rooted N E) t .1 in (
-      record { tree = t; few = few; degrees = λ v a b. omega (arith, top .widest v a b) },
+      record { tree = t; few = few; degrees = λ v a b. omega (arith, top .maximum v a b) },
       rw p at (peeled N E t (rooted N E) n one two),
       rw q at top,
     )

@@ -20,7 +20,7 @@ module _ {N : ℕ} {E : List ℕ} {at : ℕ → List ℕ} {c d : List ℕ} where
   top-above x y =
       let (a, b) = y .inside in
       let (g, h) = x .inside in
-      rw (y .is) (x .largest (y .root) a b (omega (arith, x .widest (y .root) a b, y .widest (x .root) g h)))
+      rw (y .is) (x .largest (y .root) a b (omega (arith, x .maximum (y .root) a b, y .maximum (x .root) g h)))
 
   centre-above : IsTree N E → Centred N E at c → Centred N E at d → c ≽ d
   centre-above t x y = which (one-centre N E t (x .first) (x .second) (y .first) (y .second) (x .centre) (y .centre))
@@ -76,7 +76,7 @@ module _ (N : ℕ) (E : List ℕ) (at : ℕ → List ℕ) (t : IsTree N E) where
         record {
           root = r;
           inside = i;
-          widest = λ v a b. ⊎-elim (λ l. omega arith) (λ e. omega arith) (m v a b);
+          maximum = λ v a b. ⊎-elim (λ l. omega arith) (λ e. omega arith) (m v a b);
           is = refl;
           largest = λ v a b e. ⊎-elim (λ l. let z : ⊥ = omega arith in absurd z) (λ g. g .1) (m v a b);
         },

@@ -189,7 +189,7 @@ module _ {N : ℕ} {E : List ℕ} {T : List (List ℕ)} {D : List ℕ} {d : ℕ}
       record {
         root = r;
         inside = i;
-        widest = λ u h k. omega (arith, below u h k);
+        maximum = λ u h k. omega (arith, below u h k);
         is = c;
         largest = λ u h k f. b .top .above u h (omega arith) (f ∙ e);
       }

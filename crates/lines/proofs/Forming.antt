@@ -8,7 +8,7 @@ use lib.ListN.{length, getD, take, drop, length-append, length-drop}
 use lib.Seq.{append-snoc, drop-cons, drop-at, take-all}
 use Rattle.lines.specs.declared.Opening.{Opening}
 use Rattle.lines.specs.declared.Opening.the-variants.{At, Nothing}
-use Rattle.lines.specs.document.Line.{figures, Digits, IsCount, one, two}
+use Rattle.lines.specs.document.Line.{figures, Digits, IsCount, one-digit, two-digits}
 use Rattle.lines.specs.Form.{Value, values, Figured, all, not-all, Begins, Opens, begins, begins-not, Forms, formed, unformed}
 use Rattle.lines.specs.document.Marks.{WrittenDigit, WrittenDigits}
 use Rattle.lines.specs.Cuts.{cut-once}
@@ -38,7 +38,7 @@ module _ {b : List ℕ} where
   begins-one {n} l h e q =
       let p = drop-cons b 0 0 (omega arith) in
       let r = drop-cons b 1 0 (omega arith) in
-      record { count = figures (n ∷ []); rest = drop 2 b; counts = one h refl; parts = cc; start = refl }
+      record { count = figures (n ∷ []); rest = drop 2 b; counts = one-digit h refl; parts = cc; start = refl }
 
   pub begins-two : {d e : ℕ} → 3 ≤ length b → 1 ≤ d → d ≤ 9 → e ≤ 9 → getD b 0 0 ≡ 48 + d → getD b 1 0 ≡ 48 + e → getD b 2 0 ≡ 32 → Begins b (10 * d + e) 3
   unfolding figures
@@ -46,7 +46,7 @@ module _ {b : List ℕ} where
       let p₀ = drop-cons b 0 0 (omega arith) in
       let p₁ = drop-cons b 1 0 (omega arith) in
       let p₂ = drop-cons b 2 0 (omega arith) in
-      record { count = figures (d ∷ e ∷ []); rest = drop 3 b; counts = two d e h k m refl refl; parts = cc; start = refl }
+      record { count = figures (d ∷ e ∷ []); rest = drop 3 b; counts = two-digits d e h k m refl refl; parts = cc; start = refl }
 
   pub no-beginning :
       ((n : ℕ) → 2 ≤ length b → n ≤ 9 → getD b 0 0 ≡ 48 + n → getD b 1 0 ≡ 32 → ⊥)
@@ -55,11 +55,11 @@ module _ {b : List ℕ} where
   no-beginning f g = begins-not (λ n s h. go n (h .rest) (h .counts) (h .parts))
     where
       go : (n : ℕ) {count : List ℕ} (rest : List ℕ) → IsCount count n → b ≡ count ++ (32 ∷ rest) → ⊥
-      go n rest (one h e) q =
+      go n rest (one-digit h e) q =
           let r : b ≡ (48 + n) ∷ 32 ∷ rest = q ∙ ap (λ (l : List ℕ). l ++ (32 ∷ rest)) e in
           let l = ap length r in
           f n (omega arith) h (ap (λ (l : List ℕ). getD l 0 0) r) (ap (λ (l : List ℕ). getD l 1 0) r)
-      go n rest (two d k p m o e w) q =
+      go n rest (two-digits d k p m o e w) q =
           let r : b ≡ (48 + d) ∷ (48 + k) ∷ 32 ∷ rest = q ∙ ap (λ (l : List ℕ). l ++ (32 ∷ rest)) e in
           let l = ap length r in
           g d k (omega arith) p m o (ap (λ (l : List ℕ). getD l 0 0) r) (ap (λ (l : List ℕ). getD l 1 0) r) (ap (λ (l : List ℕ). getD l 2 0) r)

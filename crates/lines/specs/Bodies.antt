@@ -8,7 +8,7 @@ use native.Mathlib.Decide.{decLt}
 use native.Mathlib.Omega.{arith}
 use lib.ListN.{length, length-append}
 use Rattle.digit_code.specs.document.Code.{sum}
-use Rattle.lines.specs.document.Line.{figures, decimal, body, line, Other, Free, Digits, IsCount, one, two, Formed}
+use Rattle.lines.specs.document.Line.{figures, decimal, body, line, Other, Free, Digits, IsCount, one-digit, two-digits, Formed}
 use Rattle.lines.specs.Damage.{Code}
 use Rattle.lines.specs.Cuts.{not-free, cut-only}
 use Rattle.lines.specs.Each.{each-join, each-right}
@@ -50,13 +50,13 @@ unfolding decimal
 decimal-counts n h = go (decLt n 10)
   where
     go : (d : Dec (n < 10)) → IsCount (ite d (figures (n ∷ [])) (figures (n / 10 ∷ n % 10 ∷ []))) n
-    go (yes l) = one (omega arith) refl
-    go (no l) = two (n / 10) (n % 10) (omega arith) (omega arith) (omega arith) refl (omega arith)
+    go (yes l) = one-digit (omega arith) refl
+    go (no l) = two-digits (n / 10) (n % 10) (omega arith) (omega arith) (omega arith) refl (omega arith)
 
 pub count-decimal : {b : List ℕ} {n : ℕ} → IsCount b n → (b ≡ decimal n) × (n ≤ 99)
 unfolding decimal
-count-decimal {n} (one l e) = (e ∙ sym (if-pos (decLt n 10) (omega arith) _ _), omega arith)
-count-decimal {n} (two d f p q r e s) =
+count-decimal {n} (one-digit l e) = (e ∙ sym (if-pos (decLt n 10) (omega arith) _ _), omega arith)
+count-decimal {n} (two-digits d f p q r e s) =
     let u : d ≡ n / 10 = omega arith in
     let v : f ≡ n % 10 = omega arith in
     (rw (← u, ← v) (e ∙ sym (if-neg (decLt n 10) (λ l. omega arith) _ _)), omega arith)
@@ -67,28 +67,28 @@ length-line c = simp (length-append, length-figures) (omega arith)
 
 count-short : {b : List ℕ} {n : ℕ} → IsCount b n → length b ≤ 2
 unfolding figures
-count-short (one l e) = omega (arith, ap length e)
-count-short (two d f p q r e s) = omega (arith, ap length e)
+count-short (one-digit l e) = omega (arith, ap length e)
+count-short (two-digits d f p q r e s) = omega (arith, ap length e)
 
 -- a line is no longer than its digits and four bytes more
 pub line-short : (c : List ℕ) → length c ≤ 99 → length (line c) ≤ length c + 4
 line-short c h = omega (arith, length-line c, count-short (decimal-counts (length c) h))
 
 pub count-free : (k : ℕ) {b : List ℕ} {n : ℕ} → k < 48 → IsCount b n → Free k b
-count-free k {n} l (one h e) = rw e (free-figures k (n ∷ []) (inl l) (h, tt))
-count-free k l (two d f p q r e s) = rw e (free-figures k (d ∷ f ∷ []) (inl l) (q, (r, tt)))
+count-free k {n} l (one-digit h e) = rw e (free-figures k (n ∷ []) (inl l) (h, tt))
+count-free k l (two-digits d f p q r e s) = rw e (free-figures k (d ∷ f ∷ []) (inl l) (q, (r, tt)))
 
 pub one-count : {b : List ℕ} {n m : ℕ} → IsCount b n → IsCount b m → n ≡ m
-one-count {n} {m} (one h e) (one l f) = let g : n ∷ [] ≡ m ∷ [] = same-figures _ _ (cc) in cc
-one-count {n} (one h e) (two d f p q r g s) =
+one-count {n} {m} (one-digit h e) (one-digit l f) = let g : n ∷ [] ≡ m ∷ [] = same-figures _ _ (cc) in cc
+one-count {n} (one-digit h e) (two-digits d f p q r g s) =
     let x : n ∷ [] ≡ d ∷ f ∷ [] = same-figures _ _ (cc) in
     let z : _≡_ {A = ℕ} 0 1 = cc in
     absurd (omega arith)
-one-count {m} (two d f p q r g s) (one h e) =
+one-count {m} (two-digits d f p q r g s) (one-digit h e) =
     let x : m ∷ [] ≡ d ∷ f ∷ [] = same-figures _ _ (cc) in
     let z : _≡_ {A = ℕ} 0 1 = cc in
     absurd (omega arith)
-one-count (two d f p q r g s) (two d′ f′ p′ q′ r′ g′ s′) =
+one-count (two-digits d f p q r g s) (two-digits d′ f′ p′ q′ r′ g′ s′) =
     let x : d ∷ f ∷ [] ≡ d′ ∷ f′ ∷ [] = same-figures _ _ (cc) in
     let y : d ≡ d′ = cc in
     let z : f ≡ f′ = cc in

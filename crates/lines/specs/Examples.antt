@@ -4,7 +4,7 @@ use mathlib.Core.List.{[], _∷_}
 use Prim.Native.Nat.{ℕ, _+_}
 use native.Mathlib.Decide.{decLt}
 use native.Mathlib.Omega.{arith}
-use Rattle.lines.specs.document.Line.{figures, decimal, body, line, IsCount, one, two}
+use Rattle.lines.specs.document.Line.{figures, decimal, body, line, IsCount, one-digit, two-digits}
 
 -- 8 32100100
 written-line :
@@ -20,15 +20,15 @@ written-count = refl
 -- "A count of `0` has the right form"
 count-0 : IsCount (48 ∷ []) 0
 unfolding figures
-count-0 = one (omega arith) refl
+count-0 = one-digit (omega arith) refl
 
 -- `08` and `100` have not
 no-count-08 : (n : ℕ) → IsCount (48 ∷ 56 ∷ []) n → ⊥
 unfolding figures
-no-count-08 n (one h e) = let z : _≡_ {A = ℕ} 0 1 = cc in omega arith
-no-count-08 n (two d f p q r e s) = let z : 48 ≡ 48 + d = cc in omega arith
+no-count-08 n (one-digit h e) = let z : _≡_ {A = ℕ} 0 1 = cc in omega arith
+no-count-08 n (two-digits d f p q r e s) = let z : 48 ≡ 48 + d = cc in omega arith
 
 no-count-100 : (n : ℕ) → IsCount (49 ∷ 48 ∷ 48 ∷ []) n → ⊥
 unfolding figures
-no-count-100 n (one h e) = let z : _≡_ {A = ℕ} 0 1 = cc in omega arith
-no-count-100 n (two d f p q r e s) = let z : _≡_ {A = ℕ} 0 1 = cc in omega arith
+no-count-100 n (one-digit h e) = let z : _≡_ {A = ℕ} 0 1 = cc in omega arith
+no-count-100 n (two-digits d f p q r e s) = let z : _≡_ {A = ℕ} 0 1 = cc in omega arith

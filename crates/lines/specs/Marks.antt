@@ -11,7 +11,7 @@ use lib.ListN.{length}
 use Rattle.refusal.specs.document.Table.{Row, FirstRefusal, Outcome, refuses, left}
 use Rattle.refusal.specs.Laws.{clear-one, first-place, refusal-front, refusal-back}
 use Rattle.limits.specs.document.Limits.{size}
-use Rattle.lines.specs.document.Line.{figures, decimal, body, line, Each, Cut, Digits, IsCount, one, two, Formed, row1, row2, LineAnswers, Reply}
+use Rattle.lines.specs.document.Line.{figures, decimal, body, line, Each, Cut, Digits, IsCount, one-digit, two-digits, Formed, row1, row2, LineAnswers, Reply}
 use Rattle.lines.specs.document.Marks.{WrittenDigits, Allowed, DigitsOnly, Mark}
 use Rattle.lines.specs.document.Judged.{digitTable}
 use Rattle.lines.specs.document.Reading.{LineRead}
@@ -35,8 +35,8 @@ figured [] h = tt
 figured (d ∷ ds) h = ((omega arith, omega (arith, h .0)), figured ds (h .1))
 
 count-figured : {b : List ℕ} {n : ℕ} → IsCount b n → WrittenDigits b
-count-figured {n = n} (one h e) = rw e (figured (n ∷ []) (h, tt))
-count-figured (two d f p q r e s) = rw e (figured (d ∷ f ∷ []) (q, (r, tt)))
+count-figured {n = n} (one-digit h e) = rw e (figured (n ∷ []) (h, tt))
+count-figured (two-digits d f p q r e s) = rw e (figured (d ∷ f ∷ []) (q, (r, tt)))
 
 pub line-digits : (c : List ℕ) → Fits c → DigitsOnly (line c)
 unfolding line body

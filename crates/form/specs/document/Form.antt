@@ -17,7 +17,7 @@ use Rattle.longest_path.specs.document.Path.{IsCentre}
 pub record NTuple (N : ℕ) (E : List ℕ) (at : ℕ → List ℕ) (c : List ℕ) : Type 0 where
   pub root : ℕ
   pub inside : (1 ≤ root) × (root ≤ N)
-  pub widest : (v : ℕ) → 1 ≤ v → v ≤ N → degree E v ≤ degree E root
+  pub maximum : (v : ℕ) → 1 ≤ v → v ≤ N → degree E v ≤ degree E root
   pub is : c ≡ at root
   pub largest : (v : ℕ) → 1 ≤ v → v ≤ N → degree E v ≡ degree E root → c ≽ at v
 

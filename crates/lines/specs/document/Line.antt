@@ -62,8 +62,8 @@ Digits ds = Each Digit ds
 
 -- "a count of one digit, or of two with the first not 0": b is such a count, and says n
 pub data IsCount (b : List ℕ) (n : ℕ) : Type 0 where
-  one : n ≤ 9 → b ≡ figures (n ∷ []) → IsCount b n
-  two : (d e : ℕ) → 1 ≤ d → d ≤ 9 → e ≤ 9 → b ≡ figures (d ∷ e ∷ []) → n ≡ 10 * d + e → IsCount b n
+  one-digit : n ≤ 9 → b ≡ figures (n ∷ []) → IsCount b n
+  two-digits : (d e : ℕ) → 1 ≤ d → d ≤ 9 → e ≤ 9 → b ≡ figures (d ∷ e ∷ []) → n ≡ 10 * d + e → IsCount b n
 
 -- "count, one space, one or more digits 0 to 9": b is that, with the count n and the digits ds
 pub record Formed (b : List ℕ) (n : ℕ) (ds : List ℕ) : Type 0 where
