@@ -107,7 +107,7 @@ module _ (most : ℕ) (rows : List DigitRow) where
   -- ---- with room enough
 
   -- what is read of t, as an answer to the line
-  pub record LineRead (t old new : List ℕ) (o : Outcome ℕ) : Type 0 where
+  pub record FoundLine (t old new : List ℕ) (o : Outcome ℕ) : Type 0 where
     pub answer : Reply
     pub line : LineAnswers most rows t answer
     pub told : o ≡ counted answer
@@ -121,7 +121,7 @@ module _ (most : ℕ) (rows : List DigitRow) where
     line-refused : {k p : ℕ} → FirstRefusal (lineRows most rows t ++ (lineRow15 t lent ∷ [])) k p → FirstRefusal (lineRows most rows t) k p
     line-refused l = refusal-before (lineRows most rows t) (lineRow15 t lent ∷ []) no-15 l
 
-  pub line-read : {t old new : List ℕ} {o : Outcome ℕ} → most ≤ length old → LineRead most rows t old new o → LineRead t old new o
+  pub line-read : {t old new : List ℕ} {o : Outcome ℕ} → most ≤ length old → LineRead most rows t old new o → FoundLine t old new o
   unfolding counted block
   line-read {t} {old} room (kept c w) =
       record {
