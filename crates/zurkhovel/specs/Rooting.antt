@@ -15,7 +15,6 @@ use Rattle.digit_code.specs.document.Code.{codeRows, decode}
 use Rattle.skeleton.specs.document.Skeleton.{rooted}
 use Rattle.edge_list.specs.document.Edges.{edgeRows}
 use Rattle.adjacency.specs.document.Adjacency.{camEdges}
-use Rattle.zurkhovel.specs.document.Codes.{LaysEdges}
 use Rattle.zurkhovel.specs.document.Matrix.{NumberedByCode}
 
 -- what is Known where none of rs applies, or the refusal of rs
@@ -41,6 +40,10 @@ pub record ListedByCode (most N : ℕ) (E ends : List ℕ) : Type 0 where
 abbrev pub ListingByCode : ℕ → ℕ → List ℕ → List ℕ → Check → Type 0
 ListingByCode most N E ends a = Judged (edgeRows most valence N E 1) (ListedByCode most N E ends) a
 
+-- the edges of digits that are a right code, with row 15 alone
+abbrev pub LaysEdges : List ℕ → List ℕ → List ℕ → Outcome ℕ → Type 0
+LaysEdges c old new o = Gives [] (λ E. E ≡ decode c) old new o
+
 -- the digits that were read are a right code, if the form was not refused
 abbrev pub Readable : List ℕ → Answer → Type 0
 Readable digits (Done n) = Clear (codeRows size valence (take n digits)) × (n ≤ length digits)
@@ -54,7 +57,3 @@ EdgesOf digits old new (Refused k p) r = (r ≡ Refused k p) × (new ≡ old)
 -- the edges of a CAM, with row 15 alone
 abbrev pub LaysCam : List ℕ → List ℕ → List ℕ → Outcome ℕ → Type 0
 LaysCam c old new o = Gives [] (λ E. E ≡ camEdges c) old new o
-
--- the same where no row of c applies
-abbrev pub LaysEdges : List ℕ → List ℕ → List ℕ → Outcome ℕ → Type 0
-LaysEdges c old new o = Gives [] (λ E. E ≡ decode c) old new o
