@@ -26,8 +26,9 @@ static inline int digits_compare(const uint8_t *a, const uint8_t *b, size_t n) {
     return 0;
 }
 
-/* Codes of a tree, n digits each. */
-void code_rooted(const struct tree *t, unsigned root, uint8_t *out);
+/* Codes of a tree, n digits each. `order` gets the vertex of each digit of the rooted code; the answer is how many pairs of marks were looked at, where every two
+ * siblings were compared once. */
+unsigned code_rooted(const struct tree *t, unsigned root, uint8_t *order, uint8_t *out);
 void code_centred(const struct tree *t, uint8_t *out);
 void code_n_tuple(const struct tree *t, uint8_t *out);
 

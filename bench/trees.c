@@ -57,49 +57,59 @@ uint32_t tree_read(struct tree *t, uint64_t n, const uint8_t *edges, size_t len,
     return 0;
 }
 
-/* The code of what hangs at v; its length. The children's codes are written one behind the other, and then put in order where they are not. A leaf's
- * code is the smallest: leaves are only counted, and their digits come last. */
-static unsigned subtree(const struct tree *t, unsigned v, unsigned parent, uint8_t *out) {
-    const uint8_t *child[VALENCE];
-    unsigned length[VALENCE], k = 0, at = 1, leaves = 0, moved = 0;
+/* Whether the m vertices at x come before the n at y in dictionary order of their marks. The pairs looked at are added to `*looked`. */
+static inline int smaller(const uint8_t *mark, const uint8_t *x, size_t m, const uint8_t *y, size_t n, unsigned *looked) {
+    size_t least = m < n ? m : n, i = 0;
+    while (i < least && mark[x[i]] == mark[y[i]])
+        i++;
+    *looked += (unsigned)(i + (i < least));
+    return i < least ? mark[x[i]] < mark[y[i]] : m < n;
+}
+
+/* Writes what hangs at v to `at`, in the order of its code, and returns where it ends. The children's parts stand one behind the other, largest first: each new one
+ * is compared with all of them, and moved before the first that is smaller. Of the marks it knows only the table. */
+static uint8_t *subtree(const struct tree *t, const uint8_t *mark, unsigned v, unsigned parent, uint8_t *at, unsigned *looked) {
+    uint8_t *part[VALENCE + 1];
+    unsigned k = 0, pairs = 0;
+    *at++ = (uint8_t)v;
+    part[0] = at;
     for (unsigned i = 0; i < t->degree[v]; i++) {
-        unsigned w = t->near[v][i];
+        unsigned w = t->near[v][i], place = k;
         if (w == parent)
             continue;
-        if (t->degree[w] == 1) {
-            leaves++;
-            continue;
+        uint8_t *end = at + 1;
+        if (t->degree[w] == 1)
+            *at = (uint8_t)w;
+        else
+            end = subtree(t, mark, w, v, at, looked);
+        size_t len = (size_t)(end - at);
+        for (unsigned j = k; j-- > 0;)
+            if (smaller(mark, part[j], (size_t)(part[j + 1] - part[j]), at, len, &pairs))
+                place = j;
+        if (place < k) {
+            uint8_t held[SIZE];
+            memcpy(held, at, len);
+            memmove(part[place] + len, part[place], (size_t)(at - part[place]));
+            memcpy(part[place], held, len);
+            for (unsigned j = k; j > place; j--)
+                part[j] = part[j - 1] + len;
         }
-        const uint8_t *code = out + at;
-        unsigned len = subtree(t, w, v, out + at), j = k++;
-        for (; j > 0; j--) {
-            if (digits_compare(child[j - 1], code, len < length[j - 1] ? len : length[j - 1]) >= 0)
-                break;
-            child[j] = child[j - 1];
-            length[j] = length[j - 1];
-            moved = 1;
-        }
-        child[j] = code;
-        length[j] = len;
-        at += len;
+        part[++k] = at = end;
     }
-    out[0] = (uint8_t)(k + leaves);
-    if (moved) {
-        uint8_t sorted[SIZE];
-        unsigned m = 0;
-        for (unsigned j = 0; j < k; j++) {
-            memcpy(sorted + m, child[j], length[j]);
-            m += length[j];
-        }
-        memcpy(out + 1, sorted, m);
-    }
-    for (; leaves > 0; leaves--)
-        out[at++] = 0;
+    *looked += pairs;
     return at;
 }
 
-void code_rooted(const struct tree *t, unsigned root, uint8_t *out) {
-    subtree(t, root, 0, out);
+unsigned code_rooted(const struct tree *t, unsigned root, uint8_t *order, uint8_t *out) {
+    uint8_t mark[SIZE + 1];
+    unsigned looked = 0;
+    for (unsigned v = 1; v <= SIZE; v++)
+        mark[v] = (uint8_t)(t->degree[v] - 1);
+    mark[root] = t->degree[root];
+    subtree(t, mark, root, 0, order, &looked);
+    for (unsigned i = 0; i < t->n; i++)
+        out[i] = mark[order[i]];
+    return looked;
 }
 
 /* The middle of the longest paths, one vertex twice or two: leaves are taken off, round by round. */
@@ -127,19 +137,20 @@ static void centre(const struct tree *t, unsigned *first, unsigned *second) {
 }
 
 void code_centred(const struct tree *t, uint8_t *out) {
+    uint8_t order[SIZE];
     unsigned first, second;
     centre(t, &first, &second);
-    code_rooted(t, first, out);
+    code_rooted(t, first, order, out);
     if (first != second) {
         uint8_t other[SIZE];
-        code_rooted(t, second, other);
+        code_rooted(t, second, order, other);
         if (digits_compare(out, other, t->n) < 0)
             memcpy(out, other, t->n);
     }
 }
 
 void code_n_tuple(const struct tree *t, uint8_t *out) {
-    uint8_t other[SIZE];
+    uint8_t order[SIZE], other[SIZE];
     unsigned most = 0, any = 0;
     for (unsigned v = 1; v <= t->n; v++)
         if (t->degree[v] > most)
@@ -147,7 +158,7 @@ void code_n_tuple(const struct tree *t, uint8_t *out) {
     for (unsigned v = 1; v <= t->n; v++) {
         if (t->degree[v] != most)
             continue;
-        code_rooted(t, v, any ? other : out);
+        code_rooted(t, v, order, any ? other : out);
         if (any && digits_compare(out, other, t->n) < 0)
             memcpy(out, other, t->n);
         any = 1;
@@ -202,11 +213,11 @@ uint32_t c_same(uint64_t n1, const uint8_t *e1, size_t l1, uint64_t n2, const ui
 
 uint32_t c_pack(uint64_t n, const uint8_t *edges, size_t len, uint64_t root, uint8_t *out, size_t out_len, uint64_t *place) {
     struct tree t;
-    uint8_t code[SIZE];
+    uint8_t order[SIZE], code[SIZE];
     uint32_t refused = begin(&t, n, edges, len, root, (2 * n + 6) / 8, out_len, place);
     if (refused)
         return refused;
-    code_rooted(&t, (unsigned)root, code);
+    code_rooted(&t, (unsigned)root, order, code);
     uint64_t held = 0;
     unsigned bits = 0, at = 0;
     for (unsigned i = 0; i < n; i++) {
