@@ -1,7 +1,7 @@
--- A number in a mixed base, for any list of bases. Document 01 builds 0A and A0 so: "begin with 0, and for each i multiply by .. and add ..".
+-- Laws of a number in a mixed base, for any list of bases; what it is stands in `document.Mixed`.
 --
--- In order: the number of digits, and the digits of a number; digits of a number give it back; a number has digits; their range. What
--- the bases are stands in `Adjacency`. Assumes nothing.
+-- In order: digits of a number give it back; a number has digits; their range. What the bases are stands in `document.Adjacency`.
+-- Assumes nothing.
 use mathlib.Core.Path.{_≡_, refl, ap₂}
 use mathlib.Core.List.{List, [], _∷_}
 use Prim.Native.Nat.{ℕ, suc, _+_, _*_, _≤_, _<_}

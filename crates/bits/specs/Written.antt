@@ -1,7 +1,7 @@
--- The packed form and the whole-number form of a code, as they are written, and that each is one.
+-- That the packed form and the whole-number form of a code (`document.Written`) are each one, and are read back.
 --
--- In order: what a writer is lent; the two forms; they are read back, and what is read is one; there is one packed form and one whole
--- number. Assumes nothing.
+-- In order: a code that a writer takes; the two forms are read back, and what is read is one; there is one packed form and one whole number.
+-- Assumes nothing.
 use mathlib.Core.Path.{_≡_, refl, sym, ap, _∙_}
 use mathlib.Core.Bool.{Bool}
 use mathlib.Core.List.{List, [], _∷_}

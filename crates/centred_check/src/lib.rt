@@ -30,7 +30,7 @@ ghost use Rattle.centred_check.specs.Scan.{Scan, Scanned};
 ghost use Rattle.centred_check.specs.Race.{Tells};
 ghost use Rattle.centred_check.specs.Spot.{Spot};
 
-// Places for where the trees on a stack begin, and where the digits end; above each place of the stack.
+// Places for where the trees on the stack begin, one for each, and one more for where the digits end. No place of the stack has this number.
 const STARTS: usize = SIZE + 1;
 
 // Atoms that a mark can name, and the neighbours that the first of them may have.

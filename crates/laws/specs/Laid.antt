@@ -1,6 +1,5 @@
--- Document 01, "Refusal numbers": "success writes the result from the start of the output and touches nothing behind it".
---
--- What that leaves in the output; how a loop that writes it goes on is in `Laying`. Assumes nothing.
+-- How long an output is over whose start something was written (`document.Laid`). How a loop that writes it goes on is in `Laying`.
+-- Assumes nothing.
 use mathlib.Core.Path.{_≡_, _∙_}
 use mathlib.Core.List.{List}
 use Prim.Native.Nat.{ℕ, _≤_}

@@ -1,8 +1,7 @@
--- What damage can do to a text of lines: a change of one byte, what is left of the records behind it, and reading again after a
--- line feed. The theorems are in `Theorems`.
+-- What damage can do to a text of lines, said of its answers: what is left of the records after a change of one byte, and reading again
+-- after a line feed. What a change is stands in `document.Damage`; the theorems are in `Theorems`.
 --
--- In order: what is asked of the rows that judge digits; a change; the records and refusals among the answers; `Robust`;
--- `Recovers`. Assumes nothing.
+-- In order: what is asked of the rows that judge digits; `Robust`; `Recovers`. Assumes nothing.
 use mathlib.Core.Path.{_≡_}
 use mathlib.Core.List.{List, [], _∷_, _++_, map}
 use Prim.Native.Nat.{ℕ, _+_, _≤_}

@@ -1,4 +1,5 @@
--- The form of a line, as the code finds it and writes it: what its functions promise, in the words of `Line`. Assumes nothing.
+-- The form of a line, as the code finds it and writes it: what its functions promise, in the words of `Line`; and what the functions of a text
+-- promise each other. Assumes nothing.
 use mathlib.Core.Path.{_≡_}
 use mathlib.Core.Bool.{Bool, true, false}
 use mathlib.Core.List.{List, _∷_, _++_, map}

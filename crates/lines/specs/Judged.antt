@@ -1,4 +1,4 @@
--- Which rows judge a line's digits, and that they are lawful. Assumes nothing.
+-- That the rows which judge a line's digits (`document.Judged`) are lawful. Assumes nothing.
 use mathlib.Core.Path.{_≡_, refl}
 use mathlib.Core.List.{List, _∷_}
 use Prim.Native.Nat.{ℕ, _≤_}

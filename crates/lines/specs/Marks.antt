@@ -1,7 +1,6 @@
--- "No line may ever hold a decimal mark: the text carries digits only."
+-- "No line may ever hold a decimal mark: the text carries digits only." The bytes of a line, and the marks, are in `document.Marks`.
 --
--- In order: the bytes that a line may hold; they are those of every line that is written; a line that holds another is refused 2.
--- Assumes nothing.
+-- In order: the bytes of every line that is written; a line that holds a mark is refused 2. Assumes nothing.
 use mathlib.Core.Path.{_≡_, refl}
 use mathlib.Core.Logic.{inl, inr}
 use mathlib.Core.List.{List, [], _∷_, _++_, append-assoc}

@@ -1,8 +1,6 @@
--- Document 01, "Numbering by code": "The vertex of the i-th digit gets number i. Decoding gives the edges (parent, child) for child 2 to N
--- in that order."
+-- That the edges of every right code are numbered by code: `decoded`. What this says of vertex i is in `document.Decoded`.
 --
--- In order: where the children's codes begin; the parent; what is said of vertex i; that it holds in the edges of every right code
--- (`decoded`). Assumes nothing.
+-- In order: the children's codes of a vertex of the decoded tree; its parent; `decoded`. Assumes nothing.
 use mathlib.Core.Path.{_≡_, refl, ap, ap₂, sym, _∙_}
 use mathlib.Core.List.{List, [], _∷_, _++_, map, flatten, append-assoc}
 use Prim.Native.Nat.{ℕ, zero, suc, _+_, _-_, _*_, _≤_}

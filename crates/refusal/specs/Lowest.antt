@@ -1,6 +1,4 @@
--- Document 01, "Refusal numbers": "Where several apply, the lowest number wins, then its first place."
---
--- In order: a table whose numbers rise; that the lowest number wins; in a table whose numbers rise it does. Assumes nothing.
+-- In a table whose numbers rise the lowest number wins, at its first place: the two are stated in `document.Lowest`. Assumes nothing.
 use mathlib.Core.Path.{_≡_, refl}
 use mathlib.Core.Logic.{_⊎_, inl, inr, ⊎-elim}
 use mathlib.Core.Bool.{Bool, true, false}

@@ -2,7 +2,7 @@
 -- promises of the calls cite.
 --
 -- Where a skeleton has a name, its longest chain is numbered along, and its branches behind that. 002's example has the numbers of its code,
--- and 001's skeleton has 001's own. In order: a row; 001's line; the table. Assumes nothing.
+-- and 001's skeleton has 001's own. What a row says is in `document.Figures`. Assumes nothing.
 use mathlib.Core.Path.{_≡_, refl}
 use mathlib.Core.Logic.{Dec·and, Dec·not}
 use mathlib.Core.List.{List, [], _∷_, _++_, flatten}
