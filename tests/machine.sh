@@ -22,11 +22,11 @@ need_emulator() {
     fi
 }
 
-# sets cc, the C compiler for x86-64, and static, its flag for programs that are emulated
+# sets cc, the C compiler for x86-64. What it links is not static: Debian's libm.a for another machine names files that are not there
 need_compiler() {
     need_emulator
-    cc=gcc static= headers=/usr/include package='gcc libc6-dev'
-    native || { cc=x86_64-linux-gnu-gcc static=-static headers=/usr/x86_64-linux-gnu/include package='gcc-x86-64-linux-gnu libc6-dev-amd64-cross'; }
+    cc=gcc headers=/usr/include package='gcc libc6-dev'
+    native || { cc=x86_64-linux-gnu-gcc headers=/usr/x86_64-linux-gnu/include package='gcc-x86-64-linux-gnu libc6-dev-amd64-cross'; }
     if ! command -v $cc > /dev/null || [ ! -e $headers/stdio.h ]; then
         install_missing $package
     fi
