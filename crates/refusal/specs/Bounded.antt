@@ -2,15 +2,20 @@
 --
 -- In order: what such a table is; how it is put together of rows and of other tables; two lists; what a call with such a table tells.
 -- Assumes nothing.
-use mathlib.Core.Path.{_≡_, sym, subst}
+use mathlib.Core.Path.{_≡_, refl}
 use mathlib.Core.Logic.{inl, inr, ⊎-elim}
+use mathlib.Core.Bool.{Bool, true}
 use mathlib.Core.List.{List, [], _∷_, _++_}
 use Prim.Native.Nat.{ℕ, _<_}
 use native.Mathlib.Omega.{arith}
+use lib.Dec.{ltb}
 use lib.ListN.{length}
-use Rattle.refusal.specs.document.Table.{RowOf, Row, ofList, Clear, FirstRefusal, OutcomeOf, Outcome, Promise, kept, left, Answered, Writes, short, Gives}
+use borrow.Author.Tests.{ltb-true}
+use Rattle.refusal.specs.document.Table.{RowOf, Row, ofList, Clear, First, FirstRefusal, OutcomeOf, Outcome, Promise, kept, left, Answered, short, Gives}
+use Rattle.refusal.specs.document.Lowest.{both}
 use Rattle.refusal.specs.document.Small.{byteValues, SmallNumber, SmallOfList, Small, SmallAnswer, SmallRefusal}
 use Rattle.refusal.specs.Laws.{clear-left, refusal-either, list-clear, list-told}
+use Rattle.refusal.specs.Lowest.{both-left, both-right}
 
 -- whatever refuses, Number holds of its number, and its place is below 256
 pub record BoundedBy {K : Type 0} (Number : K → Type 0) (rs : List (RowOf K)) : Type 0 where
@@ -22,19 +27,31 @@ Bounded rs = BoundedBy SmallNumber rs
 
 -- ---- put together
 
-pub bounded-none : Bounded []
-bounded-none = record { refusal = λ k p l. absurd (l .is) }
+-- each row's number is 1 to 255
+abbrev pub numbersSmall : List Row → Bool
+numbersSmall [] = true
+numbersSmall (r ∷ rs) = both (both (ltb 0 (r .number)) (ltb (r .number) byteValues)) (numbersSmall rs)
 
--- a row, and the rows behind it, which count where it does not apply
-pub bounded-row :
-    {r : Row} {rs : List Row} → SmallNumber (r .number) → ((p : ℕ) → r .applies p → p < byteValues) → (((p : ℕ) → r .applies p → ⊥) → Bounded rs)
-    → Bounded (r ∷ rs)
-bounded-row {r} {rs} n b d =
-    record {
-      refusal =
-          λ k p l.
-          ⊎-elim (λ (e, a, f). (subst SmallNumber (sym e) n, b p a)) (λ (c, f). d c .refusal k p (record { is = f })) (l .is);
-    }
+-- each row applies below 256 alone
+abbrev pub PlacesSmall : List Row → Type 0
+PlacesSmall [] = Unit {0}
+PlacesSmall (r ∷ rs) = ((p : ℕ) → r .applies p → p < byteValues) × PlacesSmall rs
+
+first-small : (rs : List Row) (k p : ℕ) → numbersSmall rs ≡ true → PlacesSmall rs → First rs k p → SmallNumber k × (p < byteValues)
+first-small (r ∷ rs) k p t (b, d) (inl (e, a, f)) =
+    let n = both-left _ (numbersSmall rs) t in
+    let l = ltb-true 0 (r .number) (both-left _ (ltb (r .number) byteValues) n) in
+    let m = ltb-true (r .number) byteValues (both-right (ltb 0 (r .number)) _ n) in
+    ((omega arith, omega arith), b p a)
+first-small (r ∷ rs) k p t (b, d) (inr (n, f)) = first-small rs k p (both-right (both (ltb 0 (r .number)) (ltb (r .number) byteValues)) _ t) d f
+
+-- a table by its rows
+pub bounded-rows : {rs : List Row} → numbersSmall rs ≡ true → PlacesSmall rs → Bounded rs
+bounded-rows {rs} t b = record { refusal = λ k p l. first-small rs k p t b (l .is) }
+
+-- a row that applies at 0 alone
+pub at-0 : {A : Type 0} (p : ℕ) → (p ≡ 0) × A → p < byteValues
+at-0 p (e, a) = omega arith
 
 -- one table behind another, which counts where the first is clear
 pub bounded-both :
@@ -47,13 +64,13 @@ pub bounded-lists : (rs ss : List Row) → Bounded rs → (Clear rs → Bounded 
 bounded-lists rs ss b d =
     bounded-both (ofList 1 rs) (ofList 2 ss) (record { refusal = λ (i, k) p l. let (e, f) = list-told 1 rs l in let (n, s) = b .refusal k p f in ((inl e, n), s) })
     (λ c.
-      record {
-        refusal =
-            λ (i, k) p l.
-            let (e, f) = list-told 2 ss l in
-            let (n, s) = d (list-clear 1 rs .1 c) .refusal k p f in
-            ((inr e, n), s);
-      })
+    record {
+      refusal =
+          λ (i, k) p l.
+          let (e, f) = list-told 2 ss l in
+          let (n, s) = d (list-clear 1 rs .1 c) .refusal k p f in
+          ((inr e, n), s);
+    })
 
 -- ---- what is told
 
@@ -78,5 +95,5 @@ pub small-written :
     → Gives rs Right old new o → SmallAnswer o
 small-written {rs} {Right} {old} b v g =
     small
-    (bounded-both rs (short Right (length old) ∷ []) b (λ k. bounded-row (omega arith, omega arith) (λ p (c, r, (e, l)). omega (arith, v k c r)) (λ n. bounded-none)))
+    (bounded-both rs (short Right (length old) ∷ []) b (λ k. bounded-rows refl ((λ p (c, r, (e, l)). omega (arith, v k c r)), tt)))
     (λ k n w. omega (arith, w .count, v (clear-left rs (short Right (length old) ∷ []) k) (w .result) (w .right))) (g .promise)
