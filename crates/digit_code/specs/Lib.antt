@@ -4,6 +4,7 @@ pub mod Counting
 pub mod Parts
 pub mod Siblings
 pub mod Ordered
+pub mod Within
 pub mod Search
 pub mod Two
 pub mod Stack

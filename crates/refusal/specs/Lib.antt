@@ -2,6 +2,7 @@
 pub mod Apart
 pub mod Laws
 pub mod Lowest
+pub mod Bounded
 pub mod Giving
 pub mod Checks
 pub mod document

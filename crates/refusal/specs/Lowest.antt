@@ -11,11 +11,11 @@ use Rattle.refusal.specs.document.Table.{Row, Applies, First}
 use Rattle.refusal.specs.Laws.{applied}
 use Rattle.refusal.specs.document.Lowest.{LowestWins, above, both, rises}
 
-both-left : (a b : Bool) → both a b ≡ true → a ≡ true
+pub both-left : (a b : Bool) → both a b ≡ true → a ≡ true
 both-left true b h = refl
 both-left false b h = h
 
-both-right : (a b : Bool) → both a b ≡ true → b ≡ true
+pub both-right : (a b : Bool) → both a b ≡ true → b ≡ true
 both-right true b h = h
 both-right false true h = refl
 both-right false false h = h

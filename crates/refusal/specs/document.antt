@@ -3,3 +3,4 @@ pub mod Table
 pub mod Outcome
 pub mod Given
 pub mod Lowest
+pub mod Small

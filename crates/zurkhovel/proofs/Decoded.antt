@@ -11,9 +11,9 @@ use Rattle.refusal.specs.Giving.{refused-short, given-laid}
 use Rattle.limits.specs.document.Limits.{size, valence}
 use Rattle.digit_code.specs.document.Code.{codeRows, decode}
 use Rattle.digit_code.specs.Right.{clear-right}
-use Rattle.skeleton.specs.Theorems.{decoded-tree}
 use Rattle.form.specs.document.Form.{formRows}
 use Rattle.zurkhovel.specs.Rooting.{LaysEdges}
+use Rattle.zurkhovel.specs.Places.{edges-of}
 use Rattle.zurkhovel.proofs.Behind.{none}
 
 -- a code of a form is a right rooted code
@@ -23,7 +23,7 @@ right-of form c k = clear-left (codeRows size valence c) _ k
 module _ (c : List ℕ) (k : Clear (codeRows size valence c)) where
   -- two for each vertex but the root
   pub edges-length : length (decode c) ≡ 2 * (length c - 1)
-  edges-length = let r = clear-right size valence c k in omega (arith, decoded-tree c (r .ends) .edges, r .some)
+  edges-length = edges-of c (clear-right size valence c k .ends)
 
   edges-sized : (E : List ℕ) → E ≡ decode c → length E ≡ 2 * (length c - 1)
   edges-sized E e = ap length e ∙ edges-length

@@ -1,5 +1,10 @@
 -- The promises of the public calls. Assumes nothing.
 pub mod Tables
+pub mod Bounds
+pub mod Places
+pub mod PlacesBits
+pub mod PlacesMatrix
+pub mod PlacesText
 pub mod Accepted
 pub mod Theorems
 pub mod One
