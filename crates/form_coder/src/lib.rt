@@ -5,9 +5,9 @@ use limits::SIZE;
 use limits::WIDTH;
 use refusal::Check;
 ghost use mathlib.Core.Path.{_≡_};
-ghost use mathlib.Core.List.{[], _∷_};
-ghost use Prim.Native.Nat.{_≤_};
-ghost use lib.ListN.{length};
+ghost use mathlib.Core.List.{List, [], _∷_};
+ghost use Prim.Native.Nat.{ℕ, _≤_};
+ghost use lib.ListN.{length, take};
 ghost use Rattle.refusal.specs.document.Table.{Writes};
 ghost use Rattle.refusal.specs.Checks.{Answers};
 ghost use Rattle.limits.specs.document.Limits.{size};
@@ -15,8 +15,9 @@ ghost use Rattle.limits.specs.Width.{width};
 ghost use Rattle.digit_code.specs.document.Code.{decode};
 ghost use Rattle.digit_code.specs.Ends.{Ends};
 ghost use Rattle.skeleton.specs.document.Skeleton as tree;
+ghost use Rattle.edge_list.specs.Table.{IsTable, Held};
 ghost use Rattle.form.specs.document.Form.{nTuple, centred, row14-form, formRows};
-ghost use Rattle.form_coder.specs.Raised.{Raised, MaximumDegree};
+ghost use Rattle.form_coder.specs.Raised.{Raised, Numbered, MaximumDegree};
 
 // The rooted code at a vertex.
 pub fn rooted(n: usize, edges: &[u8], root: usize, out: &mut [u8])
@@ -26,17 +27,50 @@ pub fn rooted(n: usize, edges: &[u8], root: usize, out: &mut [u8])
 {
     let mut rows = [[0u8; WIDTH]; SIZE];
     let mut degs = [0u8; SIZE];
+    let mut order = [0u8; SIZE];
     edge_list::fill(n, edges, &mut rows, &mut degs);
-    rooted_coder::rooted(&rows, &degs, n, root, out);
+    rooted_coder::rooted(&rows, &degs, n, root, &mut order, out);
 }
 
-// The larger of the first n digits of two codes is left in the first.
-fn raise(best: &mut [u8], other: &[u8], n: usize)
-    requires { ⌜ (n ≤ length (now best)) × (n ≤ length (now other)) ⌝ }
-    ensures { λ _. ⌜ Raised n (now (best .entry)) (now (other .entry)) (now (best .exit)) ⌝ }
+// Where the rooted code at v is larger than the first n digits of `best`, it is written over them, and the vertex of each digit into `order`.
+fn raise(
+    rows: &[[u8; WIDTH]; SIZE],
+    degs: &[u8; SIZE],
+    n: usize,
+    v: usize,
+    order: &mut [u8; SIZE],
+    best: &mut [u8],
+)
+    requires { ⌜ Held n (now rows) (now degs) ⌝ }
+    requires { ⌜ (1 ≤ v) × (v ≤ n) × (length (now order) ≡ size) × (n ≤ length (now best)) ⌝ }
+    ensures { λ _. ⌜ length (now (order .exit)) ≡ size ⌝ }
+    ensures { λ _. ⌜ ((E : List ℕ) → tree.IsTree n E → IsTable n E (now (rows .entry)) (now (degs .entry))
+        → Raised n E v (now (order .entry)) (now (best .entry)) (now (order .exit)) (now (best .exit))) ⌝ }
 {
+    let mut its = [0u8; SIZE];
+    let mut other = [0u8; SIZE];
+    rooted_coder::rooted(rows, degs, n, v, &mut its, &mut other);
     if !digit_code::falls(&best[..n], &other[..n]) {
         bytes::copy(&other[..n], best);
+        bytes::copy(&its, order);
+    }
+}
+
+// The centred code, and the vertex of each digit. Of two middle vertices with equal codes the first one found is the root.
+fn numbered(n: usize, edges: &[u8], order: &mut [u8; SIZE], out: &mut [u8])
+    requires { ⌜ tree.IsSkeleton size width n (now edges) ⌝ }
+    requires { ⌜ (length (now order) ≡ size) × (n ≤ length (now out)) ⌝ }
+    ensures { λ _. ⌜ Writes (Numbered n (now (edges .entry)) (take n (now (order .exit)))) (now (out .entry)) n (now (out .exit)) ⌝ }
+{
+    let mut rows = [[0u8; WIDTH]; SIZE];
+    let mut degs = [0u8; SIZE];
+    edge_list::fill(n, edges, &mut rows, &mut degs);
+    let m = centre::centre(&rows, &degs, n);
+    let u = m.first;
+    let v = m.second;
+    rooted_coder::rooted(&rows, &degs, n, u, order, out);
+    if u != v {
+        raise(&rows, &degs, n, v, order, out);
     }
 }
 
@@ -46,18 +80,8 @@ pub fn centred(n: usize, edges: &[u8], out: &mut [u8])
     requires { ⌜ n ≤ length (now out) ⌝ }
     ensures { λ _. ⌜ Writes (centred n (now (edges .entry))) (now (out .entry)) n (now (out .exit)) ⌝ }
 {
-    let mut rows = [[0u8; WIDTH]; SIZE];
-    let mut degs = [0u8; SIZE];
-    edge_list::fill(n, edges, &mut rows, &mut degs);
-    let m = centre::centre(&rows, &degs, n);
-    let u = m.first;
-    let v = m.second;
-    rooted_coder::rooted(&rows, &degs, n, u, out);
-    if u != v {
-        let mut other = [0u8; SIZE];
-        rooted_coder::rooted(&rows, &degs, n, v, &mut other);
-        raise(out, &other, n);
-    }
+    let mut order = [0u8; SIZE];
+    numbered(n, edges, &mut order, out);
 }
 
 // The greatest degree.
@@ -88,14 +112,13 @@ pub fn n_tuple(n: usize, edges: &[u8], out: &mut [u8])
     edge_list::fill(n, edges, &mut rows, &mut degs);
     let d = widest(&degs, n);
     let mut best = [0u8; SIZE];
-    let mut other = [0u8; SIZE];
+    let mut order = [0u8; SIZE];
     let mut v = 0;
     while v < n {
         let k = degs[v];
         v += 1;
         if k == d {
-            rooted_coder::rooted(&rows, &degs, n, v, &mut other);
-            raise(&mut best, &other, n);
+            raise(&rows, &degs, n, v, &mut order, &mut best);
         }
     }
     bytes::copy(&best[..n], out);
