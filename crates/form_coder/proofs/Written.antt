@@ -19,7 +19,8 @@ use Rattle.numbering.specs.Numbers.{order}
 use Rattle.longest_path.specs.document.Path.{IsCentre}
 use Rattle.longest_path.specs.Theorems.{centre-inside}
 use Rattle.form.specs.One.{at-first, at-second}
-use Rattle.form_coder.specs.Raised.{Raised, kept, raised, Numbered}
+use Rattle.form_coder.specs.Raised.{Raised, kept, raised}
+use Rattle.form_coder.specs.Numbered.{Numbered}
 
 -- ---- the rooted code
 

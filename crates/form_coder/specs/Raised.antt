@@ -1,5 +1,4 @@
--- What the functions of coding promise each other: the larger of two codes, the centred code with its numbering, the greatest degree.
--- Assumes nothing.
+-- The larger of two codes, each with the order of its vertices, and the greatest degree. Assumes nothing.
 use mathlib.Core.Path.{_≡_}
 use mathlib.Core.List.{List}
 use Prim.Native.Nat.{ℕ, _≤_, _<_}
@@ -8,20 +7,11 @@ use Rattle.laws.specs.document.Order.{_≽_}
 use Rattle.laws.specs.document.Laid.{laidOver}
 use Rattle.skeleton.specs.document.Skeleton.{rooted}
 use Rattle.numbering.specs.Numbers as numbers
-use Rattle.form.specs.document.Form.{centred}
 
 -- a code begins best and o has the vertex of each digit; new and p are these, or, where the rooted code at v is larger, that one and its own
 pub data Raised (N : ℕ) (E : List ℕ) (v : ℕ) (o best p new : List ℕ) : Type 0 where
   kept : take N best ≽ rooted N E v → p ≡ o → new ≡ best → Raised N E v o best p new
   raised : (take N best ≽ rooted N E v → ⊥) → take N p ≡ numbers.order N E v → new ≡ laidOver (rooted N E v) best → Raised N E v o best p new
-
--- c is the centred code of E, the one at root, and o has the vertex of each digit
-pub record Numbered (N : ℕ) (E o c : List ℕ) : Type 0 where
-  pub root : ℕ
-  pub inside : (1 ≤ root) × (root ≤ N)
-  pub code : c ≡ rooted N E root
-  pub right : centred N E c
-  pub order : o ≡ numbers.order N E root
 
 -- r is the greatest of the first n
 pub record MaximumDegree (d : List ℕ) (n r : ℕ) : Type 0 where

@@ -1,13 +1,15 @@
-// The codes of an accepted edge list: rooted at a vertex, N-tuple and centred. Whether digits are an N-tuple code.
+// The codes of an accepted edge list: rooted at a vertex, N-tuple and centred; its edges in the numbering by code. Whether digits are an N-tuple code.
 use digit_code::Order;
+use limits::BYTES;
 use limits::ENDS;
 use limits::SIZE;
 use limits::WIDTH;
 use refusal::Check;
 ghost use mathlib.Core.Path.{_≡_};
 ghost use mathlib.Core.List.{List, [], _∷_};
-ghost use Prim.Native.Nat.{ℕ, _≤_};
-ghost use lib.ListN.{length, take};
+ghost use Prim.Native.Nat.{ℕ, _≤_, _<_};
+ghost use lib.ListN.{length, take, set};
+ghost use Rattle.laws.specs.document.Once.{Once};
 ghost use Rattle.refusal.specs.document.Table.{Writes};
 ghost use Rattle.refusal.specs.Checks.{Answers};
 ghost use Rattle.limits.specs.document.Limits.{size};
@@ -17,7 +19,8 @@ ghost use Rattle.digit_code.specs.Ends.{Ends};
 ghost use Rattle.skeleton.specs.document.Skeleton as tree;
 ghost use Rattle.edge_list.specs.Table.{IsTable, Held};
 ghost use Rattle.form.specs.document.Form.{nTuple, centred, row14-form, formRows};
-ghost use Rattle.form_coder.specs.Raised.{Raised, Numbered, MaximumDegree};
+ghost use Rattle.form_coder.specs.Numbered.{Numbered, Counts, ByPlace};
+ghost use Rattle.form_coder.specs.Raised.{Raised, MaximumDegree};
 
 // The rooted code at a vertex.
 pub fn rooted(n: usize, edges: &[u8], root: usize, out: &mut [u8])
@@ -60,6 +63,7 @@ fn raise(
 fn numbered(n: usize, edges: &[u8], order: &mut [u8; SIZE], out: &mut [u8])
     requires { ⌜ tree.IsSkeleton size width n (now edges) ⌝ }
     requires { ⌜ (length (now order) ≡ size) × (n ≤ length (now out)) ⌝ }
+    ensures { λ _. ⌜ length (now (order .exit)) ≡ size ⌝ }
     ensures { λ _. ⌜ Writes (Numbered n (now (edges .entry)) (take n (now (order .exit)))) (now (out .entry)) n (now (out .exit)) ⌝ }
 {
     let mut rows = [[0u8; WIDTH]; SIZE];
@@ -82,6 +86,41 @@ pub fn centred(n: usize, edges: &[u8], out: &mut [u8])
 {
     let mut order = [0u8; SIZE];
     numbered(n, edges, &mut order, out);
+}
+
+// Writes the number k at v.
+fn put(numbers: &mut [u8; BYTES], v: u8, k: usize)
+    requires { ⌜ k ≤ size ⌝ }
+    ensures { λ _. ⌜ (now (numbers .exit) ≡ set (now (numbers .entry)) v k) × (v < 256) ⌝ }
+{
+    numbers[v as usize] = k as u8;
+}
+
+// Writes at each of the first n of `order` its place, 1 for the first.
+fn number(order: &[u8; SIZE], n: usize, numbers: &mut [u8; BYTES])
+    requires { ⌜ (n ≤ size) × (length (now order) ≡ size) × Once (take n (now order)) × (length (now numbers) ≡ 256) ⌝ }
+    ensures { λ _. ⌜ Counts (now (order .entry)) n (now (numbers .exit)) ⌝ }
+{
+    let mut i = 0;
+    while i < n {
+        let v = order[i];
+        i += 1;
+        put(numbers, v, i);
+    }
+}
+
+// The edges in the numbering by code, each end where it stands.
+pub fn by_code(n: usize, edges: &[u8], out: &mut [u8])
+    requires { ⌜ tree.IsSkeleton size width n (now edges) ⌝ }
+    requires { ⌜ length (now edges) ≤ length (now out) ⌝ }
+    ensures { λ _. ⌜ Writes (ByPlace n (now (edges .entry))) (now (out .entry)) (length (now (edges .entry))) (now (out .exit)) ⌝ }
+{
+    let mut order = [0u8; SIZE];
+    let mut code = [0u8; SIZE];
+    numbered(n, edges, &mut order, &mut code);
+    let mut numbers = [0u8; BYTES];
+    number(&order, n, &mut numbers);
+    rooted_coder::read(&numbers, edges, edges.len(), out);
 }
 
 // The greatest degree.

@@ -61,7 +61,7 @@ numbered-spec =
     let t = s .pre .0 .tree in
     let E = now (s .args .edges) in
     let (o, code, looked) = y .rooted .ensures .1 E t (f .fill .ensures) in
-    two-middles t (centre m) _ _ o code (r .raise .ensures .1 E t (f .fill .ensures)))
+    (r .raise .ensures .0, two-middles t (centre m) _ _ o code (r .raise .ensures .1 E t (f .fill .ensures))))
     (λ c. search needs)
     (λ c.
     let y = c .before .before .before in
@@ -70,4 +70,4 @@ numbered-spec =
     let s = start f in
     let t = s .pre .0 .tree in
     let (o, code, looked) = y .rooted .ensures .1 (now (s .args .edges)) t (f .fill .ensures) in
-    one-middle t (centre m) _ _ o code (c .if1 .left)))
+    (y .rooted .ensures .0, one-middle t (centre m) _ _ o code (c .if1 .left))))
