@@ -4,6 +4,7 @@
 -- Assumes nothing.
 use mathlib.Core.Path.{_≡_, refl, sym, ap, _∙_, subst}
 use mathlib.Core.Logic.{_⊎_, inl, inr, ⊎-elim}
+use mathlib.Core.Bool.{Bool}
 use mathlib.Core.List.{List, [], _∷_, _++_}
 use Prim.Native.Nat.{ℕ, _+_, _-_, _≤_, _<_}
 use native.Mathlib.Decide.{decLt, ℕ-discrete}
@@ -12,6 +13,7 @@ use lib.ListN.{length, getD, take, drop, replicate, length-replicate, replicate-
 use lib.Seq.{length-take-le, take-at}
 use Rattle.laws.specs.document.Order.{_≽_}
 use Rattle.laws.specs.Sorting.{refl≽, trans≽, antisym≽, below≽}
+use Rattle.laws.specs.document.Laid.{laidOver}
 use Rattle.laws.specs.Laid.{laid-length}
 use Rattle.laws.specs.Laying.{laid-front}
 use Rattle.refusal.specs.document.Table.{Writes}
@@ -21,7 +23,7 @@ use Rattle.skeleton.specs.Theorems.{code-length}
 use Rattle.edge_list.specs.Table.{IsTable}
 use Rattle.form.specs.document.Form.{nTuple}
 use Rattle.form_coder.specs.Raised.{Raised, kept, raised, MaximumDegree}
-use Rattle.form_coder.proofs.Written.{copied}
+use Rattle.form_coder.proofs.Written.{copied, front}
 
 -- ---- the greatest degree
 
@@ -116,37 +118,52 @@ take-zeros n m h =
     ∙ ap (take {A = ℕ} n) (sym (replicate-append-replicate n (m - n) 0))
     ∙ take-at {A = ℕ} (replicate n 0) (replicate (m - n) 0) n (length-replicate {A = ℕ} n 0)
 
--- before vertex v + 1: the largest code so far begins `best`, and `order` has room for the vertices of the next
-pub record Best (N : ℕ) (E : List ℕ) (d : ℕ) (best order : List ℕ) (v : ℕ) : Type 0 where
+-- before vertex v + 1: the largest code so far begins `best`, and `other` and `o` have room for the next and its vertices
+pub record Best (N : ℕ) (E : List ℕ) (d : ℕ) (best other o : List ℕ) (v : ℕ) : Type 0 where
   pub within : v ≤ N
   pub long : length best ≡ limits.size
-  pub room : length order ≡ limits.size
+  pub room : length other ≡ limits.size
+  pub order : length o ≡ limits.size
   pub top : Top N E d v (take N best)
 
-pub best-first : {N : ℕ} {E : List ℕ} {d : ℕ} → N ≤ limits.size → Best N E d (replicate limits.size 0) (replicate limits.size 0) 0
+pub best-first : {N : ℕ} {E : List ℕ} {d : ℕ} → N ≤ limits.size → Best N E d (replicate limits.size 0) (replicate limits.size 0) (replicate limits.size 0) 0
 best-first {N} h =
     record {
       within = omega arith;
       long = refl;
       room = refl;
+      order = refl;
       top = record { above = λ u i j e. let z : ⊥ = omega arith in absurd z; either = inr (take-zeros N limits.size h) };
     }
 
-module _ {N : ℕ} {E : List ℕ} {d : ℕ} {best order : List ℕ} {v : ℕ} (t : IsTree N E) (small : N ≤ limits.size) (b : Best N E d best order v) (l : v < N) where
-  pub best-past : (degree E (v + 1) ≡ d → ⊥) → Best N E d best order (v + 1)
-  best-past n = record { within = omega arith; long = b .long; room = b .room; top = top-past (b .top) n }
+module _ {N : ℕ} {E : List ℕ} {d : ℕ} {best other o : List ℕ} {v : ℕ} (t : IsTree N E) (small : N ≤ limits.size) (b : Best N E d best other o v) (l : v < N) where
+  pub best-past : (degree E (v + 1) ≡ d → ⊥) → Best N E d best other o (v + 1)
+  best-past n = record { within = omega arith; long = b .long; room = b .room; order = b .order; top = top-past (b .top) n }
 
-  pub best-next : {p new : List ℕ} → degree E (v + 1) ≡ d → length p ≡ limits.size → Raised N E (v + 1) order best p new → Best N E d new p (v + 1)
-  best-next is k (kept g q f) = record { within = omega arith; long = rw f (b .long); room = k; top = rw f (top-stays (b .top) g) }
-  best-next {new = new} is k (raised g q f) =
-      let c : List ℕ = rooted N E (v + 1) in
-      let n : length c ≡ N = code-length N E (v + 1) t (omega arith) (omega arith) in
-      record {
-        within = omega arith;
-        long = rw f (laid-length c best (omega (arith, b .long)) ∙ b .long);
-        room = k;
-        top = rw (laid-front c best new N f n) (top-rises (b .top) l is (below≽ (take N best) c g));
-      }
+  -- the next code is written over `other`
+  module _ {coded : List ℕ} (e : coded ≡ laidOver (rooted N E (v + 1)) other) where
+    here : length (rooted N E (v + 1)) ≡ N
+    here = code-length N E (v + 1) t (omega arith) (omega arith)
+
+    pub coded-long : length coded ≡ limits.size
+    coded-long = rw e (laid-length (rooted N E (v + 1)) other (omega (arith, b .room, here)) ∙ b .room)
+
+    coded-front : take N coded ≡ rooted N E (v + 1)
+    coded-front = front t (omega arith) (omega arith) other e
+
+    pub best-next : {new p : List ℕ} {r : Bool} → degree E (v + 1) ≡ d → Raised N best coded new r → length p ≡ limits.size → Best N E d new coded p (v + 1)
+    best-next is (kept g f) k =
+        record { within = omega arith; long = rw f (b .long); room = coded-long; order = k; top = rw f (top-stays (b .top) (rw coded-front at g)) }
+    best-next {new} is (raised g f) k =
+        let c : List ℕ = rooted N E (v + 1) in
+        let w : new ≡ laidOver c best = rw coded-front at f in
+        record {
+          within = omega arith;
+          long = rw w (laid-length c best (omega (arith, b .long, here)) ∙ b .long);
+          room = coded-long;
+          order = k;
+          top = rw (laid-front c best new N w here) (top-rises (b .top) l is (below≽ (take N best) c (rw coded-front at g)));
+        }
 
 -- ---- the N-tuple code
 
@@ -154,7 +171,7 @@ module _ {N : ℕ} {E : List ℕ} {d : ℕ} {best order : List ℕ} {v : ℕ} (t
 pub degree-at : {N : ℕ} {E : List ℕ} {T : List (List ℕ)} {D : List ℕ} {v : ℕ} → IsTable N E T D → v < N → getD D v 0 ≡ degree E (v + 1)
 degree-at {v = v} s h = let q : v + 1 - 1 ≡ v = omega arith in rw q at (s .degs (v + 1) (omega arith) (omega arith))
 
-module _ {N : ℕ} {E : List ℕ} {T : List (List ℕ)} {D : List ℕ} {d : ℕ} {best order : List ℕ} {v : ℕ} (t : IsTree N E) (small : N ≤ limits.size) (s : IsTable N E T D) (w : MaximumDegree D N d) (b : Best N E d best order v) (l : N ≤ v) where
+module _ {N : ℕ} {E : List ℕ} {T : List (List ℕ)} {D : List ℕ} {d : ℕ} {best other o : List ℕ} {v : ℕ} (t : IsTree N E) (small : N ≤ limits.size) (s : IsTable N E T D) (w : MaximumDegree D N d) (b : Best N E d best other o v) (l : N ≤ v) where
   below : (u : ℕ) → 1 ≤ u → u ≤ N → degree E u ≤ d
   below u h k = omega (arith, s .degs u h k, w .above (u - 1) (omega arith))
 

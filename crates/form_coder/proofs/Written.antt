@@ -1,7 +1,8 @@
 -- The codes as they are written: rooted at a vertex, and the larger of two.
 --
--- In order: the rooted code; a code written over another; the larger of two codes; the centred code and its numbering. Assumes nothing.
+-- In order: the rooted code; a code written over another; the centred code and its numbering. Assumes nothing.
 use mathlib.Core.Path.{_≡_, refl, sym, ap, _∙_}
+use mathlib.Core.Bool.{Bool, true, false, true≢false, false≢true}
 use mathlib.Core.List.{List, _++_}
 use Prim.Native.Nat.{ℕ, _≤_}
 use lib.ListN.{length, take, drop, length-append}
@@ -40,30 +41,14 @@ laid-over : (a b old : List ℕ) → length a ≡ length b → laidOver b (laidO
 unfolding laidOver
 laid-over a b old e = ap (λ (r : List ℕ). b ++ r) (drop-at a (drop (length a) old) (length b) e ∙ ap (λ (n : ℕ). drop n old) e)
 
--- ---- the larger of two codes
-
--- a code begins best, with o; the code at v stands in other, with its
+-- the code at v, written over rest
 module _ {n : ℕ} {E : List ℕ} {v : ℕ} (t : IsTree n E) (h : 1 ≤ v) (k : v ≤ n) (rest : List ℕ) {other : List ℕ} (l : other ≡ laidOver (rooted n E v) rest) where
-  front : take n other ≡ rooted n E v
+  pub front : take n other ≡ rooted n E v
   front = laid-front (rooted n E v) rest other n l (code-length n E v t h k)
-
-  pub front-length : length (take n other) ≡ n
-  front-length = ap length front ∙ code-length n E v t h k
 
   pub front-room : n ≤ length other
   unfolding laidOver
   front-room = rw (l, length-append) (omega (arith, code-length n E v t h k))
-
-  pub stays : {o best : List ℕ} → take n best ≽ take n other → Raised n E v o best o best
-  stays g = kept (rw front at g) refl refl
-
-  pub rises :
-      (its o best : List ℕ) {p new : List ℕ} → take n its ≡ order n E v → n ≤ length its → (take n best ≽ take n other → ⊥)
-      → new ≡ take (length (take n other)) (take n other) ++ drop (length (take n other)) best → p ≡ take (length its) its ++ drop (length its) o
-      → Raised n E v o best p new
-  rises its o best {p} {new} i m g e f =
-      let behind : p ≡ its ++ drop (length its) o = f ∙ ap (λ (s : List ℕ). s ++ drop (length its) o) (take-length its) in
-      raised (rw front at g) (ap (take n) behind ∙ take-append-le n its (drop (length its) o) m ∙ i) (rw front at (copied (take n other) best new e))
 
 -- ---- the centred code
 
@@ -88,18 +73,31 @@ module _ {n : ℕ} {E : List ℕ} (t : IsTree n E) {u v : ℕ} (z : IsCentre n E
     pub one-middle : u ≡ v → Writes (Numbered n E (take n o)) old n best
     one-middle q = first-larger (rw q (refl≽ (rooted n E v)))
 
-    pub two-middles : {p new : List ℕ} → Raised n E v o best p new → Writes (Numbered n E (take n p)) old n new
-    two-middles (kept g f k) = rw (f, k) (first-larger (rw (laid-front (rooted n E u) old best n l first-size) at g))
-    two-middles (raised g f k) =
-        record {
-          result = rooted n E v;
-          right = record {
-            root = v;
-            inside = centre-inside n E t u v z .1;
-            code = refl;
-            right = at-second z (below≽ (rooted n E u) (rooted n E v) (rw (laid-front (rooted n E u) old best n l first-size) at g));
-            order = f;
-          };
-          count = sym second-size;
-          lies = k ∙ rw l (laid-over (rooted n E u) (rooted n E v) old (first-size ∙ sym second-size));
-        }
+    both : take n best ≡ rooted n E u
+    both = laid-front (rooted n E u) old best n l first-size
+
+    -- the code at the second one stands elsewhere
+    module _ (other : List ℕ) (f : take n other ≡ rooted n E v) where
+      pub first-stays : {new : List ℕ} {r : Bool} → Raised n best other new r → r ≡ false → Writes (Numbered n E (take n o)) old n new
+      first-stays (kept g k) q = rw k (first-larger (rw (both, f) at g))
+      first-stays (raised g k) q = absurd (true≢false q)
+
+      -- and is the larger one: the order its is copied over o
+      pub second-rises :
+          (its : List ℕ) {p new : List ℕ} {r : Bool} → Raised n best other new r → r ≡ true → take n its ≡ order n E v → n ≤ length its
+          → p ≡ take (length its) its ++ drop (length its) o → Writes (Numbered n E (take n p)) old n new
+      second-rises its (kept g k) q i m c = absurd (false≢true q)
+      second-rises its {p} (raised g k) q i m c =
+          let behind : p ≡ its ++ drop (length its) o = c ∙ ap (λ (s : List ℕ). s ++ drop (length its) o) (take-length its) in
+          record {
+            result = rooted n E v;
+            right = record {
+              root = v;
+              inside = centre-inside n E t u v z .1;
+              code = refl;
+              right = at-second z (below≽ (rooted n E u) (rooted n E v) (rw (both, f) at g));
+              order = ap (take n) behind ∙ take-append-le n its (drop (length its) o) m ∙ i;
+            };
+            count = sym second-size;
+            lies = k ∙ rw (f, l) (laid-over (rooted n E u) (rooted n E v) old (first-size ∙ sym second-size));
+          }

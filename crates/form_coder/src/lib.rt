@@ -6,8 +6,8 @@ use limits::SIZE;
 use limits::WIDTH;
 use refusal::Check;
 ghost use mathlib.Core.Path.{_≡_};
-ghost use mathlib.Core.List.{List, [], _∷_};
-ghost use Prim.Native.Nat.{ℕ, _≤_, _<_};
+ghost use mathlib.Core.List.{[], _∷_};
+ghost use Prim.Native.Nat.{_≤_, _<_};
 ghost use lib.ListN.{length, take, set};
 ghost use Rattle.laws.specs.document.Once.{Once};
 ghost use Rattle.refusal.specs.document.Table.{Writes};
@@ -17,7 +17,6 @@ ghost use Rattle.limits.specs.Width.{width};
 ghost use Rattle.digit_code.specs.document.Code.{decode};
 ghost use Rattle.digit_code.specs.Ends.{Ends};
 ghost use Rattle.skeleton.specs.document.Skeleton as tree;
-ghost use Rattle.edge_list.specs.Table.{IsTable, Held};
 ghost use Rattle.form.specs.document.Form.{nTuple, centred, row14-form, formRows};
 ghost use Rattle.form_coder.specs.Numbered.{Numbered, Counts, ByPlace};
 ghost use Rattle.form_coder.specs.Raised.{Raised, MaximumDegree};
@@ -35,28 +34,16 @@ pub fn rooted(n: usize, edges: &[u8], root: usize, out: &mut [u8])
     rooted_coder::rooted(&rows, &degs, n, root, &mut order, out);
 }
 
-// Where the rooted code at v is larger than the first n digits of `best`, it is written over them, and the vertex of each digit into `order`.
-fn raise(
-    rows: &[[u8; WIDTH]; SIZE],
-    degs: &[u8; SIZE],
-    n: usize,
-    v: usize,
-    order: &mut [u8; SIZE],
-    best: &mut [u8],
-)
-    requires { ⌜ Held n (now rows) (now degs) ⌝ }
-    requires { ⌜ (1 ≤ v) × (v ≤ n) × (length (now order) ≡ size) × (n ≤ length (now best)) ⌝ }
-    ensures { λ _. ⌜ length (now (order .exit)) ≡ size ⌝ }
-    ensures { λ _. ⌜ ((E : List ℕ) → tree.IsTree n E → IsTable n E (now (rows .entry)) (now (degs .entry))
-        → Raised n E v (now (order .entry)) (now (best .entry)) (now (order .exit)) (now (best .exit))) ⌝ }
+// The larger of the first n digits of two codes is left in the first. Whether it is the second's.
+fn raise(best: &mut [u8], other: &[u8], n: usize) -> bool
+    requires { ⌜ (n ≤ length (now best)) × (n ≤ length (now other)) ⌝ }
+    ensures { λ r. ⌜ Raised n (now (best .entry)) (now (other .entry)) (now (best .exit)) r ⌝ }
 {
-    let mut its = [0u8; SIZE];
-    let mut other = [0u8; SIZE];
-    rooted_coder::rooted(rows, degs, n, v, &mut its, &mut other);
-    if !digit_code::falls(&best[..n], &other[..n]) {
-        bytes::copy(&other[..n], best);
-        bytes::copy(&its, order);
+    if digit_code::falls(&best[..n], &other[..n]) {
+        return false;
     }
+    bytes::copy(&other[..n], best);
+    true
 }
 
 // The centred code, and the vertex of each digit. Of two middle vertices with equal codes the first one found is the root.
@@ -74,7 +61,12 @@ fn numbered(n: usize, edges: &[u8], order: &mut [u8; SIZE], out: &mut [u8])
     let v = m.second;
     rooted_coder::rooted(&rows, &degs, n, u, order, out);
     if u != v {
-        raise(&rows, &degs, n, v, order, out);
+        let mut its = [0u8; SIZE];
+        let mut other = [0u8; SIZE];
+        rooted_coder::rooted(&rows, &degs, n, v, &mut its, &mut other);
+        if raise(out, &other, n) {
+            bytes::copy(&its, order);
+        }
     }
 }
 
@@ -151,13 +143,15 @@ pub fn n_tuple(n: usize, edges: &[u8], out: &mut [u8])
     edge_list::fill(n, edges, &mut rows, &mut degs);
     let d = widest(&degs, n);
     let mut best = [0u8; SIZE];
+    let mut other = [0u8; SIZE];
     let mut order = [0u8; SIZE];
     let mut v = 0;
     while v < n {
         let k = degs[v];
         v += 1;
         if k == d {
-            raise(&rows, &degs, n, v, &mut order, &mut best);
+            rooted_coder::rooted(&rows, &degs, n, v, &mut order, &mut other);
+            raise(&mut best, &other, n);
         }
     }
     bytes::copy(&best[..n], out);

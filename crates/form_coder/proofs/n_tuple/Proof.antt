@@ -1,25 +1,30 @@
 -- `form_coder::n_tuple` meets its contract: the loop keeps the largest code of those passed. Assumes nothing.
 use mathlib.Core.Path.{_≡_, sym, _∙_}
-use Prim.Native.Nat.{_-_, _≤_, _<_}
+use Prim.Native.Nat.{_+_, _-_, _≤_, _<_}
 use native.Mathlib.Omega.{arith}
 use denote.Ref.{now}
 use lib.ListN.{length, take}
 use lib.Seq.{length-take-le}
 use borrow.Author.Needs.{needs}
 use Rattle.limits.specs.document.Limits.{size}
+use Rattle.laws.specs.document.Laid.{laidOver}
+use Rattle.skeleton.specs.document.Skeleton.{rooted}
 use Rattle.edge_list.specs.Table.{Held}
-use Rattle.form_coder.proofs.Largest.{Best, best-first, best-past, best-next, degree-at, n-tuple-written}
+use Rattle.form_coder.proofs.Largest.{Best, best-first, best-past, coded-long, best-next, degree-at, n-tuple-written}
 use Rattle.form_coder.proofs.n_tuple.Statement.{statement}
 use Rattle.form_coder.proofs.n_tuple.Tie as tie
 
 abbrev Inv-loop : tie.InvT-loop
-Inv-loop n edges out rows degs d best₀ order₀ v₀ best order v = Best n edges d best order v
+Inv-loop n edges out rows degs d best₀ other₀ order₀ v₀ best other order v = Best n edges d best other order v
 
 abbrev μ-loop : tie.MeasureT-loop
-μ-loop n edges out rows degs d best₀ order₀ v₀ best order v = n - v
+μ-loop n edges out rows degs d best₀ other₀ order₀ v₀ best other order v = n - v
 
--- from where the next code is asked for back to the loop, to the table, and to the start
-abbrev turn : tie.After-best Inv-loop μ-loop → tie.Then1 Inv-loop μ-loop
+-- from the comparison back to the next code, to the loop, to the table, and to the start
+abbrev coded : tie.After-raise Inv-loop μ-loop → tie.After-rooted Inv-loop μ-loop
+coded c = c .before .before .before .before
+
+abbrev turn : tie.After-other Inv-loop μ-loop → tie.Then1 Inv-loop μ-loop
 turn c = c .before .before .before .before
 
 abbrev looping : tie.Then1 Inv-loop μ-loop → tie.At-loop Inv-loop μ-loop
@@ -47,6 +52,16 @@ more c = omega (arith, c .loop-test .taken)
 held : (c : tie.After-fill Inv-loop μ-loop) → Held (start c .args .n) (c .fill .last .1 .1 .0) (c .fill .last .1 .1 .1 .0)
 held c = let s = start c in record { edges = now (s .args .edges); skeleton = s .pre .0; table = c .fill .ensures }
 
+-- the next code is written over `other`
+next : (c : tie.After-rooted Inv-loop μ-loop) → let l = looping (turn (c .before)) in let s = start (filled l) in c .rooted .last .1 .1 .1 .1 .1 .0 ≡ laidOver (rooted (s .args .n) (now (s .args .edges)) (l .loop .v + 1)) (l .loop .other)
+next c = let f = filled (looping (turn (c .before))) in let s = start f in c .rooted .ensures .1 (now (s .args .edges)) (s .pre .0 .tree) (f .fill .ensures) .1
+
+long : (c : tie.After-rooted Inv-loop μ-loop) → length (c .rooted .last .1 .1 .1 .1 .1 .0) ≡ size
+long c =
+    let q = turn (c .before) in
+    let l = looping q in
+    coded-long (start (filled l) .pre .0 .tree) (few l) (l .loop .inv) (more (q .before)) (next c)
+
 pub n-tuple-spec : {M : Type 1} → statement M
 n-tuple-spec =
     tie.close
@@ -58,20 +73,25 @@ n-tuple-spec =
     (λ c. best-first (start (c .before .before) .pre .0 .few))
     (λ c. omega (arith, few (c .before)))
     (λ c. omega (arith, few (c .before)))
-    (λ c. sym (looping (turn c) .loop .inv .long))
+    (λ c. sym (looping (turn c) .loop .inv .room))
     (λ c κs.
     let q = turn c in
     let l = looping q in
-    (held (filled l), (omega arith, omega (arith, more (q .before)), l .loop .inv .room, omega (arith, few l, l .loop .inv .long))))
-    (λ c. omega (arith, more (turn (c .before .before) .before)))
+    (held (filled l), (omega arith, omega (arith, more (q .before)), l .loop .inv .order, omega (arith, few l, l .loop .inv .room))))
+    (λ c. sym (looping (turn (c .before .before .before)) .loop .inv .long))
+    (λ c. sym (long (c .before .before .before)))
+    (λ c κs.
+    let k = c .before .before .before in
+    let l = looping (turn (k .before)) in
+    (omega (arith, few l, l .loop .inv .long), omega (arith, few l, long k)))
+    (λ c. omega (arith, more (turn (coded (c .before) .before) .before)))
     (λ c.
     let r = c .before in
-    let q = turn (r .before) in
+    let k = coded r in
+    let q = turn (k .before) in
     let l = looping q in
     let f = filled l in
-    let t = start f .pre .0 .tree in
-    best-next t (few l) (l .loop .inv) (more (q .before)) (sym (degree-at (f .fill .ensures) (more (q .before))) ∙ q .if1 .taken) (r .raise .ensures .0)
-    (r .raise .ensures .1 (now (start f .args .edges)) t (f .fill .ensures)))
+    best-next (start f .pre .0 .tree) (few l) (l .loop .inv) (more (q .before)) (next k) (sym (degree-at (f .fill .ensures) (more (q .before))) ∙ q .if1 .taken) (r .raise .ensures) (k .rooted .ensures .0))
     (λ c. omega (arith, more (c .before)))
     (λ c.
     let l = c .before .before in
