@@ -19,4 +19,5 @@ pub mod Listed
 pub mod Accepted
 pub mod Theorems
 pub mod ByCode
+pub mod Renumber
 pub mod document

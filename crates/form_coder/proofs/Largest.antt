@@ -4,16 +4,17 @@
 -- Assumes nothing.
 use mathlib.Core.Path.{_≡_, refl, sym, ap, _∙_, subst}
 use mathlib.Core.Logic.{_⊎_, inl, inr, ⊎-elim}
+use mathlib.Core.Bool.{Bool}
 use mathlib.Core.List.{List, [], _∷_, _++_}
 use Prim.Native.Nat.{ℕ, _+_, _-_, _≤_, _<_}
 use native.Mathlib.Decide.{decLt, ℕ-discrete}
 use native.Mathlib.Omega.{arith}
-use lib.ListN.{length, getD, take, drop, replicate, length-replicate, replicate-append-replicate, take-append-drop}
+use lib.ListN.{length, getD, take, drop, replicate, length-replicate, replicate-append-replicate}
 use lib.Seq.{length-take-le, take-at}
 use Rattle.laws.specs.document.Order.{_≽_}
-use Rattle.laws.specs.Sorting.{refl≽, trans≽, antisym≽}
-use Rattle.laws.specs.Laid.{laid-length}
+use Rattle.laws.specs.Sorting.{refl≽, trans≽, antisym≽, below≽}
 use Rattle.laws.specs.document.Laid.{laidOver}
+use Rattle.laws.specs.Laid.{laid-length}
 use Rattle.laws.specs.Laying.{laid-front}
 use Rattle.refusal.specs.document.Table.{Writes}
 use Rattle.limits.specs.document.Limits as limits
@@ -21,8 +22,8 @@ use Rattle.skeleton.specs.document.Skeleton.{IsTree, degree, rooted}
 use Rattle.skeleton.specs.Theorems.{code-length}
 use Rattle.edge_list.specs.Table.{IsTable}
 use Rattle.form.specs.document.Form.{nTuple}
-use Rattle.form_coder.specs.Raised.{Raised, MaximumDegree}
-use Rattle.form_coder.proofs.Written.{larger, copied}
+use Rattle.form_coder.specs.Raised.{Raised, kept, raised, MaximumDegree}
+use Rattle.form_coder.proofs.Written.{copied, front}
 
 -- ---- the greatest degree
 
@@ -110,11 +111,6 @@ top-code {N} {E} {d} {v} {c} t p w h k l e = ⊎-elim (λ x. x) (λ z. (w, (h, k
 
 -- ---- what the search holds
 
--- the first n, written over themselves
-laid-self : (n : ℕ) (xs : List ℕ) → n ≤ length xs → xs ≡ laidOver (take n xs) xs
-unfolding laidOver
-laid-self n xs h = sym (ap (λ (m : ℕ). take n xs ++ drop m xs) (length-take-le n xs h) ∙ take-append-drop n xs)
-
 take-zeros : (n m : ℕ) → n ≤ m → take {A = ℕ} n (replicate m 0) ≡ replicate n 0
 take-zeros n m h =
     let e : n + (m - n) ≡ m = omega arith in
@@ -122,51 +118,52 @@ take-zeros n m h =
     ∙ ap (take {A = ℕ} n) (sym (replicate-append-replicate n (m - n) 0))
     ∙ take-at {A = ℕ} (replicate n 0) (replicate (m - n) 0) n (length-replicate {A = ℕ} n 0)
 
--- before vertex v + 1: the largest code so far begins `best`, and `other` has room for the next
-pub record Best (N : ℕ) (E : List ℕ) (d : ℕ) (best other : List ℕ) (v : ℕ) : Type 0 where
+-- before vertex v + 1: the largest code so far begins `best`, and `other` and `o` have room for the next and its vertices
+pub record Best (N : ℕ) (E : List ℕ) (d : ℕ) (best other o : List ℕ) (v : ℕ) : Type 0 where
   pub within : v ≤ N
   pub long : length best ≡ limits.size
   pub room : length other ≡ limits.size
+  pub order : length o ≡ limits.size
   pub top : Top N E d v (take N best)
 
-pub best-first : {N : ℕ} {E : List ℕ} {d : ℕ} → N ≤ limits.size → Best N E d (replicate limits.size 0) (replicate limits.size 0) 0
+pub best-first : {N : ℕ} {E : List ℕ} {d : ℕ} → N ≤ limits.size → Best N E d (replicate limits.size 0) (replicate limits.size 0) (replicate limits.size 0) 0
 best-first {N} h =
     record {
       within = omega arith;
       long = refl;
       room = refl;
+      order = refl;
       top = record { above = λ u i j e. let z : ⊥ = omega arith in absurd z; either = inr (take-zeros N limits.size h) };
     }
 
-module _ {N : ℕ} {E : List ℕ} {d : ℕ} {best other : List ℕ} {v : ℕ} (t : IsTree N E) (small : N ≤ limits.size) (b : Best N E d best other v) (l : v < N) where
-  pub best-past : (degree E (v + 1) ≡ d → ⊥) → Best N E d best other (v + 1)
-  best-past n = record { within = omega arith; long = b .long; room = b .room; top = top-past (b .top) n }
+module _ {N : ℕ} {E : List ℕ} {d : ℕ} {best other o : List ℕ} {v : ℕ} (t : IsTree N E) (small : N ≤ limits.size) (b : Best N E d best other o v) (l : v < N) where
+  pub best-past : (degree E (v + 1) ≡ d → ⊥) → Best N E d best other o (v + 1)
+  best-past n = record { within = omega arith; long = b .long; room = b .room; order = b .order; top = top-past (b .top) n }
 
   -- the next code is written over `other`
-  pub coded-long : {coded : List ℕ} → coded ≡ laidOver (rooted N E (v + 1)) other → length coded ≡ limits.size
-  coded-long e = rw e (laid-length (rooted N E (v + 1)) other (omega (arith, b .room, code-length N E (v + 1) t (omega arith) (omega arith))) ∙ b .room)
-
-  module _ {coded new : List ℕ} (is : degree E (v + 1) ≡ d) (e : coded ≡ laidOver (rooted N E (v + 1)) other) (r : Raised N best coded new) where
+  module _ {coded : List ℕ} (e : coded ≡ laidOver (rooted N E (v + 1)) other) where
     here : length (rooted N E (v + 1)) ≡ N
     here = code-length N E (v + 1) t (omega arith) (omega arith)
 
-    holds : (c : List ℕ) → length c ≡ N → Top N E d (v + 1) c → new ≡ laidOver c best → Best N E d new coded (v + 1)
-    holds c n p f =
+    pub coded-long : length coded ≡ limits.size
+    coded-long = rw e (laid-length (rooted N E (v + 1)) other (omega (arith, b .room, here)) ∙ b .room)
+
+    coded-front : take N coded ≡ rooted N E (v + 1)
+    coded-front = front t (omega arith) (omega arith) other e
+
+    pub best-next : {new p : List ℕ} {r : Bool} → degree E (v + 1) ≡ d → Raised N best coded new r → length p ≡ limits.size → Best N E d new coded p (v + 1)
+    best-next is (kept g f) k =
+        record { within = omega arith; long = rw f (b .long); room = coded-long; order = k; top = rw f (top-stays (b .top) (rw coded-front at g)) }
+    best-next {new} is (raised g f) k =
+        let c : List ℕ = rooted N E (v + 1) in
+        let w : new ≡ laidOver c best = rw coded-front at f in
         record {
           within = omega arith;
-          long = rw f (laid-length c best (omega (arith, b .long)) ∙ b .long);
-          room = coded-long e;
-          top = rw (laid-front c best new N f n) p;
+          long = rw w (laid-length c best (omega (arith, b .long, here)) ∙ b .long);
+          room = coded-long;
+          order = k;
+          top = rw (laid-front c best new N w here) (top-rises (b .top) l is (below≽ (take N best) c (rw coded-front at g)));
         }
-
-    pub best-next : Best N E d new coded (v + 1)
-    best-next =
-        let a : List ℕ = take N best in
-        let n : length a ≡ N = length-take-le N best (omega (arith, b .long)) in
-        ⊎-elim
-        (λ (g, f). holds a n (top-stays (b .top) g) f)
-        (λ (g, f). holds (rooted N E (v + 1)) here (top-rises (b .top) l is g) f)
-        (larger a (rooted N E (v + 1)) best other (laid-self N best (omega (arith, b .long))) e n here r)
 
 -- ---- the N-tuple code
 
@@ -174,7 +171,7 @@ module _ {N : ℕ} {E : List ℕ} {d : ℕ} {best other : List ℕ} {v : ℕ} (t
 pub degree-at : {N : ℕ} {E : List ℕ} {T : List (List ℕ)} {D : List ℕ} {v : ℕ} → IsTable N E T D → v < N → getD D v 0 ≡ degree E (v + 1)
 degree-at {v = v} s h = let q : v + 1 - 1 ≡ v = omega arith in rw q at (s .degs (v + 1) (omega arith) (omega arith))
 
-module _ {N : ℕ} {E : List ℕ} {T : List (List ℕ)} {D : List ℕ} {d : ℕ} {best other : List ℕ} {v : ℕ} (t : IsTree N E) (small : N ≤ limits.size) (s : IsTable N E T D) (w : MaximumDegree D N d) (b : Best N E d best other v) (l : N ≤ v) where
+module _ {N : ℕ} {E : List ℕ} {T : List (List ℕ)} {D : List ℕ} {d : ℕ} {best other o : List ℕ} {v : ℕ} (t : IsTree N E) (small : N ≤ limits.size) (s : IsTable N E T D) (w : MaximumDegree D N d) (b : Best N E d best other o v) (l : N ≤ v) where
   below : (u : ℕ) → 1 ≤ u → u ≤ N → degree E u ≤ d
   below u h k = omega (arith, s .degs u h k, w .above (u - 1) (omega arith))
 

@@ -2,3 +2,4 @@
 pub mod Written
 pub mod Largest
 pub mod Again
+pub mod Places

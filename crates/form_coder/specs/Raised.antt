@@ -1,15 +1,16 @@
 -- The larger of two codes, and the greatest degree. Assumes nothing.
 use mathlib.Core.Path.{_≡_}
+use mathlib.Core.Bool.{Bool, true, false}
 use mathlib.Core.List.{List}
 use Prim.Native.Nat.{ℕ, _≤_, _<_}
 use lib.ListN.{getD, take}
 use Rattle.laws.specs.document.Order.{_≽_}
 use Rattle.laws.specs.document.Laid.{laidOver}
 
--- the first n of best, or those of other where these are larger, stand in new over best
-pub record Raised (n : ℕ) (best other new : List ℕ) : Type 0 where
-  pub kept : take n best ≽ take n other → new ≡ best
-  pub raised : (take n best ≽ take n other → ⊥) → new ≡ laidOver (take n other) best
+-- the first n of best have stayed, or those of other, where these are larger, stand over best now; the answer says which
+pub data Raised (n : ℕ) (best other new : List ℕ) : Bool → Type 0 where
+  kept : take n best ≽ take n other → new ≡ best → Raised n best other new false
+  raised : (take n best ≽ take n other → ⊥) → new ≡ laidOver (take n other) best → Raised n best other new true
 
 -- r is the greatest of the first n
 pub record MaximumDegree (d : List ℕ) (n r : ℕ) : Type 0 where

@@ -1,13 +1,15 @@
-// The codes of an accepted edge list: rooted at a vertex, N-tuple and centred. Whether digits are an N-tuple code.
+// The codes of an accepted edge list: rooted at a vertex, N-tuple and centred; its edges in the numbering by code. Whether digits are an N-tuple code.
 use digit_code::Order;
+use limits::BYTES;
 use limits::ENDS;
 use limits::SIZE;
 use limits::WIDTH;
 use refusal::Check;
 ghost use mathlib.Core.Path.{_≡_};
 ghost use mathlib.Core.List.{[], _∷_};
-ghost use Prim.Native.Nat.{_≤_};
-ghost use lib.ListN.{length};
+ghost use Prim.Native.Nat.{_≤_, _<_};
+ghost use lib.ListN.{length, take, set};
+ghost use Rattle.laws.specs.document.Once.{Once};
 ghost use Rattle.refusal.specs.document.Table.{Writes};
 ghost use Rattle.refusal.specs.Checks.{Answers};
 ghost use Rattle.limits.specs.document.Limits.{size};
@@ -16,6 +18,7 @@ ghost use Rattle.digit_code.specs.document.Code.{decode};
 ghost use Rattle.digit_code.specs.Ends.{Ends};
 ghost use Rattle.skeleton.specs.document.Skeleton as tree;
 ghost use Rattle.form.specs.document.Form.{nTuple, centred, row14-form, formRows};
+ghost use Rattle.form_coder.specs.Numbered.{Numbered, Counts, ByPlace};
 ghost use Rattle.form_coder.specs.Raised.{Raised, MaximumDegree};
 
 // The rooted code at a vertex.
@@ -26,17 +29,44 @@ pub fn rooted(n: usize, edges: &[u8], root: usize, out: &mut [u8])
 {
     let mut rows = [[0u8; WIDTH]; SIZE];
     let mut degs = [0u8; SIZE];
+    let mut order = [0u8; SIZE];
     edge_list::fill(n, edges, &mut rows, &mut degs);
-    rooted_coder::rooted(&rows, &degs, n, root, out);
+    rooted_coder::rooted(&rows, &degs, n, root, &mut order, out);
 }
 
-// The larger of the first n digits of two codes is left in the first.
-fn raise(best: &mut [u8], other: &[u8], n: usize)
+// The larger of the first n digits of two codes is left in the first. Whether it is the second's.
+fn raise(best: &mut [u8], other: &[u8], n: usize) -> bool
     requires { ⌜ (n ≤ length (now best)) × (n ≤ length (now other)) ⌝ }
-    ensures { λ _. ⌜ Raised n (now (best .entry)) (now (other .entry)) (now (best .exit)) ⌝ }
+    ensures { λ r. ⌜ Raised n (now (best .entry)) (now (other .entry)) (now (best .exit)) r ⌝ }
 {
-    if !digit_code::falls(&best[..n], &other[..n]) {
-        bytes::copy(&other[..n], best);
+    if digit_code::falls(&best[..n], &other[..n]) {
+        return false;
+    }
+    bytes::copy(&other[..n], best);
+    true
+}
+
+// The centred code, and the vertex of each digit. Of two middle vertices with equal codes the first one found is the root.
+fn numbered(n: usize, edges: &[u8], order: &mut [u8; SIZE], out: &mut [u8])
+    requires { ⌜ tree.IsSkeleton size width n (now edges) ⌝ }
+    requires { ⌜ (length (now order) ≡ size) × (n ≤ length (now out)) ⌝ }
+    ensures { λ _. ⌜ length (now (order .exit)) ≡ size ⌝ }
+    ensures { λ _. ⌜ Writes (Numbered n (now (edges .entry)) (take n (now (order .exit)))) (now (out .entry)) n (now (out .exit)) ⌝ }
+{
+    let mut rows = [[0u8; WIDTH]; SIZE];
+    let mut degs = [0u8; SIZE];
+    edge_list::fill(n, edges, &mut rows, &mut degs);
+    let m = centre::centre(&rows, &degs, n);
+    let u = m.first;
+    let v = m.second;
+    rooted_coder::rooted(&rows, &degs, n, u, order, out);
+    if u != v {
+        let mut its = [0u8; SIZE];
+        let mut other = [0u8; SIZE];
+        rooted_coder::rooted(&rows, &degs, n, v, &mut its, &mut other);
+        if raise(out, &other, n) {
+            bytes::copy(&its, order);
+        }
     }
 }
 
@@ -46,18 +76,43 @@ pub fn centred(n: usize, edges: &[u8], out: &mut [u8])
     requires { ⌜ n ≤ length (now out) ⌝ }
     ensures { λ _. ⌜ Writes (centred n (now (edges .entry))) (now (out .entry)) n (now (out .exit)) ⌝ }
 {
-    let mut rows = [[0u8; WIDTH]; SIZE];
-    let mut degs = [0u8; SIZE];
-    edge_list::fill(n, edges, &mut rows, &mut degs);
-    let m = centre::centre(&rows, &degs, n);
-    let u = m.first;
-    let v = m.second;
-    rooted_coder::rooted(&rows, &degs, n, u, out);
-    if u != v {
-        let mut other = [0u8; SIZE];
-        rooted_coder::rooted(&rows, &degs, n, v, &mut other);
-        raise(out, &other, n);
+    let mut order = [0u8; SIZE];
+    numbered(n, edges, &mut order, out);
+}
+
+// Writes the number k at v.
+fn put(numbers: &mut [u8; BYTES], v: u8, k: usize)
+    requires { ⌜ k ≤ size ⌝ }
+    ensures { λ _. ⌜ (now (numbers .exit) ≡ set (now (numbers .entry)) v k) × (v < 256) ⌝ }
+{
+    numbers[v as usize] = k as u8;
+}
+
+// Writes at each of the first n of `order` its place, 1 for the first.
+fn number(order: &[u8; SIZE], n: usize, numbers: &mut [u8; BYTES])
+    requires { ⌜ (n ≤ size) × (length (now order) ≡ size) × Once (take n (now order)) × (length (now numbers) ≡ 256) ⌝ }
+    ensures { λ _. ⌜ Counts (now (order .entry)) n (now (numbers .exit)) ⌝ }
+{
+    let mut i = 0;
+    while i < n {
+        let v = order[i];
+        i += 1;
+        put(numbers, v, i);
     }
+}
+
+// The edges in the numbering by code, each end where it stands.
+pub fn by_code(n: usize, edges: &[u8], out: &mut [u8])
+    requires { ⌜ tree.IsSkeleton size width n (now edges) ⌝ }
+    requires { ⌜ length (now edges) ≤ length (now out) ⌝ }
+    ensures { λ _. ⌜ Writes (ByPlace n (now (edges .entry))) (now (out .entry)) (length (now (edges .entry))) (now (out .exit)) ⌝ }
+{
+    let mut order = [0u8; SIZE];
+    let mut code = [0u8; SIZE];
+    numbered(n, edges, &mut order, &mut code);
+    let mut numbers = [0u8; BYTES];
+    number(&order, n, &mut numbers);
+    rooted_coder::read(&numbers, edges, edges.len(), out);
 }
 
 // The greatest degree.
@@ -89,12 +144,13 @@ pub fn n_tuple(n: usize, edges: &[u8], out: &mut [u8])
     let d = widest(&degs, n);
     let mut best = [0u8; SIZE];
     let mut other = [0u8; SIZE];
+    let mut order = [0u8; SIZE];
     let mut v = 0;
     while v < n {
         let k = degs[v];
         v += 1;
         if k == d {
-            rooted_coder::rooted(&rows, &degs, n, v, &mut other);
+            rooted_coder::rooted(&rows, &degs, n, v, &mut order, &mut other);
             raise(&mut best, &other, n);
         }
     }

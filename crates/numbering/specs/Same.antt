@@ -21,7 +21,7 @@ use Rattle.numbering.specs.Numbers.{reads-mark}
 
 -- ---- keys that are the same
 
-map-in : {A B : Type 0} (f g : A → B) (l : List A) → ((x : A) → List·Memᴰ x l → f x ≡ g x) → map f l ≡ map g l
+pub map-in : {A B : Type 0} (f g : A → B) (l : List A) → ((x : A) → List·Memᴰ x l → f x ≡ g x) → map f l ≡ map g l
 map-in f g [] h = refl
 map-in f g (x ∷ l) h = ap₂ _∷_ (h x (List·Memᴰ·head refl)) (map-in f g l (λ y m. h y (List·Memᴰ·tail m)))
 

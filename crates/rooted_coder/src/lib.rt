@@ -337,13 +337,13 @@ fn fill(degs: &[u8; SIZE], n: usize, root: usize, marks: &mut [u8])
     marks[root] = degs[root - 1];
 }
 
-// Writes the mark of each of `s` from the start of `out`.
-fn read(marks: &[u8; BYTES], s: &[u8], out: &mut [u8])
-    requires { ⌜ length (now s) ≤ length (now out) ⌝ }
-    ensures { λ _. ⌜ now (out .exit) ≡ laidOver (marked (now (marks .entry)) (now (s .entry))) (now (out .entry)) ⌝ }
+// Writes the mark of each of the first n of `s` from the start of `out`.
+pub fn read(marks: &[u8; BYTES], s: &[u8], n: usize, out: &mut [u8])
+    requires { ⌜ (n ≤ length (now s)) × (n ≤ length (now out)) ⌝ }
+    ensures { λ _. ⌜ now (out .exit) ≡ laidOver (marked (now (marks .entry)) (take n (now (s .entry)))) (now (out .entry)) ⌝ }
 {
     let mut i = 0;
-    while i < s.len() {
+    while i < n {
         out[i] = mark(marks, s[i]);
         i += 1;
     }
@@ -360,7 +360,7 @@ fn vertices(
 ) -> usize
     requires { ⌜ Held n (now rows) (now degs) ⌝ }
     requires { ⌜ (1 ≤ root) × (root ≤ n) × (size < length (now marks)) × (length (now buffer) ≡ size) ⌝ }
-    ensures { λ r. ⌜ length (now (buffer .exit)) ≡ size ⌝ }
+    ensures { λ _. ⌜ length (now (buffer .exit)) ≡ size ⌝ }
     ensures { λ r. ⌜ ((E : List ℕ) → tree.IsTree n E → IsTable n E (now (rows .entry)) (now (degs .entry))
         → Placed base (λ v. tt) n E root (now (marks .exit)) (now (buffer .exit)) r) ⌝ }
 {
@@ -368,43 +368,25 @@ fn vertices(
     cover(rows, marks, root, buffer)
 }
 
-// Writes the vertices of the skeleton of n vertices whose table is given, in the order of the digits of its rooted code at `root`. Returns
-// how many pairs of digits were looked at, where every two siblings were compared once.
-pub fn numbering(
-    rows: &[[u8; WIDTH]; SIZE],
-    degs: &[u8; SIZE],
-    n: usize,
-    root: usize,
-    out: &mut [u8],
-) -> usize
-    requires { ⌜ Held n (now rows) (now degs) ⌝ }
-    requires { ⌜ (1 ≤ root) × (root ≤ n) × (n ≤ length (now out)) ⌝ }
-    ensures { λ r. ⌜ ((E : List ℕ) → tree.IsTree n E → IsTable n E (now (rows .entry)) (now (degs .entry))
-        → (now (out .exit) ≡ laidOver (numbers.order n E root) (now (out .entry))) × (r ≡ numbers.pairsₗ base (λ v. tt) n E root)) ⌝ }
-{
-    let mut marks = [0u8; BYTES];
-    let mut buffer = [0u8; SIZE];
-    let looked = vertices(rows, degs, n, root, &mut marks, &mut buffer);
-    bytes::copy(&buffer[..n], out);
-    looked
-}
-
-// Writes the rooted code at `root` of the skeleton of n vertices whose table is given. Returns the same number.
+// Writes the rooted code at `root` of the skeleton of n vertices whose table is given, and into `order` the vertex of each digit. Returns how
+// many pairs of digits were looked at, where every two siblings were compared once.
 pub fn rooted(
     rows: &[[u8; WIDTH]; SIZE],
     degs: &[u8; SIZE],
     n: usize,
     root: usize,
+    order: &mut [u8; SIZE],
     out: &mut [u8],
 ) -> usize
     requires { ⌜ Held n (now rows) (now degs) ⌝ }
-    requires { ⌜ (1 ≤ root) × (root ≤ n) × (n ≤ length (now out)) ⌝ }
+    requires { ⌜ (1 ≤ root) × (root ≤ n) × (length (now order) ≡ size) × (n ≤ length (now out)) ⌝ }
+    ensures { λ _. ⌜ length (now (order .exit)) ≡ size ⌝ }
     ensures { λ r. ⌜ ((E : List ℕ) → tree.IsTree n E → IsTable n E (now (rows .entry)) (now (degs .entry))
-        → (now (out .exit) ≡ laidOver (tree.rooted n E root) (now (out .entry))) × (r ≡ numbers.pairsₗ base (λ v. tt) n E root)) ⌝ }
+        → (take n (now (order .exit)) ≡ numbers.order n E root) × (now (out .exit) ≡ laidOver (tree.rooted n E root) (now (out .entry)))
+        × (r ≡ numbers.pairsₗ base (λ v. tt) n E root)) ⌝ }
 {
     let mut marks = [0u8; BYTES];
-    let mut buffer = [0u8; SIZE];
-    let looked = vertices(rows, degs, n, root, &mut marks, &mut buffer);
-    read(&marks, &buffer[..n], out);
+    let looked = vertices(rows, degs, n, root, &mut marks, order);
+    read(&marks, order, n, out);
     looked
 }

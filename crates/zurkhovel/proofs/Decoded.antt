@@ -22,7 +22,7 @@ right-of form c k = clear-left (codeRows size valence c) _ k
 
 module _ (c : List ℕ) (k : Clear (codeRows size valence c)) where
   -- two for each vertex but the root
-  pub edges-length : length (decode c) ≡ 2 * (length c - 1)
+  edges-length : length (decode c) ≡ 2 * (length c - 1)
   edges-length = edges-of c (clear-right size valence c k .ends)
 
   edges-sized : (E : List ℕ) → E ≡ decode c → length E ≡ 2 * (length c - 1)

@@ -23,7 +23,7 @@ use Rattle.zurkhovel.specs.Accepted.{skeleton-of}
 
 -- the code that was written, where it is read again
 module _ {N : ℕ} {E old digits : List ℕ} (s : IsSkeleton size valence N E) (w : Writes (centred N E) old N digits) where
-  pub code-clear : Clear (codeRows size valence (take N digits))
+  code-clear : Clear (codeRows size valence (take N digits))
   code-clear = rw (written w) (clear-left (codeRows size valence (w .result)) _ (form-accepted centred centred-form size valence (w .result) N E s (w .right)))
 
   pub right-code : RightCode size valence (take N digits)

@@ -2,7 +2,7 @@
 -- a bit form was read to, and of a CAM, the edges. No promise cites it. Assumes nothing.
 use mathlib.Core.Path.{_≡_}
 use mathlib.Core.List.{List, []}
-use Prim.Native.Nat.{ℕ, _-_, _*_, _≤_}
+use Prim.Native.Nat.{ℕ, _≤_}
 use lib.ListN.{length, take}
 use Rattle.refusal.specs.document.Table.{Row, Clear, FirstRefusal, Outcome, Gives}
 use Rattle.refusal.specs.document.Outcome.{told}
@@ -14,8 +14,8 @@ use Rattle.limits.specs.document.Limits.{size, valence}
 use Rattle.digit_code.specs.document.Code.{codeRows, decode}
 use Rattle.skeleton.specs.document.Skeleton.{rooted}
 use Rattle.edge_list.specs.document.Edges.{edgeRows}
+use Rattle.form_coder.specs.Numbered.{ByPlace}
 use Rattle.adjacency.specs.document.Adjacency.{camEdges}
-use Rattle.zurkhovel.specs.document.Matrix.{NumberedByCode}
 
 -- what is Known where none of rs applies, or the refusal of rs
 abbrev pub Judged : List Row → Type 0 → Check → Type 0
@@ -31,14 +31,15 @@ pub record Rooted (most N : ℕ) (E : List ℕ) (r : ℕ) (code : List ℕ) : Ty
 abbrev pub Rooting : ℕ → ℕ → List ℕ → ℕ → List ℕ → Check → Type 0
 Rooting most N E r code a = Judged (edgeRows most valence N E r) (Rooted most N E r code) a
 
--- no row applies, and the edges by code stand at the start of ends
-pub record ListedByCode (most N : ℕ) (E ends : List ℕ) : Type 0 where
+-- no row applies, and the edges by code are the first m of ends
+pub record ListedByCode (most N : ℕ) (E ends : List ℕ) (m : ℕ) : Type 0 where
   pub clear : Clear (edgeRows most valence N E 1)
-  pub numbering : NumberedByCode N E (take (2 * (N - 1)) ends)
-  pub long : length ends ≡ 2 * (size - 1)
+  pub renumbered : ByPlace N E (take m ends)
+  pub within : m ≤ length ends
 
-abbrev pub ListingByCode : ℕ → ℕ → List ℕ → List ℕ → Check → Type 0
-ListingByCode most N E ends a = Judged (edgeRows most valence N E 1) (ListedByCode most N E ends) a
+pub data ListingByCode (most N : ℕ) (E ends : List ℕ) : Answer → Type 0 where
+  listed : {m : ℕ} → ListedByCode most N E ends m → ListingByCode most N E ends (Done m)
+  refused : {k p : ℕ} → FirstRefusal (edgeRows most valence N E 1) k p → ListingByCode most N E ends (Refused k p)
 
 -- the edges of digits that are a right code, with row 15 alone
 abbrev pub LaysEdges : List ℕ → List ℕ → List ℕ → Outcome ℕ → Type 0

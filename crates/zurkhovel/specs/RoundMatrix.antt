@@ -133,7 +133,7 @@ module _ {most N : ℕ} {E F : List ℕ} (s : IsSkeleton most valence N E) (x : 
   by-code-numbers : Renumbering N E F
   by-code-numbers = rw (x .edges) (form-decoded centred centred-form N E (x .code) (s .tree) (x .right))
 
-  by-code-length : length F ≡ length E
+  pub by-code-length : length F ≡ length E
   by-code-length = omega (arith, s .tree .edges, by-code-skeleton .tree .edges)
 
   -- so what has its arcs is the skeleton under other numbers

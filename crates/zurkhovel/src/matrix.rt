@@ -122,17 +122,15 @@ pub fn a_zero(n: usize, edges: &[u8]) -> Number
 }
 
 // The edges in the numbering by code of a skeleton of at most `most` vertices.
-fn by_code(most: usize, n: usize, edges: &[u8], ends: &mut [u8]) -> Check
+fn by_code(most: usize, n: usize, edges: &[u8], ends: &mut [u8]) -> Answer
     requires { ⌜ (most ≤ size) × (length (now ends) ≡ 2 * (size - 1)) ⌝ }
     ensures { λ r. ⌜ ListingByCode most n (now (edges .entry)) (now (ends .exit)) r ⌝ }
 {
     if let Check::Refuse(k, p) = edge_list::check(most, VALENCE, n, edges, 1) {
-        return Check::Refuse(k, p);
+        return Answer::Refused(k, p);
     }
-    let mut code = [0u8; SIZE];
-    form_coder::centred(n, edges, &mut code);
-    digit_code::write_edges(&code[..n], ends);
-    Check::Passed
+    form_coder::by_code(n, edges, ends);
+    Answer::Done(edges.len())
 }
 
 // The CAM by code.
@@ -140,16 +138,17 @@ pub fn cam_by_code(n: usize, edges: &[u8], out: &mut [u8]) -> Answer
     ensures { λ r. ⌜ CamByCode n (now (edges .entry)) (now (out .entry)) (now (out .exit)) (told r) ⌝ }
 {
     let mut ends = [0u8; limits::ENDS];
-    if let Check::Refuse(k, p) = by_code(SIZE, n, edges, &mut ends) {
-        return Answer::Refused(k, p);
+    match by_code(SIZE, n, edges, &mut ends) {
+        Answer::Refused(k, p) => Answer::Refused(k, p),
+        Answer::Done(m) => {
+            let need = n - 1;
+            if out.len() < need {
+                return Answer::Refused(15, need);
+            }
+            adjacency::write_cam(n, &ends[..m], out);
+            Answer::Done(need)
+        }
     }
-    let need = n - 1;
-    if out.len() < need {
-        return Answer::Refused(15, need);
-    }
-    let m = 2 * need;
-    adjacency::write_cam(n, &ends[..m], out);
-    Answer::Done(need)
 }
 
 // The 0A by code.
@@ -157,11 +156,10 @@ pub fn zero_a_by_code(n: usize, edges: &[u8]) -> Number
     ensures { λ r. ⌜ ZeroAByCode n (now (edges .entry)) (numbered r) ⌝ }
 {
     let mut ends = [0u8; limits::ENDS];
-    if let Check::Refuse(k, p) = by_code(limits::ZERO_A, n, edges, &mut ends) {
-        return Number::Refused(k, p);
+    match by_code(limits::ZERO_A, n, edges, &mut ends) {
+        Answer::Refused(k, p) => Number::Refused(k, p),
+        Answer::Done(m) => Number::Value(zero_of(n, &ends[..m])),
     }
-    let m = 2 * (n - 1);
-    Number::Value(zero_of(n, &ends[..m]))
 }
 
 // The A0 by code.
@@ -169,9 +167,8 @@ pub fn a_zero_by_code(n: usize, edges: &[u8]) -> Number
     ensures { λ r. ⌜ AZeroByCode n (now (edges .entry)) (numbered r) ⌝ }
 {
     let mut ends = [0u8; limits::ENDS];
-    if let Check::Refuse(k, p) = by_code(limits::A_ZERO, n, edges, &mut ends) {
-        return Number::Refused(k, p);
+    match by_code(limits::A_ZERO, n, edges, &mut ends) {
+        Answer::Refused(k, p) => Number::Refused(k, p),
+        Answer::Done(m) => Number::Value(adjacency::a_zero(n, &ends[..m])),
     }
-    let m = 2 * (n - 1);
-    Number::Value(adjacency::a_zero(n, &ends[..m]))
 }

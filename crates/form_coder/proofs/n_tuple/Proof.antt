@@ -1,122 +1,66 @@
 -- `form_coder::n_tuple` meets its contract: the loop keeps the largest code of those passed. Assumes nothing.
-use mathlib.Core.Path.{sym, _∙_}
-use Prim.Native.Nat.{_-_, _<_}
+use mathlib.Core.Path.{_≡_, sym, _∙_}
+use Prim.Native.Nat.{_+_, _-_, _≤_, _<_}
 use native.Mathlib.Omega.{arith}
 use denote.Ref.{now}
+use lib.ListN.{length, take}
 use lib.Seq.{length-take-le}
 use borrow.Author.Needs.{needs}
-use Rattle.form_coder.proofs.Largest.{Best, best-first, best-past, best-next, coded-long, degree-at, n-tuple-written}
+use Rattle.limits.specs.document.Limits.{size}
+use Rattle.laws.specs.document.Laid.{laidOver}
+use Rattle.skeleton.specs.document.Skeleton.{rooted}
+use Rattle.edge_list.specs.Table.{Held}
+use Rattle.form_coder.proofs.Largest.{Best, best-first, best-past, coded-long, best-next, degree-at, n-tuple-written}
 use Rattle.form_coder.proofs.n_tuple.Statement.{statement}
 use Rattle.form_coder.proofs.n_tuple.Tie as tie
 
 abbrev Inv-loop : tie.InvT-loop
-Inv-loop n edges out rows degs d best₀ other₀ v₀ best other v = Best n edges d best other v
+Inv-loop n edges out rows degs d best₀ other₀ order₀ v₀ best other order v = Best n edges d best other order v
 
 abbrev μ-loop : tie.MeasureT-loop
-μ-loop n edges out rows degs d best₀ other₀ v₀ best other v = n - v
+μ-loop n edges out rows degs d best₀ other₀ order₀ v₀ best other order v = n - v
 
-fill-requires : tie.Need-fill-requires Inv-loop μ-loop
-fill-requires c κs = search needs
+-- from the comparison back to the next code, to the loop, to the table, and to the start
+abbrev coded : tie.After-raise Inv-loop μ-loop → tie.After-rooted Inv-loop μ-loop
+coded c = c .before .before .before .before
 
-widest-requires : tie.Need-widest-requires Inv-loop μ-loop
-widest-requires c κs = (c .before .fill .ensures .shaped .degs, c .before .before .before .before .before .before .pre .0 .few)
+abbrev turn : tie.After-other Inv-loop μ-loop → tie.Then1 Inv-loop μ-loop
+turn c = c .before .before .before .before
 
-loop-holds : tie.Need-loop-holds Inv-loop μ-loop
-loop-holds c = best-first (c .before .before .before .before .before .before .before .pre .0 .few)
+abbrev looping : tie.Then1 Inv-loop μ-loop → tie.At-loop Inv-loop μ-loop
+looping c = c .before .before
 
-array-read-k : tie.Need-array-read-k Inv-loop μ-loop
-array-read-k c = omega (arith, c .before .before .before .before .before .before .before .before .before .pre .0 .few)
+abbrev filled : tie.At-loop Inv-loop μ-loop → tie.After-fill Inv-loop μ-loop
+filled c = c .before .before .before
 
-add-v : tie.Need-add-v Inv-loop μ-loop
-add-v c = omega (arith, c .before .before .before .before .before .before .before .before .before .pre .0 .few)
+abbrev start : tie.After-fill Inv-loop μ-loop → tie.Start Inv-loop μ-loop
+start c = c .before .before .before .before .before
 
-slice-aggregate-rooted : tie.Need-slice-aggregate-rooted Inv-loop μ-loop
-slice-aggregate-rooted c = sym (c .before .before .before .before .before .loop .inv .room)
+-- n is small
+few : (c : tie.At-loop Inv-loop μ-loop) → start (filled c) .args .n ≤ size
+few c = start (filled c) .pre .0 .few
 
-rooted-requires : tie.Need-rooted-requires Inv-loop μ-loop
-rooted-requires c κs =
-    let s = c .before .before .before .before .before .before .before .before .before .before .before .before .before in
-    let i = c .before .before .before .before .before .loop .inv in (
-      record { edges = now (s .args .edges); skeleton = s .pre .0; table = c .before .before .before .before .before .before .before .before .fill .ensures },
-      (omega arith, omega (arith, c .before .before .before .before .loop-test .taken), omega (arith, s .pre .0 .few, i .room)),
-    )
+-- and the largest code fits
+whole : (c : tie.At-loop Inv-loop μ-loop) → length (take (start (filled c) .args .n) (c .loop .best)) ≡ start (filled c) .args .n
+whole c = length-take-le (start (filled c) .args .n) (c .loop .best) (omega (arith, few c, c .loop .inv .long))
 
-slice-aggregate-raise : tie.Need-slice-aggregate-raise Inv-loop μ-loop
-slice-aggregate-raise c = sym (c .before .before .before .before .before .before .before .before .loop .inv .long)
+-- there is one more vertex
+more : (c : tie.In-loop Inv-loop μ-loop) → c .before .loop .v < start (filled (c .before)) .args .n
+more c = omega (arith, c .loop-test .taken)
 
-slice-aggregate-raise-2 : tie.Need-slice-aggregate-raise-2 Inv-loop μ-loop
-slice-aggregate-raise-2 c =
-    let s = c .before .before .before .before .before .before .before .before .before .before .before .before .before .before .before .before .before in
-    let i = c .before .before .before .before .before .before .before .before .before .loop .inv in
-    let t = s .pre .0 .tree in
-    let E = now (s .args .edges) in
-    let f = c .before .before .before .before .before .before .before .before .before .before .before .before .fill .ensures in
-    let l : c .before .before .before .before .before .before .before .before .before .loop .v < s .args .n = omega (arith, c .before .before .before .before .before .before .before .before .loop-test .taken) in
-    sym (coded-long t (s .pre .0 .few) i l (c .before .before .before .rooted .ensures E t f .0))
+-- the table is the list's
+held : (c : tie.After-fill Inv-loop μ-loop) → Held (start c .args .n) (c .fill .last .1 .1 .0) (c .fill .last .1 .1 .1 .0)
+held c = let s = start c in record { edges = now (s .args .edges); skeleton = s .pre .0; table = c .fill .ensures }
 
-raise-requires : tie.Need-raise-requires Inv-loop μ-loop
-raise-requires c κs =
-    let s = c .before .before .before .before .before .before .before .before .before .before .before .before .before .before .before .before .before in
-    let i = c .before .before .before .before .before .before .before .before .before .loop .inv in
-    let t = s .pre .0 .tree in
-    let E = now (s .args .edges) in
-    let f = c .before .before .before .before .before .before .before .before .before .before .before .before .fill .ensures in
-    let l : c .before .before .before .before .before .before .before .before .before .loop .v < s .args .n = omega (arith, c .before .before .before .before .before .before .before .before .loop-test .taken) in
-    let k = coded-long t (s .pre .0 .few) i l (c .before .before .before .rooted .ensures E t f .0) in
-    (omega (arith, s .pre .0 .few, i .long), omega (arith, s .pre .0 .few, k))
+-- the next code is written over `other`
+next : (c : tie.After-rooted Inv-loop μ-loop) → let l = looping (turn (c .before)) in let s = start (filled l) in c .rooted .last .1 .1 .1 .1 .1 .0 ≡ laidOver (rooted (s .args .n) (now (s .args .edges)) (l .loop .v + 1)) (l .loop .other)
+next c = let f = filled (looping (turn (c .before))) in let s = start f in c .rooted .ensures .1 (now (s .args .edges)) (s .pre .0 .tree) (f .fill .ensures) .1
 
-loop-less : tie.Need-loop-less Inv-loop μ-loop
-loop-less c = omega (arith, c .before .before .before .before .before .before .before .before .before .before .loop-test .taken)
-
-loop-again : tie.Need-loop-again Inv-loop μ-loop
-loop-again c =
-    let s = c .before .before .before .before .before .before .before .before .before .before .before .before .before .before .before .before .before .before .before in
-    let i = c .before .before .before .before .before .before .before .before .before .before .before .loop .inv in
-    let t = s .pre .0 .tree in
-    let E = now (s .args .edges) in
-    let f = c .before .before .before .before .before .before .before .before .before .before .before .before .before .before .fill .ensures in
-    let l : c .before .before .before .before .before .before .before .before .before .before .before .loop .v < s .args .n = omega (arith, c .before .before .before .before .before .before .before .before .before .before .loop-test .taken) in
-    best-next t (s .pre .0 .few) i l (sym (degree-at f l) ∙ c .before .before .before .before .before .before .before .before .before .if1 .taken) (c .before .before .before .before .before .rooted .ensures E t f .0) (c .before .raise .ensures)
-
-loop-less-2 : tie.Need-loop-less-2 Inv-loop μ-loop
-loop-less-2 c = omega (arith, c .before .loop-test .taken)
-
-loop-again-2 : tie.Need-loop-again-2 Inv-loop μ-loop
-loop-again-2 c =
-    let s = c .before .before .before .before .before .before .before .before .before .before in
-    let i = c .before .before .loop .inv in
-    let t = s .pre .0 .tree in
-    let E = now (s .args .edges) in
-    let f = c .before .before .before .before .before .fill .ensures in
-    let l : c .before .before .loop .v < s .args .n = omega (arith, c .before .loop-test .taken) in
-    best-past t (s .pre .0 .few) i l (λ e. c .if1 .left (degree-at f l ∙ e))
-
-array-share-prefix-best : tie.Need-array-share-prefix-best Inv-loop μ-loop
-array-share-prefix-best c = omega (arith, c .before .before .before .before .before .before .before .before .before .pre .0 .few, c .before .loop .inv .long)
-
-slice-aggregate-copy : tie.Need-slice-aggregate-copy Inv-loop μ-loop
-slice-aggregate-copy c =
-    let s = c .before .before .before .before .before .before .before .before .before .before in
-    let i = c .before .before .loop .inv in
-    sym (length-take-le (s .args .n) (c .before .before .loop .best) (omega (arith, s .pre .0 .few, i .long)))
-
-copy-requires : tie.Need-copy-requires Inv-loop μ-loop
-copy-requires c κs =
-    let s = c .before .before .before .before .before .before .before .before .before .before .before in
-    let i = c .before .before .before .loop .inv in
-    omega (arith, s .pre .1, length-take-le (s .args .n) (c .before .before .before .loop .best) (omega (arith, s .pre .0 .few, i .long)))
-
-same-length : tie.Need-same-length Inv-loop μ-loop
-same-length c = search needs
-
-returns : tie.Need-returns Inv-loop μ-loop
-returns c =
-    let s = c .before .before .before .before .before .before .before .before .before .before .before .before .before .before in
-    let i = c .before .before .before .before .before .before .loop .inv in
-    let t = s .pre .0 .tree in
-    let E = now (s .args .edges) in
-    let f = c .before .before .before .before .before .before .before .before .before .fill .ensures in
-    n-tuple-written t (s .pre .0 .few) f (c .before .before .before .before .before .before .before .widest .ensures) i (omega (arith, c .before .before .before .before .before .loop-test .left)) (c .before .before .copy .ensures .1)
+long : (c : tie.After-rooted Inv-loop μ-loop) → length (c .rooted .last .1 .1 .1 .1 .1 .0) ≡ size
+long c =
+    let q = turn (c .before) in
+    let l = looping q in
+    coded-long (start (filled l) .pre .0 .tree) (few l) (l .loop .inv) (more (q .before)) (next c)
 
 pub n-tuple-spec : {M : Type 1} → statement M
 n-tuple-spec =
@@ -124,22 +68,42 @@ n-tuple-spec =
     (tie.spec
     Inv-loop
     μ-loop
-    fill-requires
-    widest-requires
-    loop-holds
-    array-read-k
-    add-v
-    slice-aggregate-rooted
-    rooted-requires
-    slice-aggregate-raise
-    slice-aggregate-raise-2
-    raise-requires
-    loop-less
-    loop-again
-    loop-less-2
-    loop-again-2
-    array-share-prefix-best
-    slice-aggregate-copy
-    copy-requires
-    same-length
-    returns)
+    (λ c κs. search needs)
+    (λ c κs. (c .before .fill .ensures .shaped .degs, start (c .before) .pre .0 .few))
+    (λ c. best-first (start (c .before .before) .pre .0 .few))
+    (λ c. omega (arith, few (c .before)))
+    (λ c. omega (arith, few (c .before)))
+    (λ c. sym (looping (turn c) .loop .inv .room))
+    (λ c κs.
+    let q = turn c in
+    let l = looping q in
+    (held (filled l), (omega arith, omega (arith, more (q .before)), l .loop .inv .order, omega (arith, few l, l .loop .inv .room))))
+    (λ c. sym (looping (turn (c .before .before .before)) .loop .inv .long))
+    (λ c. sym (long (c .before .before .before)))
+    (λ c κs.
+    let k = c .before .before .before in
+    let l = looping (turn (k .before)) in
+    (omega (arith, few l, l .loop .inv .long), omega (arith, few l, long k)))
+    (λ c. omega (arith, more (turn (coded (c .before) .before) .before)))
+    (λ c.
+    let r = c .before in
+    let k = coded r in
+    let q = turn (k .before) in
+    let l = looping q in
+    let f = filled l in
+    best-next (start f .pre .0 .tree) (few l) (l .loop .inv) (more (q .before)) (next k) (sym (degree-at (f .fill .ensures) (more (q .before))) ∙ q .if1 .taken) (r .raise .ensures) (k .rooted .ensures .0))
+    (λ c. omega (arith, more (c .before)))
+    (λ c.
+    let l = c .before .before in
+    let f = filled l in
+    best-past (start f .pre .0 .tree) (few l) (l .loop .inv) (more (c .before)) (λ e. c .if1 .left (degree-at (f .fill .ensures) (more (c .before)) ∙ e)))
+    (λ c. let l = c .before in omega (arith, few l, l .loop .inv .long))
+    (λ c. sym (whole (c .before .before)))
+    (λ c κs. let l = c .before .before .before in omega (arith, whole l, start (filled l) .pre .1))
+    (λ c. search needs)
+    (λ c.
+    let y = c .before .before in
+    let e = y .before .before .before in
+    let l = e .before in
+    let f = filled l in
+    n-tuple-written (start f .pre .0 .tree) (few l) (f .fill .ensures) (l .before .widest .ensures) (l .loop .inv) (omega (arith, e .loop-test .left)) (y .copy .ensures .1)))

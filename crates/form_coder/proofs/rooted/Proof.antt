@@ -5,6 +5,13 @@ use Rattle.form_coder.proofs.Written.{rooted-written}
 use Rattle.form_coder.proofs.rooted.Statement.{statement}
 use Rattle.form_coder.proofs.rooted.Tie as tie
 
+-- from the code back to the table, and from there to the start
+abbrev filled : tie.After-rooted → tie.After-fill
+filled c = c .before .before .before .before .before
+
+abbrev start : tie.After-fill → tie.Start
+start c = c .before .before .before .before .before
+
 pub rooted-spec : {M : Type 1} → statement M
 rooted-spec =
     tie.close
@@ -13,6 +20,8 @@ rooted-spec =
     (λ c κs. search needs)
     (λ c. search needs)
     (λ c.
-    let s = c .before .before .before .before .before .before .before .before .before .before .before in
+    let k = c .before .before in
+    let f = filled k in
+    let s = start f in
     let t = s .pre .0 .tree in
-    rooted-written (s .args .root) t (s .pre .1 .0) (s .pre .1 .1) (c .before .before .rooted .ensures (now (s .args .edges)) t (c .before .before .before .before .before .before .fill .ensures) .0)))
+    rooted-written (s .args .root) t (s .pre .1 .0) (s .pre .1 .1) (k .rooted .ensures .1 (now (s .args .edges)) t (f .fill .ensures) .1)))

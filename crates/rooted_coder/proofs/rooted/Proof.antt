@@ -1,30 +1,36 @@
 -- `rooted_coder::rooted` meets its contract. Assumes nothing.
-use mathlib.Core.Path.{_≡_, sym, ap, _∙_}
-use native.Mathlib.Omega.{arith}
-use lib.ListN.{length, take}
-use lib.Seq.{length-take-le}
+use mathlib.Core.Path.{_≡_, refl, ap, _∙_}
+use mathlib.Core.List.{List}
+use Prim.Native.Nat.{ℕ}
 use borrow.Author.Needs.{needs}
 use Rattle.laws.specs.document.Laid.{laidOver}
-use Rattle.skeleton.specs.Base.{rooted-base}
+use Rattle.skeleton.specs.Base.{base, rooted-base}
+use Rattle.numbering.specs.Numbers.{order, orderₗ}
 use Rattle.rooted_coder.proofs.rooted.Statement.{statement}
 use Rattle.rooted_coder.proofs.rooted.Tie as tie
 
--- the vertices fill the front of the buffer
-front : (c : tie.After-vertices) → let s = c .before .before .before .before in length (take (s .args .n) (c .vertices .last .1 .1 .1 .1 .1 .0)) ≡ s .args .n
-front c = let s = c .before .before .before .before in length-take-le (s .args .n) (c .vertices .last .1 .1 .1 .1 .1 .0) (omega (arith, s .pre .0 .skeleton .few, c .vertices .ensures .0))
+-- the order where no vertex has a label
+plain : (N : ℕ) (E : List ℕ) (r : ℕ) → orderₗ base (λ v. tt) N E r ≡ order N E r
+unfolding order orderₗ
+plain N E r = refl
+
+-- where the vertices stand, from where the marks of them are written
+abbrev placed : tie.After-read → tie.After-vertices
+placed c = c .before .before .before .before .before
 
 pub rooted-spec : {M : Type 1} → statement M
 rooted-spec =
     tie.close
     (tie.spec
     (λ c κs. search needs)
+    (λ c κs. search needs)
     (λ c. search needs)
-    (λ c. sym (front (c .before .before)))
-    (λ c κs. let v = c .before .before .before in omega (arith, front v, v .before .before .before .before .pre .1 .2))
-    (λ c. search needs)
-    (λ c E tree table.
+    (λ c.
     let y = c .before .before in
-    let v = y .before .before .before .before in
-    let s = v .before .before .before .before in
-    let p = v .vertices .ensures .1 E tree table in
-    (y .read .ensures ∙ ap (λ l. laidOver l (s .args .out .now)) (p .code ∙ rooted-base (λ v. tt) _ E _), p .count)))
+    let v = placed y .vertices .ensures in
+    let old = (placed y .before .before .before .before .args .out .now) in (
+      v .0,
+      λ E tree table.
+          let p = v .1 E tree table in
+          (p .order ∙ plain _ E _, y .read .ensures ∙ ap (λ l. laidOver l old) (p .code ∙ rooted-base (λ v. tt) _ E _), p .count),
+    )))

@@ -4,13 +4,12 @@ use denote.Ref.{now}
 use borrow.Author.Needs.{needs}
 use Rattle.refusal.specs.document.Table.{Clear}
 use Rattle.refusal.specs.Laws.{was-clear, was-refused}
-use Rattle.refusal.specs.Giving.{written-room, written-length}
 use Rattle.limits.specs.document.Limits.{size, valence}
 use Rattle.skeleton.specs.document.Skeleton.{IsSkeleton}
 use Rattle.edge_list.specs.document.Edges.{edgeRows}
 use Rattle.zurkhovel.specs.Accepted.{skeleton-of, wider, tabled}
-use Rattle.zurkhovel.proofs.Derived.{right-code}
-use Rattle.zurkhovel.proofs.Numbered.{code-bytes, code-written}
+use Rattle.zurkhovel.specs.Rooting.{refused}
+use Rattle.zurkhovel.proofs.Numbered.{listed-by-code}
 use Rattle.zurkhovel.proofs.matrix.by_code.Statement.{statement}
 use Rattle.zurkhovel.proofs.matrix.by_code.Tie as tie
 
@@ -30,12 +29,8 @@ by-code-spec =
     (tie.spec
     (λ c κs. search needs)
     (λ c. search needs)
-    (λ c. was-refused (c .before .before .before .check .ensures) (c .before .k .given .1))
+    (λ c. refused (was-refused (c .before .before .before .check .ensures) (c .before .k .given .1)))
     (λ c. search needs)
+    (λ c κs. let s = found (c .before) in (tabled s, omega (arith, s .tree .edges, s .few, start (c .before) .pre .1)))
     (λ c. search needs)
-    (λ c κs. let s = found (c .before) in (tabled s, s .few))
-    (λ c. written-room (c .before .centred .ensures))
-    (λ c. written-length (c .before .before .centred .ensures))
-    (λ c κs. let d = c .before .before .before .before .before in let w = c .before .before .before .centred .ensures in (let r = right-code (found d) w in (r .ends, (r .few, omega (arith, start d .pre .1, code-bytes (found d) w, found d .few)))))
-    (λ c. search needs)
-    (λ c. let d = c .before .before .before .before .before .before .before .before in code-written (found d) (c .before .before .before .before .before .before .centred .ensures) (clear d) (c .before .before .write-edges .ensures) (search needs)))
+    (λ c. let y = c .before .before in listed-by-code (clear (y .before .before)) (y .by-code .ensures)))

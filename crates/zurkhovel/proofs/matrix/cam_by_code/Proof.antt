@@ -8,12 +8,19 @@ use Rattle.refusal.specs.Giving.{refused-first}
 use Rattle.limits.specs.document.Limits.{size}
 use Rattle.adjacency.specs.Plain.{numbered}
 use Rattle.zurkhovel.specs.Rooting.{ListedByCode}
-use Rattle.zurkhovel.proofs.Numbered.{ends-within, ends-length, ends-skeleton, ends-physical, cam-short, cam-given}
+use Rattle.zurkhovel.proofs.Numbered.{was-listed, was-refused, ends-length, ends-skeleton, ends-physical, cam-short, cam-given}
 use Rattle.zurkhovel.proofs.matrix.cam_by_code.Statement.{statement}
 use Rattle.zurkhovel.proofs.matrix.cam_by_code.Tie as tie
 
-known : (c : tie.After-enum-told) → ListedByCode size (c .before .before .before .before .before .before .before .args .n) (now (c .before .before .before .before .before .before .before .args .edges)) (c .before .before .before .by-code .last .1 .1 .1 .0)
-known c = rw (c .enum-told .given .1) at (c .before .before .before .by-code .ensures)
+abbrev start : tie.After-by-code → tie.Start
+start c = c .before .before .before .before
+
+abbrev listed : tie.After-known-told2 → tie.After-by-code
+listed c = c .before .before .before .before
+
+-- what is known where the list is accepted
+known : (c : tie.After-known-told2) → let s = start (listed c) in ListedByCode size (s .args .n) (now (s .args .edges)) (listed c .by-code .last .1 .1 .1 .0) (c .before .m .given .0 .0)
+known c = was-listed (listed c .by-code .ensures) (c .before .m .given .1)
 
 pub cam-by-code-spec : {M : Type 1} → statement M
 cam-by-code-spec =
@@ -22,13 +29,18 @@ cam-by-code-spec =
     (λ c. search needs)
     (λ c κs. search needs)
     (λ c. search needs)
-    (λ c. refused-first (rw (c .before .k .given .1) at (c .before .before .before .before .by-code .ensures)) refl)
     (λ c. search needs)
     (λ c. at-least (known c .clear))
     (λ c. cam-short (known (c .before)) (c .if1 .taken) refl)
+    (λ c. known (c .before) .within)
+    (λ c. sym (ends-length (known (c .before .before))))
+    (λ c κs.
+    let r = c .before .before in
+    let t = known (r .before) in
+    ((numbered (ends-skeleton t), ends-physical t), (at-most (t .clear), omega (arith, r .if1 .left))))
+    (λ c. refused-first (was-refused (c .before .before .before .before .by-code .ensures) (c .before .k .given .1)) refl)
     (λ c. search needs)
-    (λ c. ends-within (known (c .before)) (omega arith))
-    (λ c. sym (ends-length (known (c .before .before)) (omega arith)))
-    (λ c κs. let t = known (c .before .before .before) in ((numbered (ends-skeleton t), ends-physical t), (at-most (t .clear), omega (arith, c .before .before .if1 .left))))
-    (λ c. search needs)
-    (λ c. cam-given (known (c .before .before .before .before .before .before)) (c .before .before .before .before .before .if1 .left) (c .before .before .write-cam .ensures)))
+    (λ c.
+    let y = c .before .before in
+    let r = y .before .before .before in
+    cam-given (known (r .before)) (r .if1 .left) (y .write-cam .ensures)))

@@ -1,0 +1,105 @@
+-- `form_coder::numbered` meets its contract. Assumes nothing.
+use mathlib.Core.Path.{_≡_, refl}
+use native.Mathlib.Omega.{arith}
+use lib.ListN.{take, replicate}
+use borrow.Author.Needs.{needs}
+use denote.Ref.{now}
+use Rattle.laws.specs.document.Laid.{laidOver}
+use Rattle.limits.specs.document.Limits.{size}
+use Rattle.skeleton.specs.document.Skeleton.{rooted}
+use Rattle.numbering.specs.Numbers.{order}
+use Rattle.edge_list.specs.Table.{Held}
+use Rattle.longest_path.specs.document.Path.{IsCentre}
+use Rattle.longest_path.specs.Theorems.{centre-inside}
+use Rattle.form_coder.proofs.Written.{front, front-room, one-middle, first-stays, second-rises}
+use Rattle.form_coder.proofs.numbered.Statement.{statement}
+use Rattle.form_coder.proofs.numbered.Tie as tie
+
+-- from the comparison back to the code at the second middle vertex, to that at the first, to the middle vertices, to the table, and to the start
+abbrev second : tie.After-raise → tie.After-rooted2
+second c = c .before .before .before .before
+
+abbrev differ : tie.After-rooted2 → tie.Then1
+differ c = c .before .before .before .before .before
+
+abbrev first : tie.Then1 → tie.After-rooted
+first c = c .before .before .before
+
+abbrev middle : tie.After-rooted → tie.After-centre
+middle c = c .before .before .before .before .before
+
+abbrev filled : tie.After-centre → tie.After-fill
+filled c = c .before .before .before
+
+abbrev start : tie.After-fill → tie.Start
+start c = c .before .before .before .before .before
+
+-- the table is the list's, and the middle vertices are its own
+held : (c : tie.After-fill) → Held (start c .args .n) (c .fill .last .1 .1 .0) (c .fill .last .1 .1 .1 .0)
+held c = let s = start c in record { edges = now (s .args .edges); skeleton = s .pre .0; table = c .fill .ensures }
+
+centre : (c : tie.After-centre) → let s = start (filled c) in IsCentre (s .args .n) (now (s .args .edges)) (c .centre .result .first) (c .centre .result .second)
+centre c = let f = filled c in let s = start f in c .centre .ensures (now (s .args .edges)) (s .pre .0 .tree) (f .fill .ensures)
+
+-- the two codes, and the vertices of their digits
+coded : (c : tie.After-rooted) → let m = middle c in let s = start (filled m) in let E = now (s .args .edges) in
+    (take (s .args .n) (c .rooted .last .1 .1 .1 .1 .0) ≡ order (s .args .n) E (m .centre .result .first)) × (c .rooted .last .1 .1 .1 .1 .1 .0 ≡ laidOver (rooted (s .args .n) E (m .centre .result .first)) (now (s .args .out)))
+coded c = let f = filled (middle c) in let s = start f in let x = c .rooted .ensures .1 (now (s .args .edges)) (s .pre .0 .tree) (f .fill .ensures) in (x .0, x .1)
+
+coded2 : (c : tie.After-rooted2) → let m = middle (first (differ c)) in let s = start (filled m) in let E = now (s .args .edges) in
+    (take (s .args .n) (c .rooted2 .last .1 .1 .1 .1 .0) ≡ order (s .args .n) E (m .centre .result .second)) × (c .rooted2 .last .1 .1 .1 .1 .1 .0 ≡ laidOver (rooted (s .args .n) E (m .centre .result .second)) (replicate size 0))
+coded2 c = let f = filled (middle (first (differ c))) in let s = start f in let x = c .rooted2 .ensures .1 (now (s .args .edges)) (s .pre .0 .tree) (f .fill .ensures) in (x .0, x .1)
+
+pub numbered-spec : {M : Type 1} → statement M
+numbered-spec =
+    tie.close
+    (tie.spec
+    (λ c κs. search needs)
+    (λ c κs. search needs)
+    (λ c κs.
+    let m = c .before .before .before .before in
+    let s = start (filled m) in
+    let ((h, k), g) = centre-inside _ _ (s .pre .0 .tree) _ _ (centre m) in
+    (held (filled m), (h, k, s .pre .1 .0, s .pre .1 .1)))
+    (λ c. search needs)
+    (λ c κs.
+    let m = middle (first (c .before .before .before .before)) in
+    let s = start (filled m) in
+    let (g, (h, k)) = centre-inside _ _ (s .pre .0 .tree) _ _ (centre m) in
+    (held (filled m), (h, k, refl, s .pre .0 .few)))
+    (λ c. search needs)
+    (λ c κs.
+    let d = c .before .before .before in
+    let y = first (differ d) in
+    let m = middle y in
+    let s = start (filled m) in
+    let t = s .pre .0 .tree in
+    let ((a, b), (h, k)) = centre-inside _ _ t _ _ (centre m) in
+    (front-room t a b _ (coded y .1), front-room t h k _ (coded2 d .1)))
+    (λ c. search needs)
+    (λ c κs. let d = second (c .before .before .before .before .before) in omega (arith, d .rooted2 .ensures .0, first (differ d) .rooted .ensures .0))
+    (λ c. search needs)
+    (λ c.
+    let q = c .before .before .before in
+    let r = q .before .before .before in
+    let d = second r in
+    let y = first (differ d) in
+    let m = middle y in
+    let s = start (filled m) in
+    let t = s .pre .0 .tree in
+    let (g, (h, k)) = centre-inside _ _ t _ _ (centre m) in
+    (search needs, second-rises t (centre m) _ _ (coded y .0) (coded y .1) _ (front t h k _ (coded2 d .1)) _ (r .raise .ensures) (q .if2 .taken) (coded2 d .0) (omega (arith, s .pre .0 .few, d .rooted2 .ensures .0)) (c .copy .ensures .1)))
+    (λ c. search needs)
+    (λ c.
+    let r = c .before .before .before in
+    let d = second r in
+    let y = first (differ d) in
+    let m = middle y in
+    let t = start (filled m) .pre .0 .tree in
+    let (g, (h, k)) = centre-inside _ _ t _ _ (centre m) in
+    (y .rooted .ensures .0, first-stays t (centre m) _ _ (coded y .0) (coded y .1) _ (front t h k _ (coded2 d .1)) (r .raise .ensures) (c .if2 .left)))
+    (λ c. search needs)
+    (λ c.
+    let y = c .before .before .before in
+    let m = middle y in
+    (y .rooted .ensures .0, one-middle (start (filled m) .pre .0 .tree) (centre m) _ _ (coded y .0) (coded y .1) (c .if1 .left))))

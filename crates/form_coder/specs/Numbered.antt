@@ -1,0 +1,30 @@
+-- The centred code with the vertex of each digit, and the edges in the numbering by code. Assumes nothing.
+use mathlib.Core.Path.{_≡_}
+use mathlib.Core.List.{List, map}
+use Prim.Native.Nat.{ℕ, suc, _≤_, _<_}
+use lib.ListN.{getD}
+use Rattle.laws.specs.Places.{place}
+use Rattle.digit_code.specs.document.Code.{decode}
+use Rattle.skeleton.specs.document.Skeleton.{rooted, Renumbering}
+use Rattle.numbering.specs.Numbers as numbers
+use Rattle.form.specs.document.Form.{centred}
+
+-- c is the centred code of E, the one at root, and o has the vertex of each digit
+pub record Numbered (N : ℕ) (E o c : List ℕ) : Type 0 where
+  pub root : ℕ
+  pub inside : (1 ≤ root) × (root ≤ N)
+  pub code : c ≡ rooted N E root
+  pub right : centred N E c
+  pub order : o ≡ numbers.order N E root
+
+-- t has at each of the first n of o its place, 1 for the first
+abbrev pub Counts : List ℕ → ℕ → List ℕ → Type 0
+Counts o n t = (i : ℕ) → i < n → getD t (getD o i 0) 0 ≡ suc i
+
+-- F is E in the numbering by code, that of the centred code at root: each end is replaced by its place in the order of the digits
+pub record ByPlace (N : ℕ) (E F : List ℕ) : Type 0 where
+  pub root : ℕ
+  pub right : centred N E (rooted N E root)
+  pub numbering : Renumbering N E (decode (rooted N E root))
+  pub places : (v : ℕ) → numbering .to v ≡ suc (place v (numbers.order N E root))
+  pub is : F ≡ map (numbering .to) E
