@@ -13,7 +13,7 @@ use Rattle.laws.specs.Tells.{Tells, holds, denies, was-held}
 use Rattle.laws.specs.Part.{part, part-length}
 use Rattle.digit_code.specs.declared.Order.{Order}
 use Rattle.digit_code.specs.declared.Order.the-variants.{Less, Equal, Greater}
-use Rattle.digit_code.specs.Compare.{pick, further, lex, pairsOf, looked-few, Compares, less, equal, greater, lex-says, told-same, told-pairs}
+use Rattle.digit_code.specs.Compare.{pick, further, lex, pairsOf, looked-few, Compares, less, greater, lex-says, told-same, told-pairs}
 use Rattle.digit_code.specs.Comparing.{further-none, further-more}
 
 -- the second answer where the first is that both are equal

@@ -76,7 +76,6 @@ module _ {k : List ℕ → List ℕ} {s lens : List ℕ} {f m : ℕ} {c : List �
         (t .whole ∙ ap (λ l. p ++ (flatten l ++ q)) (g .parts ∙ ap (λ l. g .passed ++ l) (next .is))) (omega (arith, g .here, t .begins)) (omega (arith, heads-are .0))
 
     module _ {i : ℕ} (st : i ≡ looked (k (part x (x + getD lens x 0) s)) (k c)) where
-
       -- it is passed
       on : {at' : ℕ} → ((at' ≡ m) × (place k c L ≡ (g .passed ++ (next .first ∷ [])) ++ place k c (next .others))) ⊎ ((at' < m) × Spot k f L c at')
           → Passed k lens f m c L (x + getD lens x 0) at' (n + i)

@@ -4,7 +4,7 @@ use native.Mathlib.Omega.{arith}
 use lib.Seq.{length-take-le}
 use borrow.Author.Needs.{needs}
 use borrow.Author.Tests.{not-true, not-false}
-use Rattle.digit_code.specs.Compare.{was-falling, was-rising}
+use Rattle.laws.specs.Tells.{was-held, was-denied}
 use Rattle.form_coder.proofs.Written.{raised-by}
 use Rattle.form_coder.proofs.raise.Statement.{statement}
 use Rattle.form_coder.proofs.raise.Tie as tie
@@ -20,6 +20,6 @@ raise-spec =
     (λ c. let s = c .before .before .before .before .before .before .before in sym (length-take-le (s .args .n) (s .args .other .now) (s .pre .1)))
     (λ c κs. let s = c .before .before .before .before .before .before .before .before in omega (arith, s .pre, length-take-le (s .args .n) (s .args .other .now) (s .pre .1)))
     (λ c. search needs)
-    (λ c. raised-by (was-rising (c .before .before .before .before .before .before .falls .ensures) (not-true _ (c .before .before .before .before .before .if1 .taken))) (c .before .before .copy .ensures .1))
+    (λ c. raised-by (was-denied (c .before .before .before .before .before .before .falls .ensures) (not-true _ (c .before .before .before .before .before .if1 .taken))) (c .before .before .copy .ensures .1))
     (λ c. search needs)
-    (λ c. record { kept = λ h. refl; raised = λ g. absurd (g (was-falling (c .before .falls .ensures) (not-false _ (c .if1 .left)))) }))
+    (λ c. record { kept = λ h. refl; raised = λ g. absurd (g (was-held (c .before .falls .ensures) (not-false _ (c .if1 .left)))) }))

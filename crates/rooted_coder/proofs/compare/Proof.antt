@@ -1,7 +1,6 @@
 -- `rooted_coder::compare` meets its contract: the loop keeps that the marks passed agree. Assumes nothing.
 use mathlib.Core.Path.{_≡_, sym, _∙_}
-use mathlib.Core.List.{List}
-use Prim.Native.Nat.{ℕ, _-_, _≤_, _<_}
+use Prim.Native.Nat.{_-_, _<_}
 use native.Mathlib.Omega.{arith}
 use denote.Ref.{now}
 use borrow.Author.Needs.{needs}
@@ -32,11 +31,11 @@ top c = c .before .before .before .before .before .before
 -- there is a pair, and its marks
 pair : (c : tie.After-mark2 Inv-loop μ-loop)
     → let l = top c in
-      let s = start l .args in
-      (l .loop .i < length (marked (now (s .marks)) (now (s .a))))
-      × (l .loop .i < length (marked (now (s .marks)) (now (s .b))))
-      × (getD (marked (now (s .marks)) (now (s .a))) (l .loop .i) 0 ≡ c .before .before .mark .result)
-      × (getD (marked (now (s .marks)) (now (s .b))) (l .loop .i) 0 ≡ c .mark2 .result)
+    let s = start l .args in
+    (l .loop .i < length (marked (now (s .marks)) (now (s .a))))
+    × (l .loop .i < length (marked (now (s .marks)) (now (s .b))))
+    × (getD (marked (now (s .marks)) (now (s .a))) (l .loop .i) 0 ≡ c .before .before .mark .result)
+    × (getD (marked (now (s .marks)) (now (s .b))) (l .loop .i) 0 ≡ c .mark2 .result)
 pair c =
     let l = top c in
     let s = start l .args in

@@ -94,8 +94,8 @@ module _ (u : tie.After-compare Inv-loop μ-loop) {o : Order} (e : u .compare .r
 -- fewer parts are left
 shrinks : (u : tie.After-compare Inv-loop μ-loop)
     → let w = measured u in
-      let m = start (top w) .args .m in
-      m - (top w .loop .x + w .wide .result) < m - top w .loop .x
+    let m = start (top w) .args .m in
+    m - (top w .loop .x + w .wide .result) < m - top w .loop .x
 shrinks u = let w = measured u in omega (arith, fitting w .0, w .before .before .loop-test .taken)
 
 pub seek-spec : {M : Type 1} → statement M
