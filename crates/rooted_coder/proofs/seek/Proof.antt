@@ -31,10 +31,14 @@ top w = w .before .before .before
 abbrev measured : tie.After-compare Inv-loop μ-loop → tie.After-wide Inv-loop μ-loop
 measured u = u .before .before .before
 
+-- a part is left
+inside : (w : tie.After-wide Inv-loop μ-loop) → top w .loop .x < start (top w) .args .m
+inside w = w .before .before .loop-test .taken
+
 -- the next part is within the parts
 fitting : (w : tie.After-wide Inv-loop μ-loop) → (1 ≤ w .wide .result) × (top w .loop .x + w .wide .result ≤ start (top w) .args .m)
 fitting w =
-    let g = fits (start (top w) .pre .0) (top w .loop .inv) (w .before .before .loop-test .taken) in
+    let g = fits (start (top w) .pre .0) (top w .loop .inv) (inside w) in
     (omega (arith, g .0, w .wide .ensures .0), omega (arith, g .1, w .wide .ensures .0))
 
 -- the marks of the next part, and of the part that is to be placed
@@ -77,26 +81,26 @@ module _ (u : tie.After-compare Inv-loop μ-loop) {o : Order} (e : u .compare .r
   onward-first f g =
       let w = measured u in
       let l = top w in
-      first (start l .pre .0) (l .loop .inv) (w .before .before .loop-test .taken) (w .wide .ensures .0) few pairs (was-denied (told-falls (next u) (placed u) told) f) g
+      first (start l .pre .0) (l .loop .inv) (inside w) (w .wide .ensures .0) few pairs (was-denied (told-falls (next u) (placed u) told) f) g
 
   onward-behind : (top (measured u) .loop .at ≡ start (top (measured u)) .args .m → ⊥) → Onward (top (measured u) .loop .at)
   onward-behind g =
       let w = measured u in
       let l = top w in
-      behind (start l .pre .0) (l .loop .inv) (w .before .before .loop-test .taken) (w .wide .ensures .0) few pairs g
+      behind (start l .pre .0) (l .loop .inv) (inside w) (w .wide .ensures .0) few pairs g
 
   onward-past : falls? o ≡ true → Onward (top (measured u) .loop .at)
   onward-past f =
       let w = measured u in
       let l = top w in
-      past (start l .pre .0) (l .loop .inv) (w .before .before .loop-test .taken) (w .wide .ensures .0) few pairs (was-held (told-falls (next u) (placed u) told) f)
+      past (start l .pre .0) (l .loop .inv) (inside w) (w .wide .ensures .0) few pairs (was-held (told-falls (next u) (placed u) told) f)
 
 -- fewer parts are left
 shrinks : (u : tie.After-compare Inv-loop μ-loop)
     → let w = measured u in
     let m = start (top w) .args .m in
     m - (top w .loop .x + w .wide .result) < m - top w .loop .x
-shrinks u = let w = measured u in omega (arith, fitting w .0, w .before .before .loop-test .taken)
+shrinks u = let w = measured u in omega (arith, fitting w .0, inside w)
 
 pub seek-spec : {M : Type 1} → statement M
 seek-spec =
