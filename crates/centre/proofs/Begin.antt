@@ -12,8 +12,8 @@ use Rattle.limits.specs.Width.{width}
 use Rattle.skeleton.specs.document.Skeleton.{arcs, neighbours, degree, Degrees}
 use Rattle.skeleton.specs.Walks.{turn, arc-end}
 use Rattle.skeleton.specs.Arcs.{near-arc, arc-near, neighbours-once}
-use Rattle.edge_list.specs.Table.{IsTable, Held}
-use Rattle.centre.specs.Peeling.{deg, row, Stays, Copy, Leaves}
+use Rattle.edge_list.specs.Table.{IsTable, Held, deg}
+use Rattle.centre.specs.Peeling.{row, Stays, Copy, Leaves}
 
 -- ---- a row and its neighbours
 

@@ -10,7 +10,8 @@ use lib.Seq.{take-suc-set, length-take-le}
 use Rattle.limits.specs.document.Limits.{size}
 use Rattle.laws.specs.Once.{once-perm, fits, upTo, upTo-length, upTo-in}
 use Rattle.laws.specs.document.Once.{Once}
-use Rattle.centre.specs.Peeling.{deg, Queue, Leaves}
+use Rattle.edge_list.specs.Table.{deg}
+use Rattle.centre.specs.Peeling.{Queue, Leaves}
 use Rattle.centre.proofs.Rows.{last-first}
 
 -- w put behind the first b of q

@@ -16,8 +16,8 @@ use Rattle.skeleton.specs.document.Skeleton.{arcs, IsTree}
 use Rattle.longest_path.specs.document.Path.{IsCentre}
 use Rattle.longest_path.specs.Peel.{Two, Peels, Left, start, round}
 use Rattle.longest_path.specs.Centre.{done}
-use Rattle.edge_list.specs.Table.{IsTable, Held}
-use Rattle.centre.specs.Peeling.{deg, row, Stays, Copy, Sifted, Ready, Round, Peelable, Leaves}
+use Rattle.edge_list.specs.Table.{IsTable, Held, deg}
+use Rattle.centre.specs.Peeling.{row, Stays, Copy, Sifted, Ready, Round, Peelable, Leaves}
 use Rattle.centre.proofs.Waiting.{take-in, drop-in, waits, first-in, single}
 use Rattle.centre.proofs.Rows.{take-some}
 use Rattle.centre.proofs.Inward.{toward, leafless}

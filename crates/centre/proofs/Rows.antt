@@ -11,8 +11,8 @@ use lib.Seq.{take-suc, split-at, set-split, getD-set-same, getD-set-other, take-
 use Rattle.limits.specs.document.Limits.{size}
 use Rattle.limits.specs.Width.{width}
 use Rattle.laws.specs.Part.{part, part-cons}
-use Rattle.edge_list.specs.Table.{Shaped}
-use Rattle.centre.specs.Peeling.{deg, Without, Linked, Unlinked}
+use Rattle.edge_list.specs.Table.{Shaped, deg}
+use Rattle.centre.specs.Peeling.{Without, Linked, Unlinked}
 
 -- the last goes to the front
 pub last-first : (l : List ℕ) (x : ℕ) → List·Permᴰ (l ++ (x ∷ [])) (x ∷ l)

@@ -13,7 +13,8 @@ use Rattle.limits.specs.document.Limits.{size}
 use Rattle.laws.specs.Perms.{perm-in}
 use Rattle.laws.specs.Once.{once-perm}
 use Rattle.laws.specs.document.Once.{Once}
-use Rattle.centre.specs.Peeling.{deg, row, Stays, Queue, Copy, Ready, Round, Linked, Unlinked, Pushed}
+use Rattle.edge_list.specs.Table.{deg}
+use Rattle.centre.specs.Peeling.{row, Stays, Queue, Copy, Ready, Round, Linked, Unlinked, Pushed}
 use Rattle.centre.proofs.Waiting.{drop-in, long, waiting, waits, first-waits, first-in, single}
 use Rattle.centre.proofs.Listed.{old-pushed, new-pushed, room, pushed}
 

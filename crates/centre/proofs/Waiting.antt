@@ -8,7 +8,8 @@ use lib.Seq.{take-suc, take-take, length-take-le, drop-cons, getD-take}
 use Rattle.limits.specs.document.Limits.{size}
 use Rattle.laws.specs.Once.{once-left, once-apart}
 use Rattle.laws.specs.document.Once.{Once}
-use Rattle.centre.specs.Peeling.{deg, row, Stays, Copy}
+use Rattle.edge_list.specs.Table.{deg}
+use Rattle.centre.specs.Peeling.{row, Stays, Copy}
 
 pub drop-in : {v : ℕ} (n : ℕ) (l : List ℕ) → List·Memᴰ v (drop n l) → List·Memᴰ v l
 drop-in n l m = rw take-append-drop at (Memᴰ·append-right (take n l) m)

@@ -9,12 +9,9 @@ use lib.ListN.{length, getD, take, drop, set}
 use Rattle.laws.specs.document.Once.{Once}
 use Rattle.limits.specs.document.Limits.{size}
 use Rattle.limits.specs.Width.{width}
-use Rattle.edge_list.specs.Table.{Shaped}
+use Rattle.edge_list.specs.Table.{Shaped, deg}
 
--- the degree of v in a table, and its neighbours
-abbrev pub deg : List ℕ → ℕ → ℕ
-deg d v = getD d (v - 1) 0
-
+-- the neighbours of v in a table
 abbrev pub row : List (List ℕ) → List ℕ → ℕ → List ℕ
 row t d v = take (deg d v) (getD t (v - 1) [])
 

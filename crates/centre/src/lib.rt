@@ -2,6 +2,7 @@
 //
 // The copy holds what is left. A list of vertices has those that are off, in front, and behind them the leaves of what is left: a round
 // takes off just these, and each vertex that it makes a leaf goes to the end of the list. So no vertex is looked at twice as a leaf.
+use edge_list::wide;
 use limits::SIZE;
 use limits::WIDTH;
 ghost use mathlib.Core.Path.{_≡_};
@@ -19,12 +20,6 @@ ghost use Rattle.centre.specs.Peeling.{Copy, Round, Peelable, Without, L
 pub struct Middles {
     pub first: usize,
     pub second: usize,
-}
-
-fn wide(x: u8) -> usize
-    ensures { λ r. ⌜ (r ≡ x) × (r < 256) ⌝ }
-{
-    x as usize
 }
 
 // The row without v, which is one of its first m: the last of these takes its place.

@@ -20,7 +20,7 @@ use Rattle.skeleton.specs.Base.{base}
 use Rattle.form.specs.document.Form.{centred, row14-form, formRows}
 use Rattle.form.specs.Labelled.{centredₗ, Own, row14ₗ}
 use Rattle.centred_check.specs.Middle.{Middle}
-use Rattle.centred_check.specs.Race.{Tells, was-held, was-denied}
+use Rattle.laws.specs.Tells.{Tells, was-held, was-denied}
 use Rattle.centred_check.specs.Theorems.{rooted-centredₗ, own-base}
 
 -- by what the test told of a right code

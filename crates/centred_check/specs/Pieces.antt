@@ -3,36 +3,42 @@ use mathlib.Core.Path.{_≡_, refl, sym, ap, _∙_, subst}
 use mathlib.Core.Logic.{inl, inr, ⊎-elim}
 use mathlib.Core.Bool.{Bool, true, false}
 use mathlib.Core.List.{List, [], _∷_, _++_}
-use Prim.Native.Nat.{ℕ, _-_, _≤_, _<_}
+use Prim.Native.Nat.{ℕ, _+_, _-_, _≤_, _<_}
 use native.Mathlib.Omega.{arith}
 use lib.ListN.{length, take, drop, length-drop}
-use lib.Seq.{take-all}
+use lib.Seq.{take-all, length-take-le}
 use lib.Dec.{ltb}
 use Rattle.laws.specs.document.Order.{_≽_}
-use Rattle.laws.specs.Sorting.{refl≽, below≽}
-use Rattle.laws.specs.Part.{part}
+use Rattle.laws.specs.Tells.{Tells, holds, denies, was-held}
+use Rattle.laws.specs.Part.{part, part-length}
 use Rattle.digit_code.specs.declared.Order.{Order}
 use Rattle.digit_code.specs.declared.Order.the-variants.{Less, Equal, Greater}
-use Rattle.digit_code.specs.Compare.{pick, lex, Compares, less, equal, greater, lex-says, Falls, falling, rising}
+use Rattle.digit_code.specs.Compare.{pick, further, lex, pairsOf, looked-few, Compares, less, greater, lex-says, told-same, told-pairs}
+use Rattle.digit_code.specs.Comparing.{further-none, further-more}
 
 -- the second answer where the first is that both are equal
 abbrev pub andThen : Order → Order → Order
-andThen Less o = Less
-andThen Equal o = o
-andThen Greater o = Greater
+andThen (Less n) o = Less n
+andThen (Equal n) o = further n o
+andThen (Greater n) o = Greater n
 
-then-pick : (a b : Bool) (o p : Order) → andThen (pick a Less (pick b Greater o)) p ≡ pick a Less (pick b Greater (andThen o p))
+then-further : (o p : Order) → andThen (further 1 o) p ≡ further 1 (andThen o p)
+then-further (Less n) p = refl
+then-further (Equal n) p = sym (further-more 1 n p)
+then-further (Greater n) p = refl
+
+then-pick : (a b : Bool) (o p : Order) → andThen (pick a (Less 1) (pick b (Greater 1) (further 1 o))) p ≡ pick a (Less 1) (pick b (Greater 1) (further 1 (andThen o p)))
 then-pick true b o p = refl
 then-pick false true o p = refl
-then-pick false false o p = refl
+then-pick false false o p = then-further o p
 
 -- u against a and w behind it
 pub lex-behind : (u a w : List ℕ) → length a ≤ length u → lex u (a ++ w) ≡ andThen (lex (take (length a) u) a) (lex (drop (length a) u) w)
 unfolding lex
-lex-behind u [] w h = refl
+lex-behind u [] w h = further-none (lex u w)
 lex-behind [] (y ∷ a) w h = let z : ⊥ = omega arith in absurd z
 lex-behind (x ∷ u) (y ∷ a) w h =
-    ap (λ o. pick (ltb x y) Less (pick (ltb y x) Greater o)) (lex-behind u a w (omega arith))
+    ap (λ o. pick (ltb x y) (Less 1) (pick (ltb y x) (Greater 1) (further 1 o))) (lex-behind u a w (omega arith))
     ∙ sym (then-pick (ltb x y) (ltb y x) (lex (take (length a) u) a) (lex (drop (length a) u) w))
 
 -- where u is over first, w is not looked at
@@ -40,7 +46,7 @@ pub lex-short : (u a w : List ℕ) → length u < length a → lex u (a ++ w) �
 unfolding lex
 lex-short u [] w h = let z : ⊥ = omega arith in absurd z
 lex-short [] (y ∷ a) w h = refl
-lex-short (x ∷ u) (y ∷ a) w h = ap (λ o. pick (ltb x y) Less (pick (ltb y x) Greater o)) (lex-short u a w (omega arith))
+lex-short (x ∷ u) (y ∷ a) w h = ap (λ o. pick (ltb x y) (Less 1) (pick (ltb y x) (Greater 1) (further 1 o))) (lex-short u a w (omega arith))
 
 -- a part up to the end
 pub part-rest : (n : ℕ) (l : List ℕ) → part n (length l) l ≡ drop n l
@@ -48,53 +54,40 @@ part-rest n l = take-all (length l - n) (drop n l) (omega (arith, length-drop n 
 
 -- u against a and w behind it, by the answer about a
 module _ (u a w : List ℕ) (h : length a ≤ length u) where
-  pub two-less : lex (take (length a) u) a ≡ Less → Less ≡ lex u (a ++ w)
-  two-less e = sym (lex-behind u a w h ∙ ap (λ o. andThen o (lex (drop (length a) u) w)) e)
+  by-first : {o : Order} → lex (take (length a) u) a ≡ o → andThen o (lex (drop (length a) u) w) ≡ lex u (a ++ w)
+  by-first e = ap (λ o. andThen o (lex (drop (length a) u) w)) (sym e) ∙ sym (lex-behind u a w h)
 
-  pub two-greater : lex (take (length a) u) a ≡ Greater → Greater ≡ lex u (a ++ w)
-  two-greater e = sym (lex-behind u a w h ∙ ap (λ o. andThen o (lex (drop (length a) u) w)) e)
+  pub two-less : {n : ℕ} → lex (take (length a) u) a ≡ Less n → Less n ≡ lex u (a ++ w)
+  two-less e = by-first e
 
-  pub two-equal : {o : Order} → lex (take (length a) u) a ≡ Equal → o ≡ lex (part (length a) (length u) u) w → o ≡ lex u (a ++ w)
-  two-equal e f =
-      f ∙ ap (λ (l : List ℕ). lex l w) (part-rest (length a) u) ∙ sym (lex-behind u a w h ∙ ap (λ o. andThen o (lex (drop (length a) u) w)) e)
+  pub two-greater : {n : ℕ} → lex (take (length a) u) a ≡ Greater n → Greater n ≡ lex u (a ++ w)
+  two-greater e = by-first e
 
--- the answer of `lex` about two, asked the other way round
-rises-by : {a b : List ℕ} → Compares a b Greater → Falls b a false
-rises-by (greater g n) = rising n
+  module _ {n : ℕ} {o : Order} (e : lex (take (length a) u) a ≡ Equal n) (f : o ≡ lex (part (length a) (length u) u) w) where
+    pub two-equal : further n o ≡ lex u (a ++ w)
+    two-equal = ap (further n) (f ∙ ap (λ (l : List ℕ). lex l w) (part-rest (length a) u)) ∙ by-first e
 
-falls-by : {a b : List ℕ} → Compares a b Less → Falls b a true
-falls-by {a} {b} (less n) = falling (below≽ a b n)
-
-same-by : {a b : List ℕ} → Compares a b Equal → a ≡ b
-same-by (equal e) = e
-
-pub greater-rises : (a b : List ℕ) → lex a b ≡ Greater → Falls b a false
-greater-rises a b e = rises-by (subst (Compares a b) e (lex-says a b))
-
-pub less-falls : (a b : List ℕ) → lex a b ≡ Less → Falls b a true
-less-falls a b e = falls-by (subst (Compares a b) e (lex-says a b))
-
-pub same : (a b : List ℕ) → lex a b ≡ Equal → a ≡ b
-same a b e = same-by (subst (Compares a b) e (lex-says a b))
-
-pub same-falls : (a b : List ℕ) → lex a b ≡ Equal → Falls b a true
-same-falls a b e = falling (subst (λ (x : List ℕ). b ≽ x) (sym (same a b e)) (refl≽ b))
+    -- no more pairs than u has
+    pub two-few : n + pairsOf o ≤ length u
+    two-few =
+        let d = part (length a) (length u) u in
+        omega (arith, told-pairs (take (length a) u) a e, looked-few (take (length a) u) a, length-take-le (length a) u h, told-pairs d w (sym f), looked-few d w, part-length (length a) (length u) u (omega arith))
 
 -- by the first digit
 module _ (x y : ℕ) (xs ys : List ℕ) where
-  pub head-rises : x < y → Falls (x ∷ xs) (y ∷ ys) false
-  head-rises h = rising (λ g. ⊎-elim (λ l. let z : ⊥ = omega arith in z) (λ e. let z : ⊥ = omega (arith, e .0) in z) g)
+  pub head-rises : x < y → Tells ((x ∷ xs) ≽ (y ∷ ys)) false
+  head-rises h = denies (λ g. ⊎-elim (λ l. let z : ⊥ = omega arith in z) (λ e. let z : ⊥ = omega (arith, e .0) in z) g)
 
-  pub head-falls : y < x → Falls (x ∷ xs) (y ∷ ys) true
-  head-falls h = falling (inl h)
+  pub head-falls : y < x → Tells ((x ∷ xs) ≽ (y ∷ ys)) true
+  head-falls h = holds (inl h)
 
-  pub heads-same : {r : Bool} → x ≡ y → Falls xs ys r → Falls (x ∷ xs) (y ∷ ys) r
-  heads-same e (falling g) = falling (inr (e, g))
-  heads-same e (rising n) = rising (λ g. ⊎-elim (λ l. let z : ⊥ = omega arith in z) (λ h. n (h .1)) g)
+  pub heads-same : {r : Bool} → x ≡ y → Tells (xs ≽ ys) r → Tells ((x ∷ xs) ≽ (y ∷ ys)) r
+  heads-same e (holds g) = holds (inr (e, g))
+  heads-same e (denies n) = denies (λ g. ⊎-elim (λ l. let z : ⊥ = omega arith in z) (λ h. n (h .1)) g)
 
 -- by the first piece, where the two first pieces are equally long
 module _ (a b u w : List ℕ) (l : length a ≡ length b) where
-  pub piece-rises : lex a b ≡ Less → Falls (a ++ u) (b ++ w) false
+  pub piece-rises : {n : ℕ} → lex a b ≡ Less n → Tells ((a ++ u) ≽ (b ++ w)) false
   piece-rises e = fit a b l (subst (Compares a b) e (lex-says a b))
     where
       under : (a b : List ℕ) → length a ≡ length b → (a ++ u) ≽ (b ++ w) → a ≽ b
@@ -103,10 +96,10 @@ module _ (a b u w : List ℕ) (l : length a ≡ length b) where
       under (x ∷ a) (y ∷ b) l (inl h) = inl h
       under (x ∷ a) (y ∷ b) l (inr (h, g)) = inr (h, under a b (omega arith) g)
 
-      fit : (a b : List ℕ) → length a ≡ length b → Compares a b Less → Falls (a ++ u) (b ++ w) false
-      fit a b l (less n) = rising (λ g. n (under a b l g))
+      fit : (a b : List ℕ) {n : ℕ} → length a ≡ length b → Compares a b (Less n) → Tells ((a ++ u) ≽ (b ++ w)) false
+      fit a b l (less n) = denies (λ g. n (under a b l g))
 
-  pub piece-falls : lex a b ≡ Greater → Falls (a ++ u) (b ++ w) true
+  pub piece-falls : {n : ℕ} → lex a b ≡ Greater n → Tells ((a ++ u) ≽ (b ++ w)) true
   piece-falls e = fit a b l (subst (Compares a b) e (lex-says a b))
     where
       over : (a b : List ℕ) → length a ≡ length b → a ≽ b → (b ≽ a → ⊥) → (a ++ u) ≽ (b ++ w)
@@ -119,12 +112,12 @@ module _ (a b u w : List ℕ) (l : length a ≡ length b) where
       over (x ∷ a) (y ∷ b) l (inl h) n = inl h
       over (x ∷ a) (y ∷ b) l (inr (h, g)) n = inr (h, over a b (omega arith) g (λ k. n (inr (sym h, k))))
 
-      fit : (a b : List ℕ) → length a ≡ length b → Compares a b Greater → Falls (a ++ u) (b ++ w) true
-      fit a b l (greater g n) = falling (over a b l g n)
+      fit : (a b : List ℕ) {n : ℕ} → length a ≡ length b → Compares a b (Greater n) → Tells ((a ++ u) ≽ (b ++ w)) true
+      fit a b l (greater g n) = holds (over a b l g n)
 
-  pub pieces-same : {r : Bool} → lex a b ≡ Equal → Falls u w r → Falls (a ++ u) (b ++ w) r
-  pieces-same {r} e f = subst (λ (x : List ℕ). Falls (a ++ u) (x ++ w) r) (same a b e) (fit a f)
+  pub pieces-same : {n : ℕ} {r : Bool} → lex a b ≡ Equal n → Tells (u ≽ w) r → Tells ((a ++ u) ≽ (b ++ w)) r
+  pieces-same {r = r} e f = subst (λ (x : List ℕ). Tells ((a ++ u) ≽ (x ++ w)) r) (was-held (told-same a b e) refl) (fit a f)
     where
-      fit : (a : List ℕ) → Falls u w r → Falls (a ++ u) (a ++ w) r
+      fit : (a : List ℕ) → Tells (u ≽ w) r → Tells ((a ++ u) ≽ (a ++ w)) r
       fit [] f = f
       fit (x ∷ a) f = heads-same x x (a ++ u) (a ++ w) refl (fit a f)

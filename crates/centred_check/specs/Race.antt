@@ -2,32 +2,20 @@
 -- Assumes nothing.
 use mathlib.Core.Path.{_≡_, refl, sym, ap, _∙_}
 use mathlib.Core.Logic.{inl, inr, ⊎-elim, ite}
-use mathlib.Core.Bool.{Bool, true, false, true≢false, false≢true}
+use mathlib.Core.Bool.{Bool, true, false}
 use mathlib.Core.List.{List, [], _∷_}
 use Prim.Native.Nat.{ℕ, suc, max, _+_, _-_, _≤_, _<_}
 use native.Mathlib.Decide.{decLt}
 use native.Mathlib.Omega.{arith}
 use lib.ListN.{length, getD, drop}
 use lib.Seq.{drop-cons, drop-length}
+use Rattle.laws.specs.document.Order.{_≽_}
+use Rattle.laws.specs.Tells.{Tells, holds, denies}
 use Rattle.digit_code.specs.document.Code.{codes}
-use Rattle.digit_code.specs.Compare.{Falls, falling, rising}
 use Rattle.skeleton.specs.Label.{Marks}
 use Rattle.centred_check.specs.Middle.{top, peak, second, tops, branch, turned, other, Middle}
 use Rattle.centred_check.specs.Stack.{heights-length, Branches}
 use Rattle.centred_check.specs.Lift.{second-below, peak-here, peak-past, second-here, second-past}
-
--- r says whether P holds
-pub data Tells (P : Type 0) : Bool → Type 0 where
-  holds : P → Tells P true
-  denies : (P → ⊥) → Tells P false
-
-pub was-held : {P : Type 0} {r : Bool} → Tells P r → r ≡ true → P
-was-held (holds p) e = p
-was-held (denies n) e = absurd (false≢true e)
-
-pub was-denied : {P : Type 0} {r : Bool} → Tells P r → r ≡ false → P → ⊥
-was-denied (holds p) e q = true≢false e
-was-denied (denies n) e q = n q
 
 -- from place j on: the tallest, the tallest of the others, and where the first tallest stands
 pub record Race (hs : List ℕ) (from j first next at : ℕ) : Type 0 where
@@ -141,10 +129,10 @@ module _ {M : Marks} {c hs : List ℕ} {from j first next at : ℕ} (r : Race hs
         omega (arith, race-place, peak-inside (tops M c) s, heights-length (M .arity) (drop 1 c))
 
     -- one taller: the codes decide
-    pub race-close : {b : Bool} → first ≡ next + 1 → Falls c (turned M c (branch M c (at - from)) (branch M c (suc (at - from)))) b → Tells (Middle M c) b
+    pub race-close : {b : Bool} → first ≡ next + 1 → Tells (c ≽ turned M c (branch M c (at - from)) (branch M c (suc (at - from)))) b → Tells (Middle M c) b
     unfolding other
     race-close e f = decide (rw race-place at f)
       where
-        decide : {b : Bool} → Falls c (turned M c (branch M c (peak (tops M c))) (branch M c (suc (peak (tops M c))))) b → Tells (Middle M c) b
-        decide (falling g) = holds (inr (omega (arith, first-is, second-is), g))
-        decide (rising k) = denies (λ x. ⊎-elim (λ q. n (omega (arith, first-is, second-is))) (λ q. k (q .1)) x)
+        decide : {b : Bool} → Tells (c ≽ turned M c (branch M c (peak (tops M c))) (branch M c (suc (peak (tops M c))))) b → Tells (Middle M c) b
+        decide (holds g) = holds (inr (omega (arith, first-is, second-is), g))
+        decide (denies k) = denies (λ x. ⊎-elim (λ q. n (omega (arith, first-is, second-is))) (λ q. k (q .1)) x)

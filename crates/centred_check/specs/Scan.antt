@@ -20,7 +20,7 @@ use Rattle.skeleton.specs.Label.{Marks}
 use Rattle.centred_check.specs.Skip.{root-codes}
 use Rattle.centred_check.specs.Stack.{Stacked, Branches, stack-start, stack-room, stack-next}
 use Rattle.centred_check.specs.Placed.{Placed, Joins, placed-start, placed-first, placed-next}
-use Rattle.centred_check.specs.Race.{Tells, holds, denies}
+use Rattle.laws.specs.Tells.{Tells, holds, denies}
 
 -- mark i and those behind it are read
 pub record Scan (M : Marks) (limit : ℕ → ℕ) (c hs st : List ℕ) (i at : ℕ) : Type 0 where

@@ -7,9 +7,13 @@ use limits::SIZE;
 use refusal::Check;
 ghost use mathlib.Core.Path.{_≡_};
 ghost use mathlib.Core.List.{[], _∷_, _++_};
-ghost use Prim.Native.Nat.{suc, _-_, _≤_, _<_};
+ghost use Prim.Native.Nat.{suc, _+_, _-_, _≤_, _<_};
 ghost use lib.ListN.{length, getD, drop};
+ghost use mir.Syntax.{w64};
+ghost use mir.Val.{Fits};
+ghost use Rattle.laws.specs.document.Order.{_≽_};
 ghost use Rattle.laws.specs.Part.{part};
+ghost use Rattle.laws.specs.Tells.{Tells};
 ghost use Rattle.refusal.specs.document.Table.{Clear};
 ghost use Rattle.refusal.specs.Checks.{Answers};
 ghost use Rattle.limits.specs.document.Limits.{size};
@@ -18,7 +22,7 @@ ghost use Rattle.digit_code.specs.Digits.{digits};
 ghost use Rattle.digit_code.specs.Ends.{Ends};
 ghost use Rattle.digit_code.specs.Ordered.{Ordered};
 ghost use Rattle.digit_code.specs.Right.{Rightₗ};
-ghost use Rattle.digit_code.specs.Compare.{lex, Falls};
+ghost use Rattle.digit_code.specs.Compare.{lex, pairsOf, further};
 ghost use Rattle.form.specs.document.Form.{centred, row14-form, formRows};
 ghost use Rattle.form.specs.Labelled.{centredₗ, row14ₗ};
 ghost use Rattle.centred_check.specs.Kinds.{kinds, limits, unit};
@@ -27,7 +31,6 @@ ghost use Rattle.centred_check.specs.Skip.{Skips};
 ghost use Rattle.centred_check.specs.Stack.{Branches};
 ghost use Rattle.centred_check.specs.Placed.{Placed, Joins};
 ghost use Rattle.centred_check.specs.Scan.{Scan, Scanned};
-ghost use Rattle.centred_check.specs.Race.{Tells};
 ghost use Rattle.centred_check.specs.Spot.{Spot};
 
 // Places for where the trees on the stack begin, one for each, and one more for where the digits end. No place of the stack has this number.
@@ -73,7 +76,7 @@ fn falls_at(code: &[u8], a: usize, b: usize, e: usize) -> bool
     requires { ⌜ a < b ⌝ }
     requires { ⌜ b < e ⌝ }
     requires { ⌜ e ≤ length (now code) ⌝ }
-    ensures { λ r. ⌜ Falls (part a b (now (code .entry))) (part b e (now (code .entry))) r ⌝ }
+    ensures { λ r. ⌜ Tells (part a b (now (code .entry)) ≽ part b e (now (code .entry))) r ⌝ }
 {
     let x = code[a];
     let y = code[b];
@@ -187,6 +190,18 @@ fn scan(named: bool, limit: u8, ds: &[u8], code: &[u8], hs: &mut [u8], starts: &
     at
 }
 
+// The same answer, n pairs later.
+fn later(n: usize, o: Order) -> Order
+    requires { ⌜ Fits w64 (n + pairsOf o) ⌝ }
+    ensures { λ r. ⌜ r ≡ further n o ⌝ }
+{
+    match o {
+        Order::Less(k) => Order::Less(n + k),
+        Order::Equal(k) => Order::Equal(n + k),
+        Order::Greater(k) => Order::Greater(n + k),
+    }
+}
+
 // A code against one that lies in two parts.
 fn compare_two(u: &[u8], a: &[u8], b: &[u8]) -> Order
     ensures { λ r. ⌜ r ≡ lex (now (u .entry)) (now (a .entry) ++ now (b .entry)) ⌝ }
@@ -196,9 +211,9 @@ fn compare_two(u: &[u8], a: &[u8], b: &[u8]) -> Order
         return compare(u, a);
     }
     match compare(&u[..n], a) {
-        Order::Less => Order::Less,
-        Order::Equal => compare(&u[n..], b),
-        Order::Greater => Order::Greater,
+        Order::Less(k) => Order::Less(k),
+        Order::Equal(k) => later(k, compare(&u[n..], b)),
+        Order::Greater(k) => Order::Greater(k),
     }
 }
 
@@ -211,9 +226,9 @@ fn compare_three(u: &[u8], a: &[u8], b: &[u8], d: &[u8]) -> Order
         return compare(u, a);
     }
     match compare(&u[..n], a) {
-        Order::Less => Order::Less,
-        Order::Equal => compare_two(&u[n..], b, d),
-        Order::Greater => Order::Greater,
+        Order::Less(k) => Order::Less(k),
+        Order::Equal(k) => later(k, compare_two(&u[n..], b, d)),
+        Order::Greater(k) => Order::Greater(k),
     }
 }
 
@@ -225,7 +240,7 @@ fn covers(named: bool, code: &[u8], x: usize, e: usize, y: usize, z: usize) -> b
     requires { ⌜ z ≤ length (now code) ⌝ }
     requires { ⌜ e ≤ length (now code) ⌝ }
     requires { ⌜ 1 ≤ kinds named .arity (getD (now code) 0 0) ⌝ }
-    ensures { λ r. ⌜ Falls (rest (kinds named) (now (code .entry)) x e) (part y z (now (code .entry))) r ⌝ }
+    ensures { λ r. ⌜ Tells (rest (kinds named) (now (code .entry)) x e ≽ part y z (now (code .entry))) r ⌝ }
 {
     let left = code[0] - step(named);
     let child = code[y];
@@ -236,9 +251,9 @@ fn covers(named: bool, code: &[u8], x: usize, e: usize, y: usize, z: usize) -> b
         return true;
     }
     match compare_two(&code[y + 1..z], &code[1..x], &code[e..]) {
-        Order::Less => true,
-        Order::Equal => true,
-        Order::Greater => false,
+        Order::Less(_) => true,
+        Order::Equal(_) => true,
+        Order::Greater(_) => false,
     }
 }
 
@@ -273,7 +288,7 @@ fn over_rest(named: bool, code: &[u8], x: usize, y: usize, e: usize) -> bool
     requires { ⌜ y ≤ e ⌝ }
     requires { ⌜ e ≤ length (now code) ⌝ }
     requires { ⌜ 1 ≤ kinds named .arity (getD (now code) 0 0) ⌝ }
-    ensures { λ r. ⌜ Falls (drop (y - x) (now (code .entry))) (rest (kinds named) (now (code .entry)) x e ++ part y e (now (code .entry))) r ⌝ }
+    ensures { λ r. ⌜ Tells (drop (y - x) (now (code .entry)) ≽ (rest (kinds named) (now (code .entry)) x e ++ part y e (now (code .entry)))) r ⌝ }
 {
     let left = code[0] - step(named);
     let here = code[y - x];
@@ -284,9 +299,9 @@ fn over_rest(named: bool, code: &[u8], x: usize, y: usize, e: usize) -> bool
         return true;
     }
     match compare_three(&code[y - x + 1..], &code[1..x], &code[e..], &code[y..e]) {
-        Order::Less => false,
-        Order::Equal => true,
-        Order::Greater => true,
+        Order::Less(_) => false,
+        Order::Equal(_) => true,
+        Order::Greater(_) => true,
     }
 }
 
@@ -297,12 +312,12 @@ fn over(named: bool, code: &[u8], x: usize, y: usize, e: usize) -> bool
     requires { ⌜ y ≤ e ⌝ }
     requires { ⌜ e ≤ length (now code) ⌝ }
     requires { ⌜ 1 ≤ kinds named .arity (getD (now code) 0 0) ⌝ }
-    ensures { λ r. ⌜ Falls (drop 1 (now (code .entry))) (part (suc x) y (now (code .entry)) ++ (rest (kinds named) (now (code .entry)) x e ++ part y e (now (code .entry)))) r ⌝ }
+    ensures { λ r. ⌜ Tells (drop 1 (now (code .entry)) ≽ (part (suc x) y (now (code .entry)) ++ (rest (kinds named) (now (code .entry)) x e ++ part y e (now (code .entry))))) r ⌝ }
 {
     match compare(&code[1..y - x], &code[x + 1..y]) {
-        Order::Less => false,
-        Order::Equal => over_rest(named, code, x, y, e),
-        Order::Greater => true,
+        Order::Less(_) => false,
+        Order::Equal(_) => over_rest(named, code, x, y, e),
+        Order::Greater(_) => true,
     }
 }
 
@@ -311,7 +326,7 @@ fn above(named: bool, ds: &[u8], code: &[u8], p: usize) -> bool
     requires { ⌜ now ds ≡ digits (kinds named .arity) (now code) ⌝ }
     requires { ⌜ Ends 1 (now ds) ⌝ }
     requires { ⌜ p < length (codes (kinds named .arity) (drop 1 (now code))) ⌝ }
-    ensures { λ r. ⌜ Falls (now (code .entry)) (turned (kinds named) (now (code .entry)) (branch (kinds named) (now (code .entry)) p) (branch (kinds named) (now (code .entry)) (suc p))) r ⌝ }
+    ensures { λ r. ⌜ Tells (now (code .entry) ≽ turned (kinds named) (now (code .entry)) (branch (kinds named) (now (code .entry)) p) (branch (kinds named) (now (code .entry)) (suc p))) r ⌝ }
 {
     let x = skip(ds, 1, p);
     let left = code[0] - step(named);

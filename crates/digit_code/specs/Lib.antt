@@ -10,6 +10,7 @@ pub mod Two
 pub mod Stack
 pub mod Right
 pub mod Compare
+pub mod Comparing
 pub mod Examples
 pub mod document
 pub mod Digits

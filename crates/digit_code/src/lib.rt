@@ -7,56 +7,58 @@ ghost use Prim.Native.Nat.{suc, _+_, _≤_, _<_};
 ghost use lib.ListN.{length};
 ghost use Rattle.refusal.specs.Checks.{Answers};
 ghost use Rattle.laws.specs.document.Laid.{Laid};
+ghost use Rattle.laws.specs.document.Order.{_≽_};
+ghost use Rattle.laws.specs.Tells.{Tells};
 ghost use Rattle.limits.specs.document.Limits.{size};
 ghost use Rattle.digit_code.specs.document.Code.{plain, cap, row10, row11, row12, row13, codeRows, decode};
 ghost use Rattle.digit_code.specs.Digits.{digits};
 ghost use Rattle.digit_code.specs.Ends.{Ends};
 ghost use Rattle.digit_code.specs.Parts.{Ending};
 ghost use Rattle.digit_code.specs.Stack.{Pushed};
-ghost use Rattle.digit_code.specs.Compare.{lex, Falls};
+ghost use Rattle.digit_code.specs.Compare.{lex};
 ghost use Rattle.digit_code.specs.Search.{Known, FirstOf, Lower};
 ghost use Rattle.digit_code.specs.Two.{arityOf};
 
-// How one code stands to another in the dictionary.
+// How one code stands to another in the dictionary, and how many pairs of digits were looked at to tell.
 pub enum Order {
-    Less,
-    Equal,
-    Greater,
+    Less(usize),
+    Equal(usize),
+    Greater(usize),
 }
 
-// Two codes, each where it stands: parts of a code buffer that may start in its middle.
+// Two codes, each where it stands: parts of a code buffer that may start in its middle. They are compared up to the first pair that differs.
 pub fn compare(a: &[u8], b: &[u8]) -> Order
     ensures { λ r. ⌜ r ≡ lex (now (a .entry)) (now (b .entry)) ⌝ }
 {
     let mut i = 0;
     while i < a.len() {
         if b.len() <= i {
-            return Order::Greater;
+            return Order::Greater(i);
         }
         let x = a[i];
         let y = b[i];
         if x < y {
-            return Order::Less;
+            return Order::Less(i + 1);
         }
         if y < x {
-            return Order::Greater;
+            return Order::Greater(i + 1);
         }
         i += 1;
     }
     if i < b.len() {
-        return Order::Less;
+        return Order::Less(i);
     }
-    Order::Equal
+    Order::Equal(i)
 }
 
 // Whether a stands at or after b in the dictionary.
 pub fn falls(a: &[u8], b: &[u8]) -> bool
-    ensures { λ r. ⌜ Falls (now (a .entry)) (now (b .entry)) r ⌝ }
+    ensures { λ r. ⌜ Tells (now (a .entry) ≽ now (b .entry)) r ⌝ }
 {
     match compare(a, b) {
-        Order::Less => false,
-        Order::Equal => true,
-        Order::Greater => true,
+        Order::Less(_) => false,
+        Order::Equal(_) => true,
+        Order::Greater(_) => true,
     }
 }
 

@@ -6,20 +6,22 @@ use Prim.Native.Nat.{ℕ, _≤_, _<_}
 use native.Mathlib.Omega.{arith}
 use lib.Dec.{eqb, ltb, leb}
 use borrow.Author.Tests.{eqb-true, eqb-false, ltb-true, ltb-false, leb-true, leb-false}
-use Rattle.edge_list.specs.Parts.{Tells}
+use Rattle.laws.specs.Tells.{Tells, holds, denies, tells}
 
 pub tells-eq : (a b : ℕ) → Tells (a ≡ b) (eqb a b)
-tells-eq a b = record { right = eqb-true a b; wrong = eqb-false a b }
+tells-eq a b = tells (eqb a b) (eqb-true a b) (eqb-false a b)
 
 pub tells-lt : (a b : ℕ) → Tells (a < b) (ltb a b)
-tells-lt a b = record { right = ltb-true a b; wrong = λ e l. let h = ltb-false a b e in let n : ⊥ = omega arith in n }
+tells-lt a b = tells (ltb a b) (ltb-true a b) (λ e l. let h = ltb-false a b e in let n : ⊥ = omega arith in n)
 
 pub tells-le : (a b : ℕ) → Tells (a ≤ b) (leb a b)
-tells-le a b = record { right = leb-true a b; wrong = λ e l. let h = leb-false a b e in let n : ⊥ = omega arith in n }
+tells-le a b = tells (leb a b) (leb-true a b) (λ e l. let h = leb-false a b e in let n : ⊥ = omega arith in n)
 
 -- `p || q` is p where p holds, and q where it does not
 pub by-first : {P Q : Type 0} {r : Bool} → P → Tells P r → Tells (P ⊎ Q) r
-by-first p t = record { right = λ e. inl p; wrong = λ e o. t .wrong e p }
+by-first p (holds q) = holds (inl p)
+by-first p (denies n) = absurd (n p)
 
 pub by-second : {P Q : Type 0} {r : Bool} → (P → ⊥) → Tells Q r → Tells (P ⊎ Q) r
-by-second n t = record { right = λ e. inr (t .right e); wrong = λ e o. ⊎-elim n (t .wrong e) o }
+by-second n (holds q) = holds (inr q)
+by-second n (denies m) = denies (⊎-elim n m)

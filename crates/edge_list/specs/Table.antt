@@ -17,10 +17,14 @@ pub record Shaped (t : List (List ℕ)) (d : List ℕ) : Type 0 where
   pub wide : (i : ℕ) → i < size → length (getD t i []) ≡ width
   pub degs : length d ≡ size
 
+-- the number of v's neighbours, by the table
+abbrev pub deg : List ℕ → ℕ → ℕ
+deg d v = getD d (v - 1) 0
+
 -- Row v - 1 holds the neighbours of vertex v in the order of the edges, and d their number. All else is 0.
 pub record IsTable (N : ℕ) (E : List ℕ) (t : List (List ℕ)) (d : List ℕ) : Type 0 where
   pub shaped : Shaped t d
-  pub degs : (v : ℕ) → 1 ≤ v → v ≤ N → getD d (v - 1) 0 ≡ degree E v
+  pub degs : (v : ℕ) → 1 ≤ v → v ≤ N → deg d v ≡ degree E v
   pub row : (v j : ℕ) → 1 ≤ v → v ≤ N → j < degree E v → getD (getD t (v - 1) []) j 0 ≡ getD (neighbours (arcs E) v) j 0
   pub none : (i : ℕ) → N ≤ i → i < size → getD d i 0 ≡ 0
   pub rest : (i j : ℕ) → i < size → getD d i 0 ≤ j → j < width → getD (getD t i []) j 0 ≡ 0

@@ -9,6 +9,7 @@ ghost use mathlib.Core.Logic.{_⊎_};
 ghost use mathlib.Core.List.{[], _∷_};
 ghost use Prim.Native.Nat.{_≤_, _<_};
 ghost use lib.ListN.{length};
+ghost use Rattle.laws.specs.Tells.{Tells};
 ghost use Rattle.refusal.specs.document.Table.{Outside, row3};
 ghost use Rattle.refusal.specs.Checks.{Answers};
 ghost use Rattle.limits.specs.document.Limits.{size};
@@ -16,9 +17,10 @@ ghost use Rattle.limits.specs.Width.{width};
 ghost use Rattle.skeleton.specs.document.Skeleton.{IsSkeleton};
 ghost use Rattle.edge_list.specs.document.Edges.{Edge, firstEnd, secondEnd, row5-edges, row6, row7, row8, row9, edgeRows};
 ghost use Rattle.edge_list.specs.Table.{Shaped, IsTable};
-ghost use Rattle.edge_list.specs.Parts.{Tells, Parted, Links, Top, Room, Added};
+ghost use Rattle.edge_list.specs.Parts.{Parted, Links, Top, Room, Added};
 
-fn wide(x: u8) -> usize
+// A byte as a number that counts places.
+pub fn wide(x: u8) -> usize
     ensures { λ r. ⌜ (r ≡ x) × (r < 256) ⌝ }
 {
     x as usize

@@ -40,9 +40,9 @@ fn valued(answer: Number, value: &mut u64, place: &mut u64) -> u32 {
 #[no_mangle]
 pub extern "C" fn zk_compare(a: &[u8], b: &[u8]) -> u32 {
     match digit_code::compare(a, b) {
-        Order::Less => 0,
-        Order::Equal => 1,
-        Order::Greater => 2,
+        Order::Less(_) => 0,
+        Order::Equal(_) => 1,
+        Order::Greater(_) => 2,
     }
 }
 

@@ -169,9 +169,9 @@ fn judged(code: &[u8]) -> Check
     let m = digit_code::write_edges(code, &mut edges);
     n_tuple(n, &edges[..m], &mut own);
     match digit_code::compare(code, &own[..n]) {
-        Order::Less => Check::Refuse(14, 0),
-        Order::Equal => Check::Passed,
-        Order::Greater => Check::Refuse(14, 0),
+        Order::Less(_) => Check::Refuse(14, 0),
+        Order::Equal(_) => Check::Passed,
+        Order::Greater(_) => Check::Refuse(14, 0),
     }
 }
 

@@ -1,4 +1,4 @@
--- Laws of lists that more than one crate cites. Assumes nothing.
+-- Laws of lists, and of tests, that more than one crate cites. Assumes nothing.
 pub mod Sorting
 pub mod Laid
 pub mod Laying
@@ -7,4 +7,5 @@ pub mod Once
 pub mod Places
 pub mod Part
 pub mod Falling
+pub mod Tells
 pub mod document

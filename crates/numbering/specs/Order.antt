@@ -6,9 +6,9 @@
 use mathlib.Core.Logic.{ite}
 use mathlib.Core.List.{List, [], _∷_, map, flatten}
 use Prim.Native.Nat.{ℕ, zero, suc, _+_}
-use native.Mathlib.Decide.{ℕ-discrete}
 use Rattle.laws.specs.document.Order.{dec≽, sort}
 use Rattle.digit_code.specs.document.Code.{sum}
+use Rattle.digit_code.specs.Compare.{looked}
 
 -- c put before the first of ds whose key its own stands at or after
 unfoldable pub insertBy : (List ℕ → List ℕ) → List ℕ → List (List ℕ) → List (List ℕ)
@@ -25,13 +25,7 @@ unfoldable pub place : (List ℕ → List ℕ) → List ℕ → List (List ℕ) 
 place f c [] = c ∷ []
 place f c (d ∷ ds) = ite (dec≽ (f d) (f c)) (d ∷ place f c ds) (c ∷ d ∷ ds)
 
--- how many pairs are looked at when two lists are compared: up to and including the first difference, or to the end of the shorter
-unfoldable pub looked : List ℕ → List ℕ → ℕ
-looked [] ys = 0
-looked (x ∷ xs) [] = 0
-looked (x ∷ xs) (y ∷ ys) = suc (ite (ℕ-discrete x y) (looked xs ys) 0)
-
--- how many where every two of cs are compared once
+-- how many pairs are looked at where every two of cs are compared once
 unfoldable pub pairs : List (List ℕ) → ℕ
 pairs [] = 0
 pairs (c ∷ cs) = sum (map (looked c) cs) + pairs cs

@@ -11,9 +11,10 @@ use lib.ListN.{length, length-append}
 use Rattle.laws.specs.document.Order.{_≽_, dec≽, insert, sort}
 use Rattle.laws.specs.Sorting.{trans≽, below≽}
 use Rattle.digit_code.specs.document.Code.{sum}
+use Rattle.digit_code.specs.Compare.{looked}
 use Rattle.digit_code.specs.Counting.{sum-append}
 use Rattle.digit_code.specs.Two.{map-flatten}
-use Rattle.numbering.specs.Order.{insertBy, sortBy, place, looked, pairs, orderBy, marksBy}
+use Rattle.numbering.specs.Order.{insertBy, sortBy, place, pairs, orderBy, marksBy}
 
 pub flatten-length : (cs : List (List ℕ)) → length (flatten cs) ≡ sum (map length cs)
 unfolding flatten sum

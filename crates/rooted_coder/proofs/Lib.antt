@@ -1,5 +1,4 @@
 -- Laws that more than one proof of this crate cites. Assumes nothing.
-pub mod Comparing
 pub mod Copying
 pub mod Standing
 pub mod Spots

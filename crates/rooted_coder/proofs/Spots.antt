@@ -2,17 +2,18 @@
 -- is not smaller, the first that is, and the end. `Looking` is the loop's, of all parts that may stand there. Assumes nothing.
 use mathlib.Core.Path.{_≡_, refl, sym, ap, ap₂, subst, _∙_}
 use mathlib.Core.Logic.{_⊎_, inl, inr, ⊎-elim}
-use mathlib.Core.Bool.{Bool, true, false}
 use mathlib.Core.List.{List, [], _∷_, _++_, append-assoc, append-nil, flatten, map, map-append}
 use Prim.Native.Nat.{ℕ, _+_, _≤_, _<_}
 use native.Mathlib.Omega.{arith}
 use lib.ListN.{length, getD}
+use Rattle.laws.specs.document.Order.{_≽_}
 use Rattle.laws.specs.Part.{part}
 use Rattle.digit_code.specs.document.Code.{sum}
+use Rattle.digit_code.specs.Compare.{looked}
 use Rattle.digit_code.specs.Counting.{sum-append}
-use Rattle.numbering.specs.Order.{looked, place}
+use Rattle.numbering.specs.Order.{place}
 use Rattle.numbering.specs.Sorted.{place-here, place-past}
-use Rattle.rooted_coder.specs.Ordered.{Stands, Heads, Stand, Standing, Spot, met}
+use Rattle.rooted_coder.specs.Ordered.{Heads, Stand, Standing, Spot, met}
 use Rattle.rooted_coder.proofs.Standing.{length-one, length-both, length-first, First, first-of, empty, middle-part}
 
 met-more : (f : List ℕ → List ℕ) (c : List ℕ) (L : List (List ℕ)) (d : List ℕ) → met f c (L ++ (d ∷ [])) ≡ met f c L + looked (f d) (f c)
@@ -74,10 +75,7 @@ module _ {k : List ℕ → List ℕ} {s lens : List ℕ} {f m : ℕ} {c : List �
         middle-part p q (g .passed) (next .others) (next .first) x (x + getD lens x 0)
         (t .whole ∙ ap (λ l. p ++ (flatten l ++ q)) (g .parts ∙ ap (λ l. g .passed ++ l) (next .is))) (omega (arith, g .here, t .begins)) (omega (arith, heads-are .0))
 
-    module _ {less : Bool} {i : ℕ} (st : Stands (k (part x (x + getD lens x 0) s)) (k c) less i) where
-      one : Stands (k (next .first)) (k c) less i
-      one = subst (λ d. Stands (k d) (k c) less i) next-is st
-
+    module _ {i : ℕ} (st : i ≡ looked (k (part x (x + getD lens x 0) s)) (k c)) where
       -- it is passed
       on : {at' : ℕ} → ((at' ≡ m) × (place k c L ≡ (g .passed ++ (next .first ∷ [])) ++ place k c (next .others))) ⊎ ((at' < m) × Spot k f L c at')
           → Passed k lens f m c L (x + getD lens x 0) at' (n + i)
@@ -86,23 +84,23 @@ module _ {k : List ℕ → List ℕ} {s lens : List ℕ} {f m : ℕ} {c : List �
         rest = next .others;
         parts = g .parts ∙ ap (λ l. g .passed ++ l) (next .is) ∙ sym (append-assoc (g .passed) (next .first ∷ []) (next .others));
         here = omega (arith, g .here, length-one (g .passed) (next .first), heads-are .0);
-        count = ap₂ _+_ (g .count) (one .pairs) ∙ sym (met-more k c (g .passed) (next .first));
+        count = ap₂ _+_ (g .count) (st ∙ ap (λ d. looked (k d) (k c)) next-is) ∙ sym (met-more k c (g .passed) (next .first));
         heads = subst (λ j. Heads lens (x + j) (next .others)) (sym (heads-are .0)) (heads-are .2);
         found = w;
       }
 
-      not-smaller : less ≡ false → Passed k lens f m c L (x + getD lens x 0) at (n + i)
+      not-smaller : k (part x (x + getD lens x 0) s) ≽ k c → Passed k lens f m c L (x + getD lens x 0) at (n + i)
       not-smaller e =
           on (⊎-elim (λ w. inl (
             w .0,
             w .1
                 ∙ ap (λ l. g .passed ++ place k c l) (next .is)
-                ∙ ap (λ l. g .passed ++ l) (place-past k c (next .first) (next .others) (one .above e))
+                ∙ ap (λ l. g .passed ++ l) (place-past k c (next .first) (next .others) (subst (λ d. k d ≽ k c) next-is e))
                 ∙ sym (append-assoc (g .passed) (next .first ∷ []) (place k c (next .others))),
           )) inr (g .found))
 
       -- the first that is smaller
-      pub smaller : less ≡ true → at ≡ m → Passed k lens f m c L (x + getD lens x 0) x (n + i)
+      smaller : (k (part x (x + getD lens x 0) s) ≽ k c → ⊥) → at ≡ m → Passed k lens f m c L (x + getD lens x 0) x (n + i)
       smaller e j =
           on (⊎-elim (λ w. inr (
             h,
@@ -113,7 +111,7 @@ module _ {k : List ℕ → List ℕ} {s lens : List ℕ} {f m : ℕ} {c : List �
               sorted =
                   w .1
                   ∙ ap (λ l. g .passed ++ place k c l) (next .is)
-                  ∙ ap (λ l. g .passed ++ l) (place-here k c (next .first) (next .others) (one .below e));
+                  ∙ ap (λ l. g .passed ++ l) (place-here k c (next .first) (next .others) (λ l. e (subst (λ d. k d ≽ k c) (sym next-is) l)));
               is = g .here;
             },
           )) (λ w. let z : ⊥ = omega (arith, w .0) in absurd z) (g .found))
@@ -145,9 +143,9 @@ module _ {k : List ℕ → List ℕ} {s lens : List ℕ} {f m : ℕ} {c : List �
     pub fits : (1 ≤ getD lens x 0) × (x + getD lens x 0 ≤ m)
     fits = next-fits (t .stand) (g .all (t .before) (t .behind) (t .parts) (t .stand)) h
 
-    module _ {less : Bool} {i j : ℕ} (is : j ≡ getD lens x 0) (e : i ≤ j) (st : Stands (k (part x (x + j) s)) (k c) less i) where
-      same : Stands (k (part x (x + getD lens x 0) s)) (k c) less i
-      same = subst (λ j. Stands (k (part x (x + j) s)) (k c) less i) is st
+    module _ {i j : ℕ} (is : j ≡ getD lens x 0) (e : i ≤ j) (st : i ≡ looked (k (part x (x + j) s)) (k c)) where
+      same : i ≡ looked (k (part x (x + getD lens x 0) s)) (k c)
+      same = subst (λ j. i ≡ looked (k (part x (x + j) s)) (k c)) is st
 
       further : {at' : ℕ} → at' ≤ m → ((p q : List ℕ) (L : List (List ℕ)) → Stand s lens f m p L q → Passed k lens f m c L (x + getD lens x 0) at' (n + i))
           → Looking k s lens f m c (x + j) at' (n + i)
@@ -158,11 +156,11 @@ module _ {k : List ℕ → List ℕ} {s lens : List ℕ} {f m : ℕ} {c : List �
         all = λ p q L u. subst (λ j. Passed k lens f m c L (x + j) at' (n + i)) (sym is) (a p q L u);
       }
 
-      pub past : less ≡ false → Looking k s lens f m c (x + j) at (n + i)
-      past b = further (g .spot) (λ p q L u. not-smaller u (g .all p q L u) h same b)
+      pub past : k (part x (x + j) s) ≽ k c → Looking k s lens f m c (x + j) at (n + i)
+      past b = further (g .spot) (λ p q L u. not-smaller u (g .all p q L u) h same (subst (λ j. k (part x (x + j) s) ≽ k c) is b))
 
-      pub first : less ≡ true → at ≡ m → Looking k s lens f m c (x + j) x (n + i)
-      first b l = further (omega arith) (λ p q L u. smaller u (g .all p q L u) h same b l)
+      pub first : (k (part x (x + j) s) ≽ k c → ⊥) → at ≡ m → Looking k s lens f m c (x + j) x (n + i)
+      first b l = further (omega arith) (λ p q L u. smaller u (g .all p q L u) h same (λ a. b (subst (λ j. k (part x (x + j) s) ≽ k c) (sym is) a)) l)
 
       pub behind : (at ≡ m → ⊥) → Looking k s lens f m c (x + j) at (n + i)
       behind l = further (g .spot) (λ p q L u. later u (g .all p q L u) h same l)

@@ -1,7 +1,7 @@
 -- Document 01, "Codes": "Coding a vertex asks for its children's codes first, and a subtree is always smaller than its tree."
 --
 -- What that recursion is held to, by the table alone. It writes vertices, and compares them by their marks. In order: the children of a
--- vertex by the table, the order of what hangs there and the pairs looked at; what the recursion asks of a table; comparing; parts that
+-- vertex by the table, the order of what hangs there and the pairs looked at; what the recursion asks of a table; parts that
 -- stand one behind the other in the buffer, and what each function leaves there; marks, with labels, and what the buffer then holds of
 -- the skeleton whose table it is; digits as marks. Assumes nothing.
 use mathlib.Core.Path.{_≡_}
@@ -11,14 +11,15 @@ use mathlib.Core.List.{List, [], _∷_, _++_, map, filter, flatten}
 use Prim.Native.Nat.{ℕ, suc, _+_, _-_, _*_, _≤_, _<_}
 use native.Mathlib.Decide.{ℕ-discrete}
 use lib.ListN.{length, getD, take}
-use Rattle.laws.specs.document.Order.{_≽_}
 use Rattle.digit_code.specs.document.Code.{sum}
+use Rattle.digit_code.specs.Compare.{looked}
 use Rattle.limits.specs.document.Limits.{size}
 use Rattle.limits.specs.Width.{width}
 use Rattle.skeleton.specs.document.Skeleton as tree
 use Rattle.skeleton.specs.Label.{Marks, rootedₗ}
+use Rattle.edge_list.specs.Table.{deg}
 use Rattle.numbering.specs.Numbers as numbers
-use Rattle.numbering.specs.Order.{place, looked, pairs, sortBy, orderBy, pairsBy}
+use Rattle.numbering.specs.Order.{place, pairs, sortBy, orderBy, pairsBy}
 
 -- ---- the order by the table
 
@@ -65,15 +66,6 @@ pub record Rows (t : List (List ℕ)) (v : ℕ) : Type 0 where
   pub wide : (u : ℕ) → 1 ≤ u → u ≤ number → length (row t u) ≡ width
   pub within : (u j : ℕ) → 1 ≤ u → u ≤ number → j < width → cell t u j ≤ number
   pub back : (u j : ℕ) → 1 ≤ u → u ≤ number → j < width → 1 ≤ cell t u j → cell t (cell t u j) 1 ≡ 0 → cell t (cell t u j) 0 ≡ u
-
--- ---- comparing
-
--- the answer of a comparison is right, and n pairs were looked at
-pub record Stands (a b : List ℕ) (less : Bool) (n : ℕ) : Type 0 where
-  pub pairs : n ≡ looked a b
-  pub few : n ≤ length a
-  pub below : less ≡ true → a ≽ b → ⊥
-  pub above : less ≡ false → a ≽ b
 
 -- ---- parts in the buffer
 
@@ -180,10 +172,6 @@ pub record Placed (M : Marks) (label : ℕ → M .Label) (N : ℕ) (E : List ℕ
   pub count : n ≡ numbers.pairsₗ M label N E r
 
 -- ---- digits as marks
-
--- the number of v's neighbours, by the table
-abbrev pub deg : List ℕ → ℕ → ℕ
-deg d v = getD d (v - 1) 0
 
 -- x is the digit of v where r is the root
 abbrev pub IsDigit : List ℕ → ℕ → ℕ → ℕ → Type 0

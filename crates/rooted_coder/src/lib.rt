@@ -1,5 +1,7 @@
 // The vertices of a skeleton in the order of its rooted code, written into a buffer by recursion over rooted subtrees, and how many pairs of
 // marks were looked at on the way.
+use digit_code::Order;
+use edge_list::wide;
 use limits::BYTES;
 use limits::SIZE;
 use limits::WIDTH;
@@ -11,28 +13,17 @@ ghost use Rattle.laws.specs.Part.{part};
 ghost use Rattle.laws.specs.document.Laid.{laidOver};
 ghost use Rattle.limits.specs.document.Limits.{size};
 ghost use Rattle.limits.specs.Width.{width};
+ghost use Rattle.digit_code.specs.Compare.{lex};
 ghost use Rattle.skeleton.specs.document.Skeleton as tree;
 ghost use Rattle.skeleton.specs.Base.{base};
 ghost use Rattle.edge_list.specs.Table.{IsTable, Held};
 ghost use Rattle.numbering.specs.Numbers as numbers;
-ghost use Rattle.rooted_coder.specs.Ordered.{marked, markOf, cell, kids, ordered, compared, Rows, Stands, Stand, Standing, Spot, met, Exchanged, Waits, Waiting, Settles, endOf, Arranges, Several, Hangs, Covers, Fills, Placed};
-
-// The answer of a comparison, and how many pairs were looked at.
-struct Compared {
-    less: bool,
-    looked: usize,
-}
+ghost use Rattle.rooted_coder.specs.Ordered.{marked, markOf, cell, kids, ordered, compared, Rows, Stand, Standing, Spot, met, Exchanged, Waits, Waiting, Settles, endOf, Arranges, Several, Hangs, Covers, Fills, Placed};
 
 // A place in the buffer, and how many pairs were looked at to find it.
 struct Sought {
     at: usize,
     looked: usize,
-}
-
-fn wide(x: u8) -> usize
-    ensures { λ r. ⌜ (r ≡ x) × (r < 256) ⌝ }
-{
-    x as usize
 }
 
 fn mark(marks: &[u8; BYTES], v: u8) -> u8
@@ -42,43 +33,28 @@ fn mark(marks: &[u8; BYTES], v: u8) -> u8
 }
 
 // Compares two parts by their marks, up to the first pair that differs.
-fn compare(marks: &[u8; BYTES], a: &[u8], b: &[u8]) -> Compared
-    ensures { λ r. ⌜ Stands (marked (now (marks .entry)) (now (a .entry))) (marked (now (marks .entry)) (now (b .entry))) (r .less) (r .looked) ⌝ }
+fn compare(marks: &[u8; BYTES], a: &[u8], b: &[u8]) -> Order
+    ensures { λ r. ⌜ r ≡ lex (marked (now (marks .entry)) (now (a .entry))) (marked (now (marks .entry)) (now (b .entry))) ⌝ }
 {
     let mut i = 0;
     while i < a.len() {
         if b.len() <= i {
-            return Compared {
-                less: false,
-                looked: i,
-            };
+            return Order::Greater(i);
         }
         let x = mark(marks, a[i]);
         let y = mark(marks, b[i]);
         if x < y {
-            return Compared {
-                less: true,
-                looked: i + 1,
-            };
+            return Order::Less(i + 1);
         }
         if y < x {
-            return Compared {
-                less: false,
-                looked: i + 1,
-            };
+            return Order::Greater(i + 1);
         }
         i += 1;
     }
     if i < b.len() {
-        return Compared {
-            less: true,
-            looked: i,
-        };
+        return Order::Less(i);
     }
-    Compared {
-        less: false,
-        looked: i,
-    }
+    Order::Equal(i)
 }
 
 // Copies the part of `src` from `a` up to `e` into `dst`, at `at`.
@@ -127,11 +103,18 @@ fn seek(marks: &[u8; BYTES], s: &[u8], lens: &[u8], f: usize, m: usize, b: usize
     while x < m {
         let a = x;
         x += wide(lens[a]);
-        let c = compare(marks, &s[a..x], &s[m..b]);
-        looked += c.looked;
-        if c.less {
-            if at == m {
-                at = a;
+        match compare(marks, &s[a..x], &s[m..b]) {
+            Order::Less(n) => {
+                looked += n;
+                if at == m {
+                    at = a;
+                }
+            }
+            Order::Equal(n) => {
+                looked += n;
+            }
+            Order::Greater(n) => {
+                looked += n;
             }
         }
     }

@@ -8,12 +8,14 @@ ghost use mathlib.Core.Path.{_≡_};
 ghost use Prim.Native.Nat.{suc, _≤_, _<_};
 ghost use lib.ListN.{length, take};
 ghost use Rattle.laws.specs.document.Laid.{Laid};
+ghost use Rattle.laws.specs.Tells.{Tells};
 ghost use Rattle.limits.specs.document.Limits.{size};
 ghost use Rattle.digit_code.specs.Ends.{Ends};
 ghost use Rattle.digit_code.specs.document.Code.{plain};
 ghost use Rattle.digit_code.specs.Search.{Known};
+ghost use Rattle.vertices.specs.document.Vertices.{Alike};
 ghost use Rattle.vertices.specs.Classes.{classOf, alike?, classes};
-ghost use Rattle.vertices.specs.Search.{Deep, Tells};
+ghost use Rattle.vertices.specs.Search.{Deep};
 
 // How deep each vertex lies: the open places are kept, each by the depth of the vertex that is to stand there.
 fn depths_of(code: &[u8], deep: &mut [u8])
@@ -40,7 +42,7 @@ fn alike(code: &[u8], ends: &[u8], deep: &[u8], u: usize, v: usize) -> bool
     requires { ⌜ Deep (now code) (now deep) ⌝ }
     requires { ⌜ u < length (now code) ⌝ }
     requires { ⌜ v < length (now code) ⌝ }
-    ensures { λ r. ⌜ Tells (now (code .entry)) (suc u) (suc v) r ⌝ }
+    ensures { λ r. ⌜ Tells (Alike (now (code .entry)) (suc u) (suc v)) r ⌝ }
 {
     let x = deep[u];
     let y = deep[v];
@@ -53,9 +55,9 @@ fn alike(code: &[u8], ends: &[u8], deep: &[u8], u: usize, v: usize) -> bool
         return false;
     }
     match compare(&code[u..a], &code[v..b]) {
-        Order::Less => false,
-        Order::Equal => true,
-        Order::Greater => false,
+        Order::Less(_) => false,
+        Order::Equal(_) => true,
+        Order::Greater(_) => false,
     }
 }
 

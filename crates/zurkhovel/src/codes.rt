@@ -136,9 +136,9 @@ fn judge(n1: usize, edges1: &[u8], n2: usize, edges2: &[u8]) -> Verdict
     form_coder::centred(n1, edges1, &mut a);
     form_coder::centred(n2, edges2, &mut b);
     match digit_code::compare(&a[..n1], &b[..n2]) {
-        Order::Less => Verdict::Different,
-        Order::Equal => Verdict::Same,
-        Order::Greater => Verdict::Different,
+        Order::Less(_) => Verdict::Different,
+        Order::Equal(_) => Verdict::Same,
+        Order::Greater(_) => Verdict::Different,
     }
 }
 

@@ -5,7 +5,7 @@ use native.Mathlib.Omega.{arith}
 use denote.Ref.{now}
 use lib.ListN.{getD}
 use borrow.Author.Needs.{needs}
-use Rattle.centred_check.specs.Pieces.{less-falls, same-falls, greater-rises}
+use Rattle.digit_code.specs.Compare.{told-rises}
 use Rattle.centred_check.specs.Middle.{fewer}
 use Rattle.centred_check.specs.Kinds.{kinds, fewer-is, unit-fits}
 use Rattle.centred_check.specs.Over.{covers-not, covers-so, covers-by}
@@ -49,8 +49,8 @@ covers-spec =
     (λ c. search needs)
     (λ c. search needs)
     (λ c. let t = c .before .before .before .before .before .before .before .before .before in let a = start t .args in
-    covers-by (kinds (a .named)) (now (a .code)) (a .x) (a .e) (a .y) (a .z) (omega (arith, start t .pre)) (omega (arith, start t .pre)) (omega (arith, left-is t)) (less-falls _ _ (sym (c .before .before .compare-two .ensures) ∙ c .enum-told .given .1)))
+    covers-by (kinds (a .named)) (now (a .code)) (a .x) (a .e) (a .y) (a .z) (omega (arith, start t .pre)) (omega (arith, start t .pre)) (omega (arith, left-is t)) (told-rises _ _ (sym (c .before .before .compare-two .ensures) ∙ c .enum-told .given .1)))
     (λ c. let t = c .before .before .before .before .before .before .before .before .before in let a = start t .args in
-    covers-by (kinds (a .named)) (now (a .code)) (a .x) (a .e) (a .y) (a .z) (omega (arith, start t .pre)) (omega (arith, start t .pre)) (omega (arith, left-is t)) (same-falls _ _ (sym (c .before .before .compare-two .ensures) ∙ c .enum-told2 .given .1)))
+    covers-by (kinds (a .named)) (now (a .code)) (a .x) (a .e) (a .y) (a .z) (omega (arith, start t .pre)) (omega (arith, start t .pre)) (omega (arith, left-is t)) (told-rises _ _ (sym (c .before .before .compare-two .ensures) ∙ c .enum-told2 .given .1)))
     (λ c. let t = c .before .before .before .before .before .before .before .before .before in let a = start t .args in
-    covers-by (kinds (a .named)) (now (a .code)) (a .x) (a .e) (a .y) (a .z) (omega (arith, start t .pre)) (omega (arith, start t .pre)) (omega (arith, left-is t)) (greater-rises _ _ (sym (c .before .before .compare-two .ensures) ∙ c .enum-told3 .given .1))))
+    covers-by (kinds (a .named)) (now (a .code)) (a .x) (a .e) (a .y) (a .z) (omega (arith, start t .pre)) (omega (arith, start t .pre)) (omega (arith, left-is t)) (told-rises _ _ (sym (c .before .before .compare-two .ensures) ∙ c .enum-told3 .given .1))))

@@ -5,7 +5,7 @@ use native.Mathlib.Omega.{arith}
 use denote.Ref.{now}
 use lib.ListN.{getD}
 use borrow.Author.Tests.{not-true, not-false}
-use Rattle.digit_code.specs.Compare.{was-falling, was-rising}
+use Rattle.laws.specs.Tells.{was-held, was-denied}
 use Rattle.centred_check.specs.Stack.{top-more, top-same, top-last}
 use Rattle.centred_check.specs.Kinds.{kinds}
 use Rattle.centred_check.specs.Placed.{Joins, Joining, join-none, join-start, join-first, join-second, join-within, join-next, join-stop, join-last}
@@ -46,13 +46,13 @@ joined-spec =
       (join-second (s .pre .0) (l .loop .inv) (s .pre .1 .1 .0) (omega arith), join-within (s .pre .0) (l .loop .inv) (s .pre .1 .1 .0) (omega arith)),
     ))
     (λ c. let l = c .before .before .before .before .before .before in let s = start l in
-    join-stop (s .pre .0) (l .loop .inv) (s .pre .1 .1 .0) (omega arith) (was-rising (c .before .falls-at .ensures) (not-true _ (c .if2 .taken))))
+    join-stop (s .pre .0) (l .loop .inv) (s .pre .1 .1 .0) (omega arith) (was-denied (c .before .falls-at .ensures) (not-true _ (c .if2 .taken))))
     (λ c. let l = c .before .before .before .before .before .before .before in omega (arith, l .loop .inv .some, start l .pre))
     (λ c. omega arith)
     (λ c. let l = c .before .before .before .before .before .before .before .before in let s = start l in
-    join-next (s .pre .0) (l .loop .inv) (s .pre .1 .1 .0) (omega arith) (top-more (l .loop .inv .topped) (omega (arith, s .pre)) (omega arith) (omega arith)) (was-falling (c .before .before .before .falls-at .ensures) (not-false _ (c .before .before .if2 .left))))
+    join-next (s .pre .0) (l .loop .inv) (s .pre .1 .1 .0) (omega arith) (top-more (l .loop .inv .topped) (omega (arith, s .pre)) (omega arith) (omega arith)) (was-held (c .before .before .before .falls-at .ensures) (not-false _ (c .before .before .if2 .left))))
     (λ c. omega arith)
     (λ c. let l = c .before .before .before .before .before .before .before .before in let s = start l in
-    join-next (s .pre .0) (l .loop .inv) (s .pre .1 .1 .0) (omega arith) (top-same (l .loop .inv .topped) (omega (arith, s .pre)) (omega arith) (omega arith)) (was-falling (c .before .before .before .falls-at .ensures) (not-false _ (c .before .before .if2 .left))))
+    join-next (s .pre .0) (l .loop .inv) (s .pre .1 .1 .0) (omega arith) (top-same (l .loop .inv .topped) (omega (arith, s .pre)) (omega arith) (omega arith)) (was-held (c .before .before .before .falls-at .ensures) (not-false _ (c .before .before .if2 .left))))
     (λ c. let l = c .before in let s = start l in omega (arith, top-last (l .loop .inv .topped) (omega arith), s .pre))
     (λ c. let l = c .before in let s = start l in join-last (s .pre .0) (l .loop .inv) (s .pre .1 .1 .0) (omega arith)))

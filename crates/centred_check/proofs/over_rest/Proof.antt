@@ -5,7 +5,7 @@ use native.Mathlib.Omega.{arith}
 use denote.Ref.{now}
 use lib.ListN.{getD}
 use borrow.Author.Needs.{needs}
-use Rattle.digit_code.specs.Compare.{less-rises, equal-falls, greater-falls}
+use Rattle.digit_code.specs.Compare.{told-falls}
 use Rattle.centred_check.specs.Middle.{fewer}
 use Rattle.centred_check.specs.Kinds.{kinds, fewer-is, unit-fits}
 use Rattle.centred_check.specs.Over.{rest-not, rest-so, rest-by}
@@ -54,8 +54,8 @@ over-rest-spec =
     (λ c. search needs)
     (λ c. search needs)
     (λ c. let t = c .before .before .before .before .before .before .before .before .before .before in let a = start t .args in
-    rest-by (kinds (a .named)) (now (a .code)) (a .x) (a .y) (a .e) (omega (arith, start t .pre)) (omega (arith, start t .pre)) (omega (arith, start t .pre)) (omega (arith, start t .pre)) (omega (arith, left-is t)) (less-rises _ _ (sym (c .before .before .compare-three .ensures) ∙ c .enum-told .given .1)))
+    rest-by (kinds (a .named)) (now (a .code)) (a .x) (a .y) (a .e) (omega (arith, start t .pre)) (omega (arith, start t .pre)) (omega (arith, start t .pre)) (omega (arith, start t .pre)) (omega (arith, left-is t)) (told-falls _ _ (sym (c .before .before .compare-three .ensures) ∙ c .enum-told .given .1)))
     (λ c. let t = c .before .before .before .before .before .before .before .before .before .before in let a = start t .args in
-    rest-by (kinds (a .named)) (now (a .code)) (a .x) (a .y) (a .e) (omega (arith, start t .pre)) (omega (arith, start t .pre)) (omega (arith, start t .pre)) (omega (arith, start t .pre)) (omega (arith, left-is t)) (equal-falls _ _ (sym (c .before .before .compare-three .ensures) ∙ c .enum-told2 .given .1)))
+    rest-by (kinds (a .named)) (now (a .code)) (a .x) (a .y) (a .e) (omega (arith, start t .pre)) (omega (arith, start t .pre)) (omega (arith, start t .pre)) (omega (arith, start t .pre)) (omega (arith, left-is t)) (told-falls _ _ (sym (c .before .before .compare-three .ensures) ∙ c .enum-told2 .given .1)))
     (λ c. let t = c .before .before .before .before .before .before .before .before .before .before in let a = start t .args in
-    rest-by (kinds (a .named)) (now (a .code)) (a .x) (a .y) (a .e) (omega (arith, start t .pre)) (omega (arith, start t .pre)) (omega (arith, start t .pre)) (omega (arith, start t .pre)) (omega (arith, left-is t)) (greater-falls _ _ (sym (c .before .before .compare-three .ensures) ∙ c .enum-told3 .given .1))))
+    rest-by (kinds (a .named)) (now (a .code)) (a .x) (a .y) (a .e) (omega (arith, start t .pre)) (omega (arith, start t .pre)) (omega (arith, start t .pre)) (omega (arith, start t .pre)) (omega (arith, left-is t)) (told-falls _ _ (sym (c .before .before .compare-three .ensures) ∙ c .enum-told3 .given .1))))

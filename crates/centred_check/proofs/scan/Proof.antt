@@ -10,7 +10,7 @@ use Rattle.limits.specs.document.Limits.{size}
 use Rattle.digit_code.specs.Two.{as-long, digit-at}
 use Rattle.centred_check.specs.Kinds.{kinds, limits, limits-some}
 use Rattle.centred_check.specs.Stack.{stack-low, stack-last}
-use Rattle.centred_check.specs.Race.{was-held, was-denied}
+use Rattle.laws.specs.Tells.{was-held, was-denied}
 use Rattle.centred_check.specs.Scan.{Scan, scan-start, scan-room, scan-next, from-first, to-first, not-small, not-served, not-falling, no-code, is-code}
 use Rattle.centred_check.proofs.scan.Statement.{statement}
 use Rattle.centred_check.proofs.scan.Tie as tie

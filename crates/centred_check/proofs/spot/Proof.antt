@@ -7,7 +7,7 @@ use lib.ListN.{length, getD}
 use Rattle.digit_code.specs.Digits.{digits}
 use Rattle.digit_code.specs.Ends.{Ends}
 use Rattle.digit_code.specs.Two.{as-long, digit-at}
-use Rattle.digit_code.specs.Compare.{was-falling, was-rising}
+use Rattle.laws.specs.Tells.{was-held, was-denied}
 use Rattle.centred_check.specs.Kinds.{kinds}
 use Rattle.centred_check.specs.Skip.{Skips, skips-after, one-after, codes-many, skips-marks}
 use Rattle.centred_check.specs.Spot.{Seeking, seek-start, seek-some, seek-inside, seek-next, seek-stop, seek-last}
@@ -60,10 +60,10 @@ spot-spec =
     let z = one-after (passed c) (inside (c .before)) in
     (s .pre .1 .1 .0, (y, (z, (passed c .within, (s .pre .1 .1 .1 .1 .0 .within, s .pre .1 .1 .1 .1 .1))))))
     (λ c. let s = start (c .before .before .before) in
-    seek-stop (c .before .before .before .before .loop .inv) (whole s) (s .pre .1 .1 .1 .0) (s .pre .1 .1 .1 .1 .0) (omega (arith, counts s)) (passed (c .before .before)) (inside (c .before .before .before)) (was-falling (c .before .covers .ensures) (c .if1 .taken)))
+    seek-stop (c .before .before .before .before .loop .inv) (whole s) (s .pre .1 .1 .1 .0) (s .pre .1 .1 .1 .1 .0) (omega (arith, counts s)) (passed (c .before .before)) (inside (c .before .before .before)) (was-held (c .before .covers .ensures) (c .if1 .taken)))
     (λ c. omega (arith, c .before .before .before .before .before .shared-slice-known3 .given (start (c .before .before .before) .args .x)))
     (λ c. omega arith)
     (λ c. let s = start (c .before .before .before) in
-    seek-next (c .before .before .before .before .loop .inv) (whole s) (s .pre .1 .1 .1 .0) (omega (arith, counts s)) (passed (c .before .before)) (inside (c .before .before .before)) (was-rising (c .before .covers .ensures) (c .if1 .left)))
+    seek-next (c .before .before .before .before .loop .inv) (whole s) (s .pre .1 .1 .1 .0) (omega (arith, counts s)) (passed (c .before .before)) (inside (c .before .before .before)) (was-denied (c .before .covers .ensures) (c .if1 .left)))
     (λ c. let s = c .before .before .before .before .before in
     seek-last (c .before .loop .inv) (whole s) (s .pre .1 .1 .1 .0) (s .pre .1 .1 .1 .1 .0) (omega (arith, counts s))))

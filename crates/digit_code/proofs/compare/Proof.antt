@@ -1,9 +1,8 @@
 -- `digit_code::compare` meets its contract: the loop keeps that the digits passed agree. Assumes nothing.
-use mathlib.Core.Path.{refl}
 use Prim.Native.Nat.{_-_}
 use native.Mathlib.Omega.{arith}
 use lib.ListN.{length}
-use Rattle.digit_code.proofs.Comparing.{Agree, first-over, second-over, both-over, falls-below, rises-above, agrees-on}
+use Rattle.digit_code.specs.Comparing.{Agree, none-yet, second-ends, first-ends, both-end, smaller, larger, one-more}
 use Rattle.digit_code.proofs.compare.Statement.{statement}
 use Rattle.digit_code.proofs.compare.Tie as tie
 
@@ -19,14 +18,16 @@ compare-spec =
     (tie.spec
     Inv-loop
     μ-loop
-    (λ c. record { first = omega arith; second = omega arith; same = refl })
-    (λ c. second-over (c .before .before .loop .inv) (omega arith) (omega arith))
+    (λ c. none-yet _ _)
+    (λ c. second-ends (c .before .before .loop .inv) (omega arith) (omega arith))
     (λ c. omega arith)
     (λ c. omega arith)
-    (λ c. falls-below (c .before .before .before .before .before .loop .inv) (omega arith) (omega arith) (omega arith))
-    (λ c. rises-above (c .before .before .before .before .before .before .loop .inv) (omega arith) (omega arith) (omega arith))
+    (λ c. omega arith)
+    (λ c. smaller (c .before .before .before .before .before .loop .inv) (omega arith) (omega arith) (omega arith))
+    (λ c. omega arith)
+    (λ c. larger (c .before .before .before .before .before .before .loop .inv) (omega arith) (omega arith) (omega arith))
     (λ c. omega arith)
     (λ c. omega arith)
-    (λ c. agrees-on (c .before .before .before .before .before .before .loop .inv) (omega arith) (omega arith) (omega arith) (omega arith))
-    (λ c. first-over (c .before .before .loop .inv) (omega arith) (omega arith))
-    (λ c. both-over (c .before .before .loop .inv) (omega arith) (omega arith)))
+    (λ c. one-more (c .before .before .before .before .before .before .loop .inv) (omega arith) (omega arith) (omega arith) (omega arith))
+    (λ c. first-ends (c .before .before .loop .inv) (omega arith) (omega arith))
+    (λ c. both-end (c .before .before .loop .inv) (omega arith) (omega arith)))

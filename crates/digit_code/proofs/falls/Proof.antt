@@ -1,7 +1,7 @@
 -- `digit_code::falls` meets its contract. Assumes nothing.
 use mathlib.Core.Path.{sym, _∙_}
 use borrow.Author.Needs.{needs}
-use Rattle.digit_code.specs.Compare.{less-rises, equal-falls, greater-falls}
+use Rattle.digit_code.specs.Compare.{told-falls}
 use Rattle.digit_code.proofs.falls.Statement.{statement}
 use Rattle.digit_code.proofs.falls.Tie as tie
 
@@ -13,6 +13,6 @@ falls-spec =
     (λ c. search needs)
     (λ c. search needs)
     (λ c. search needs)
-    (λ c. less-rises _ _ (sym (c .before .before .compare .ensures) ∙ c .enum-told .given .1))
-    (λ c. equal-falls _ _ (sym (c .before .before .compare .ensures) ∙ c .enum-told2 .given .1))
-    (λ c. greater-falls _ _ (sym (c .before .before .compare .ensures) ∙ c .enum-told3 .given .1)))
+    (λ c. told-falls _ _ (sym (c .before .before .compare .ensures) ∙ c .enum-told .given .1))
+    (λ c. told-falls _ _ (sym (c .before .before .compare .ensures) ∙ c .enum-told2 .given .1))
+    (λ c. told-falls _ _ (sym (c .before .before .compare .ensures) ∙ c .enum-told3 .given .1)))

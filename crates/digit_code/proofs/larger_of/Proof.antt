@@ -7,7 +7,7 @@ use lib.ListN.{getD}
 use borrow.Author.Needs.{needs}
 use borrow.Author.Tests.{not-true, not-false}
 use Rattle.digit_code.specs.Two.{as-long, digit-at, arityOf}
-use Rattle.digit_code.specs.Compare.{was-falling, was-rising}
+use Rattle.laws.specs.Tells.{was-held, was-denied}
 use Rattle.digit_code.proofs.Scanning.{Line, Turn, turn, line-first, line-last, line-next, line-stops}
 use Rattle.digit_code.proofs.larger_of.Statement.{statement}
 use Rattle.digit_code.proofs.larger_of.Tie as tie
@@ -51,10 +51,10 @@ larger-of-spec =
     (λ c κs. search needs)
     (λ c. omega (arith, here (c .before .before .before .before .before .before)))
     (λ c. let s = c .before .before .before .before .before .before in
-    line-stops (start s .pre .1 .0) (start s .pre .1 .1) (s .before .loop .inv) (omega (arith, counts (start s))) (was-rising (c .before .falls .ensures) (not-true _ (c .if1 .taken))))
+    line-stops (start s .pre .1 .0) (start s .pre .1 .1) (s .before .loop .inv) (omega (arith, counts (start s))) (was-denied (c .before .falls .ensures) (not-true _ (c .if1 .taken))))
     (λ c. let s = c .before .before .before .before .before .before in
     omega (arith, s .before .before .shared-slice-known4 .given (start s .args .i)))
     (λ c. omega arith)
     (λ c. let s = c .before .before .before .before .before .before in
-    line-next (start s .pre .1 .0) (start s .pre .1 .1) (s .before .loop .inv) (omega (arith, counts (start s))) (was-falling (c .before .falls .ensures) (not-false _ (c .if1 .left))))
+    line-next (start s .pre .1 .0) (start s .pre .1 .1) (s .before .loop .inv) (omega (arith, counts (start s))) (was-held (c .before .falls .ensures) (not-false _ (c .if1 .left))))
     (λ c. let s = c .before .before .before .before .before .before in line-last (s .pre .1 .0) (s .pre .1 .1) (c .before .loop .inv) (omega (arith, counts s))))

@@ -9,6 +9,7 @@ use lib.ListN.{length, getD}
 use Rattle.refusal.specs.Laws.{clear-one, first-place}
 use Rattle.refusal.specs.Checks.{passes, fails}
 use Rattle.edge_list.specs.document.Edges.{row9}
+use Rattle.laws.specs.Tells.{was-held, was-denied}
 use Rattle.edge_list.proofs.Tally.{Tally, tally-none, tally-more, tally-at, bump-small}
 use Rattle.edge_list.proofs.degrees.Statement.{statement}
 use Rattle.edge_list.proofs.degrees.Tie as tie
@@ -43,7 +44,7 @@ returns c =
     let i = o .before .before .before .loop .inv in
     let e = tally-at (i .2) (o .before .one .ensures) in
     let f = tally-at (i .2) (o .other .ensures) in
-    fails (first-place ((omega arith, omega arith), rw (e, f) at (c .before .full .ensures .right (c .if1 .taken))) (i .3))
+    fails (first-place ((omega arith, omega arith), rw (e, f) at (was-held (c .before .full .ensures) (c .if1 .taken))) (i .3))
 
 array-read-count : tie.Need-array-read-count Inv-loop μ-loop
 array-read-count c = omega arith
@@ -52,7 +53,7 @@ add-count : tie.Need-add-count Inv-loop μ-loop
 add-count c =
     let o = c .before .before in
     let l = o .before .before .before in
-    let n : l .before .before .args .limit ≤ getD (l .loop .count) (o .before .one .result) 0 → ⊥ = λ k. c .before .full .ensures .wrong (c .if1 .left) (inl k) in
+    let n : l .before .before .args .limit ≤ getD (l .loop .count) (o .before .one .result) 0 → ⊥ = λ k. was-denied (c .before .full .ensures) (c .if1 .left) (inl k) in
     omega arith
 
 array-write-count : tie.Need-array-write-count Inv-loop μ-loop
@@ -65,7 +66,7 @@ add-count-2 : tie.Need-add-count-2 Inv-loop μ-loop
 add-count-2 c =
     let o = c .before .before in
     let l = o .before .before .before in
-    let n : l .before .before .args .limit ≤ getD (l .loop .count) (o .other .result) 0 → ⊥ = λ k. c .before .full .ensures .wrong (c .if1 .left) (inr k) in
+    let n : l .before .before .args .limit ≤ getD (l .loop .count) (o .other .result) 0 → ⊥ = λ k. was-denied (c .before .full .ensures) (c .if1 .left) (inr k) in
     omega (arith, bump-small (l .loop .count) (o .before .one .result) (o .other .result) (omega arith))
 
 array-write-count-2 : tie.Need-array-write-count-2 Inv-loop μ-loop
@@ -88,7 +89,7 @@ loop-again c =
       omega arith,
       omega arith,
       tally-more _ _ (i .2) (omega arith) a b,
-      below-more _ _ (i .3) (λ h. c .before .full .ensures .wrong (c .if1 .left) (rw (← e, ← f) at (h .1))),
+      below-more _ _ (i .3) (λ h. was-denied (c .before .full .ensures) (c .if1 .left) (rw (← e, ← f) at (h .1))),
     )
 
 returns-2 : tie.Need-returns-2 Inv-loop μ-loop

@@ -4,7 +4,7 @@ use native.Mathlib.Omega.{arith}
 use lib.ListN.{length, take}
 use lib.Seq.{length-take-le}
 use borrow.Author.Needs.{needs}
-use Rattle.digit_code.specs.Compare.{was-falling, was-rising}
+use Rattle.laws.specs.Tells.{was-held, was-denied}
 use Rattle.form_coder.specs.Raised.{kept, raised}
 use Rattle.form_coder.proofs.Written.{copied}
 use Rattle.form_coder.proofs.raise.Statement.{statement}
@@ -30,11 +30,11 @@ raise-spec =
     (λ c. sym (counted (c .before .before .before .before)))
     (λ c κs. search needs)
     (λ c. search needs)
-    (λ c. kept (was-falling (c .before .falls .ensures) (c .if1 .taken)) refl)
+    (λ c. kept (was-held (c .before .falls .ensures) (c .if1 .taken)) refl)
     (λ c. sym (counted (start (c .before .before))))
     (λ c κs. let s = start (c .before .before .before) in omega (arith, s .pre, counted s))
     (λ c. search needs)
     (λ c.
     let y = c .before .before in
     let j = judged y in
-    raised (was-rising (j .before .falls .ensures) (j .if1 .left)) (copied _ _ _ (y .copy .ensures .1))))
+    raised (was-denied (j .before .falls .ensures) (j .if1 .left)) (copied _ _ _ (y .copy .ensures .1))))

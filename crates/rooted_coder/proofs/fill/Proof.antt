@@ -7,7 +7,8 @@ use lib.ListN.{length, getD, set, take, drop, length-set}
 use lib.Seq.{getD-set-same, getD-set-other, getD-take, length-take-le}
 use borrow.Author.Needs.{needs}
 use Rattle.laws.specs.Part.{part, part-length}
-use Rattle.rooted_coder.specs.Ordered.{deg, Fills}
+use Rattle.edge_list.specs.Table.{deg}
+use Rattle.rooted_coder.specs.Ordered.{Fills}
 use Rattle.rooted_coder.proofs.Settling.{at-second}
 use Rattle.rooted_coder.proofs.fill.Statement.{statement}
 use Rattle.rooted_coder.proofs.fill.Tie as tie

@@ -1,17 +1,25 @@
 -- `vertices::alike` meets its contract. Assumes nothing.
-use Prim.Native.Nat.{ℕ, _<_}
+use mathlib.Core.Path.{_≡_, sym, _∙_}
+use Prim.Native.Nat.{ℕ, suc, _<_}
 use native.Mathlib.Omega.{arith}
 use denote.Ref.{now}
 use lib.ListN.{length, getD}
 use borrow.Author.Needs.{needs}
+use Rattle.laws.specs.Tells.{Tells}
 use Rattle.digit_code.specs.document.Code.{plain}
 use Rattle.digit_code.specs.Parts.{Ending}
-use Rattle.vertices.proofs.Telling.{depths-differ, lengths-differ, codes-differ, codes-agree, less-apart, greater-apart}
+use Rattle.digit_code.specs.declared.Order.{Order}
+use Rattle.digit_code.specs.Compare.{same?, told-same}
+use Rattle.vertices.specs.document.Vertices.{Alike}
+use Rattle.vertices.proofs.Telling.{depths-differ, lengths-differ, codes-decide}
 use Rattle.vertices.proofs.alike.Statement.{statement}
 use Rattle.vertices.proofs.alike.Tie as tie
 
 abbrev start : tie.Else1 → tie.Start
 start c = c .before .before .before .before .before .before
+
+abbrev compared : tie.After-compare → tie.Else1
+compared c = c .before .before .before .before .before .before
 
 -- where the part of a vertex ends
 ending : (c : tie.Start) (i : ℕ) → i < length (now (c .args .code)) → Ending plain (now (c .args .code)) i (getD (now (c .args .ends)) i 0)
@@ -22,6 +30,12 @@ ending-u c = ending (start c) (start c .args .u) (start c .pre .1 .1 .0)
 
 ending-v : (c : tie.Else1) → Ending plain (now (start c .args .code)) (start c .args .v) (getD (now (start c .args .ends)) (start c .args .v) 0)
 ending-v c = ending (start c) (start c .args .v) (start c .pre .1 .1 .1)
+
+-- the comparer's answer
+by-codes : (c : tie.After-compare) {o : Order} → c .compare .result ≡ o → let s = start (compared c) .args in Tells (Alike (now (s .code)) (suc (s .u)) (suc (s .v))) (same? o)
+by-codes c q =
+    let s = start (compared c) in
+    codes-decide (s .pre .0) (s .pre .1 .0) (s .pre .1 .1 .0) (s .pre .1 .1 .1) (compared c .if1 .left) (told-same _ _ (sym (c .compare .ensures) ∙ q))
 
 pub alike-spec : {M : Type 1} → statement M
 alike-spec =
@@ -49,10 +63,6 @@ alike-spec =
     (λ c. search needs)
     (λ c. search needs)
     (λ c. search needs)
-    (λ c. let s = start (c .before .before .before .before .before .before .before .before) in
-    codes-differ (s .pre .0) (s .pre .1 .0) (s .pre .1 .1 .0) (s .pre .1 .1 .1) (c .before .before .compare .ensures) (less-apart (c .enum-told .given .1)))
-    (λ c. let e = c .before .before .before .before .before .before .before .before in
-    let s = start e in
-    codes-agree (s .pre .0) (s .pre .1 .0) (s .pre .1 .1 .0) (s .pre .1 .1 .1) (c .before .before .compare .ensures) (e .if1 .left) (c .enum-told2 .given .1))
-    (λ c. let s = start (c .before .before .before .before .before .before .before .before) in
-    codes-differ (s .pre .0) (s .pre .1 .0) (s .pre .1 .1 .0) (s .pre .1 .1 .1) (c .before .before .compare .ensures) (greater-apart (c .enum-told3 .given .1))))
+    (λ c. by-codes (c .before .before) (c .enum-told .given .1))
+    (λ c. by-codes (c .before .before) (c .enum-told2 .given .1))
+    (λ c. by-codes (c .before .before) (c .enum-told3 .given .1)))

@@ -2,8 +2,8 @@
 use Prim.Native.Nat.{_-_}
 use native.Mathlib.Omega.{arith}
 use denote.Ref.{now}
+use Rattle.laws.specs.Tells.{was-held, was-denied}
 use Rattle.vertices.specs.Classes.{alike?}
-use Rattle.vertices.specs.Search.{was-alike, was-different}
 use Rattle.vertices.proofs.Looking.{Looking, look-none, look-all, look-here, look-past}
 use Rattle.vertices.proofs.class_of.Statement.{statement}
 use Rattle.vertices.proofs.class_of.Tie as tie
@@ -24,9 +24,9 @@ class-of-spec =
     (λ c κs. let s = c .before .before .before .before .before .before in (s .pre .0, (s .pre .1 .0, (omega arith, s .pre .1 .1 .0))))
     (λ c. omega arith)
     (λ c. let s = c .before .before .before .before .before .before .before .before .before in
-    look-here (alike? (now (s .args .code))) (c .before .before .before .before .loop .inv) (s .pre .1 .1 .1) (omega arith) (was-alike (c .before .before .alike .ensures) (c .before .if1 .taken)))
+    look-here (alike? (now (s .args .code))) (c .before .before .before .before .loop .inv) (s .pre .1 .1 .1) (omega arith) (was-held (c .before .before .alike .ensures) (c .before .if1 .taken)))
     (λ c. omega arith)
     (λ c. omega arith)
     (λ c. let s = c .before .before .before .before .before .before .before .before in
-    look-past (alike? (now (s .args .code))) (c .before .before .before .loop .inv) (s .pre .1 .1 .1) (omega arith) (was-different (c .before .alike .ensures) (c .if1 .left)))
+    look-past (alike? (now (s .args .code))) (c .before .before .before .loop .inv) (s .pre .1 .1 .1) (omega arith) (was-denied (c .before .alike .ensures) (c .if1 .left)))
     (λ c. let s = c .before .before .before .before .before .before in look-all (alike? (now (s .args .code))) (c .before .loop .inv) (s .pre .1 .1 .1) (omega arith)))
