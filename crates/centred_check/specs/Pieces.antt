@@ -16,7 +16,7 @@ use Rattle.digit_code.specs.declared.Order.the-variants.{Less, Equal, Greater}
 use Rattle.digit_code.specs.Compare.{pick, lex, Compares, less, equal, greater, lex-says, Falls, falling, rising}
 
 -- the second answer where the first is that both are equal
-abbrev pub andThen : Order → Order → Order
+abbrev andThen : Order → Order → Order
 andThen Less o = Less
 andThen Equal o = o
 andThen Greater o = Greater
@@ -27,7 +27,7 @@ then-pick false true o p = refl
 then-pick false false o p = refl
 
 -- u against a and w behind it
-pub lex-behind : (u a w : List ℕ) → length a ≤ length u → lex u (a ++ w) ≡ andThen (lex (take (length a) u) a) (lex (drop (length a) u) w)
+lex-behind : (u a w : List ℕ) → length a ≤ length u → lex u (a ++ w) ≡ andThen (lex (take (length a) u) a) (lex (drop (length a) u) w)
 unfolding lex
 lex-behind u [] w h = refl
 lex-behind [] (y ∷ a) w h = let z : ⊥ = omega arith in absurd z
@@ -74,7 +74,7 @@ greater-rises a b e = rises-by (subst (Compares a b) e (lex-says a b))
 pub less-falls : (a b : List ℕ) → lex a b ≡ Less → Falls b a true
 less-falls a b e = falls-by (subst (Compares a b) e (lex-says a b))
 
-pub same : (a b : List ℕ) → lex a b ≡ Equal → a ≡ b
+same : (a b : List ℕ) → lex a b ≡ Equal → a ≡ b
 same a b e = same-by (subst (Compares a b) e (lex-says a b))
 
 pub same-falls : (a b : List ℕ) → lex a b ≡ Equal → Falls b a true

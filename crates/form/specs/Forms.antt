@@ -43,7 +43,7 @@ labelled f = record {
 }
 
 -- and nothing else is
-pub unlabelled : {form : ℕ → List ℕ → List ℕ → Type 0} → IsFormₗ base (λ N E l c. form N E c) → IsForm form
+unlabelled : {form : ℕ → List ℕ → List ℕ → Type 0} → IsFormₗ base (λ N E l c. form N E c) → IsForm form
 unlabelled f = record {
   one = λ {N} {E} {c} {d} t x y. f .one N E (λ v. tt) t x y;
   some = λ N E t. f .some N E (λ v. tt) t;
