@@ -50,6 +50,10 @@ pub fewer-is : (b : Bool) (m : ℕ) → 1 ≤ kinds b .arity m → fewer (kinds 
 fewer-is false m h = refl
 fewer-is true m h = omega (arith, atoms .mark-of m)
 
+-- the same by the unit as it was looked up
+pub fewer-by : (b : Bool) (m r : ℕ) → r ≡ unit b → 1 ≤ kinds b .arity m → fewer (kinds b) m ≡ m - r
+fewer-by b m r e h = rw e (fewer-is b m h)
+
 -- a mark that tells of a child is not below the unit
 pub unit-fits : (b : Bool) (m : ℕ) → 1 ≤ kinds b .arity m → unit b ≤ m
 unit-fits false m h = h
