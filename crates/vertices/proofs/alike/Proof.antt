@@ -10,8 +10,16 @@ use Rattle.vertices.proofs.Telling.{depths-differ, lengths-differ, code
 use Rattle.vertices.proofs.alike.Statement.{statement}
 use Rattle.vertices.proofs.alike.Tie as tie
 
+abbrev lent : tie.After-shared-slice-known5 → tie.Start
+lent c = c .before .before .before .before .before
+
+-- the depths agree
 abbrev start : tie.Else1 → tie.Start
-start c = c .before .before .before .before .before .before
+start c = lent (c .before)
+
+-- and the lengths of the parts, which were compared
+abbrev compared : tie.After-compare → tie.Else1
+compared c = c .before .before .before .before .before .before
 
 -- where the part of a vertex ends
 ending : (c : tie.Start) (i : ℕ) → i < length (now (c .args .code)) → Ending plain (now (c .args .code)) i (getD (now (c .args .ends)) i 0)
@@ -29,7 +37,7 @@ alike-spec =
     (tie.spec
     (λ c. search needs)
     (λ c. search needs)
-    (λ c. let s = c .before .before .before .before .before .before in
+    (λ c. let s = lent (c .before) in
     depths-differ (s .pre .0) (s .pre .1 .0) (s .pre .1 .1 .0) (s .pre .1 .1 .1) (c .if1 .taken))
     (λ c. search needs)
     (λ c. omega (arith, c .shared-slice-known6 .given (start (c .before) .args .u)))
@@ -49,10 +57,10 @@ alike-spec =
     (λ c. search needs)
     (λ c. search needs)
     (λ c. search needs)
-    (λ c. let s = start (c .before .before .before .before .before .before .before .before) in
+    (λ c. let s = start (compared (c .before .before)) in
     codes-differ (s .pre .0) (s .pre .1 .0) (s .pre .1 .1 .0) (s .pre .1 .1 .1) (c .before .before .compare .ensures) (less-apart (c .enum-told .given .1)))
-    (λ c. let e = c .before .before .before .before .before .before .before .before in
+    (λ c. let e = compared (c .before .before) in
     let s = start e in
     codes-agree (s .pre .0) (s .pre .1 .0) (s .pre .1 .1 .0) (s .pre .1 .1 .1) (c .before .before .compare .ensures) (e .if1 .left) (c .enum-told2 .given .1))
-    (λ c. let s = start (c .before .before .before .before .before .before .before .before) in
+    (λ c. let s = start (compared (c .before .before)) in
     codes-differ (s .pre .0) (s .pre .1 .0) (s .pre .1 .1 .0) (s .pre .1 .1 .1) (c .before .before .compare .ensures) (greater-apart (c .enum-told3 .given .1))))
