@@ -46,7 +46,7 @@ pub more-is : (b : Bool) (m : ℕ) → more (kinds b) m ≡ m + unit b
 more-is false m = omega arith
 more-is true m = omega (arith, atoms .mark-of m)
 
-pub fewer-is : (b : Bool) (m : ℕ) → 1 ≤ kinds b .arity m → fewer (kinds b) m ≡ m - unit b
+fewer-is : (b : Bool) (m : ℕ) → 1 ≤ kinds b .arity m → fewer (kinds b) m ≡ m - unit b
 fewer-is false m h = refl
 fewer-is true m h = omega (arith, atoms .mark-of m)
 
