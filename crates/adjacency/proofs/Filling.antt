@@ -12,7 +12,7 @@ use Rattle.limits.specs.document.Limits.{aSize}
 use Rattle.laws.specs.document.Laid.{laidOver}
 use Rattle.digit_code.specs.document.Code.{sum}
 use Rattle.adjacency.specs.Mixed.{product}
-use Rattle.adjacency.specs.document.Mixed.{left, mixedDigits}
+use Rattle.adjacency.specs.document.Mixed.{quotient, mixedDigits}
 use Rattle.adjacency.specs.document.Adjacency.{from, powers, put, rows, tied, columns, aEdges}
 use Rattle.adjacency.specs.Ascend.{put-none, put-one}
 use Rattle.adjacency.specs.Power.{pows, product-pows, sum-rows, tied-length}
@@ -101,10 +101,10 @@ filling-all {i} {b} {r = r} f h =
 
 -- ---- an A0
 
-left-div : (bs : List ℕ) (x : ℕ) → left bs x ≡ x / product bs
-unfolding left product
-left-div [] x = omega arith
-left-div (b ∷ bs) x = rw (left-div bs x) (div-div-eq-div-mul x (product bs) b ∙ ap (λ y. x / y) (mul-comm (product bs) b))
+quotient-div : (bs : List ℕ) (x : ℕ) → quotient bs x ≡ x / product bs
+unfolding quotient product
+quotient-div [] x = omega arith
+quotient-div (b ∷ bs) x = rw (quotient-div bs x) (div-div-eq-div-mul x (product bs) b ∙ ap (λ y. x / y) (mul-comm (product bs) b))
 
 to-the-end : (k : ℕ) (l : List ℕ) → take (length l - k) (drop k l) ≡ drop k l
 to-the-end k l = take-all (length l - k) (drop k l) (rw length-drop (omega arith))
@@ -139,7 +139,7 @@ taking-none n x old h l =
       lies = sym (laid-none old);
     }
 
-column-step : (i m x y : ℕ) → left (pows (suc i) m) x ≡ y → columns i (mixedDigits (pows i (suc m)) x) ≡ tied (suc i) (rows 1 i (y % 2 ^ i)) ++ columns (suc i) (mixedDigits (pows (suc i) m) x)
+column-step : (i m x y : ℕ) → quotient (pows (suc i) m) x ≡ y → columns i (mixedDigits (pows i (suc m)) x) ≡ tied (suc i) (rows 1 i (y % 2 ^ i)) ++ columns (suc i) (mixedDigits (pows (suc i) m) x)
 unfolding from mixedDigits columns
 column-step i m x y e = rw (← e)
 
@@ -158,7 +158,7 @@ module _ {n x : ℕ} {old : List ℕ} {i s k : ℕ} {out : List ℕ} (t : Taking
   column-is =
       let e : n - i ≡ suc (n - suc i) = omega arith in
       let d : s - i ≡ sum (from (suc i) (n - suc i)) = omega (arith, t .shift, sum-step) in
-      let p : left (pows (suc i) (n - suc i)) x ≡ x / 2 ^ (s - i) = left-div (pows (suc i) (n - suc i)) x ∙ rw (product-pows (suc i) (n - suc i), d) in
+      let p : quotient (pows (suc i) (n - suc i)) x ≡ x / 2 ^ (s - i) = quotient-div (pows (suc i) (n - suc i)) x ∙ rw (product-pows (suc i) (n - suc i), d) in
       let w : i < 64 = omega arith in
       rw (add-one i, e, shift-one w) (column-step i (n - suc i) x (x / 2 ^ (s - i)) p)
 
@@ -166,7 +166,7 @@ module _ {n x : ℕ} {old : List ℕ} {i s k : ℕ} {out : List ℕ} (t : Taking
   split-edges = t .rest ∙ ap (λ l. t .done ++ l) column-is ∙ sym (append-assoc (t .done) (tied (suc i) (rows 1 i taken)) _)
 
   module _ (room : length (aEdges n x) ≤ length old) where
-    pub taking-fits : k + 2 * length (rows 1 i taken) ≤ length old
+    taking-fits : k + 2 * length (rows 1 i taken) ≤ length old
     taking-fits =
         let e = ap length split-edges ∙ length-append (t .done ++ tied (suc i) (rows 1 i taken)) _ in
         let d = length-append (t .done) (tied (suc i) (rows 1 i taken)) in

@@ -11,7 +11,7 @@ use lib.Seq.{drop-cons, take-suc, set-at, length-take-le}
 use Rattle.limits.specs.document.Limits.{zeroSize}
 use Rattle.laws.specs.document.Laid.{laidOver}
 use Rattle.adjacency.specs.Mixed.{mixed-le}
-use Rattle.adjacency.specs.document.Mixed.{mixed, left, mixedDigits}
+use Rattle.adjacency.specs.document.Mixed.{mixed, quotient, mixedDigits}
 use Rattle.adjacency.specs.document.Adjacency.{from, zeroA, factorial, zeroCam}
 use Rattle.adjacency.specs.Entries.{Entries, none, more}
 use Rattle.adjacency.specs.Zero.{less, below-entries, zero-range, zero-length}
@@ -81,12 +81,12 @@ ranked-all {c} {i} {x} r h = let e : length c - i ≡ 0 = omega arith in rw e at
 pub record Unranked (n x : ℕ) (old : List ℕ) (i : ℕ) (out : List ℕ) (v : ℕ) : Type 0 where
   pub low : 1 ≤ i
   pub high : i ≤ n
-  pub rest : v ≡ left (from i (n - i)) x
+  pub rest : v ≡ quotient (from i (n - i)) x
   pub long : length out ≡ length old
   pub lies : out ≡ take (i - 1) old ++ (map suc (mixedDigits (from i (n - i)) x) ++ drop (n - 1) old)
 
 pub unranked-none : (n x : ℕ) (old : List ℕ) → 1 ≤ n → Unranked n x old n old x
-unfolding left mixedDigits from
+unfolding quotient mixedDigits from
 unranked-none n x old h =
     let e : n - n ≡ 0 = omega arith in
     record { low = h; high = omega arith; rest = rw e refl; long = refl; lies = rw e (sym (take-append-drop (n - 1) old)) }
@@ -98,7 +98,7 @@ set-front old R k y h =
 pub unranked-more :
     {n x : ℕ} {old : List ℕ} {i : ℕ} {out : List ℕ} {v : ℕ} → Unranked n x old i out v → 1 < i → n ≤ length old + 1
     → Unranked n x old (i - 1) (set out (i - 1 - 1) (v % (i - 1) + 1)) (v / (i - 1))
-unfolding left mixedDigits from
+unfolding quotient mixedDigits from
 unranked-more {n} {x} {old} {i} {out} {v} u l h =
     let e : n - (i - 1) ≡ suc (n - i) = omega (arith, u .high) in
     let f : suc (i - 1) ≡ i = omega arith in
@@ -118,7 +118,7 @@ zero-cam zero x = refl
 zero-cam (suc zero) x = refl
 zero-cam (suc (suc n)) x =
     let e : suc (suc n) - 1 ≡ suc n = omega arith in
-    rw e (rw (mod-one (left (from 2 n) x)))
+    rw e (rw (mod-one (quotient (from 2 n) x)))
 
 pub unranked-all : {n x : ℕ} {old : List ℕ} {i : ℕ} {out : List ℕ} {v : ℕ} → Unranked n x old i out v → i ≤ 1 → out ≡ laidOver (zeroCam n x) old
 unfolding laidOver

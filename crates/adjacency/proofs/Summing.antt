@@ -89,13 +89,13 @@ pub rated-none : (N : ℕ) (E : List ℕ) → Rated N E 1 0
 unfolding aZero powers
 rated-none N E = record { low = omega arith; is = refl }
 
-pub rated-more : {N : ℕ} {E : List ℕ} {i x : ℕ} → Rated N E i x → i < N → Rated N E (i + 1) (x * 2 ^ i + bin E i)
+rated-more : {N : ℕ} {E : List ℕ} {i x : ℕ} → Rated N E i x → i < N → Rated N E (i + 1) (x * 2 ^ i + bin E i)
 unfolding mixed from
 rated-more {N} {E} {i} {x} r h =
     let e : N - i ≡ suc (N - (i + 1)) = omega arith in
     record { low = omega arith; is = rw (add-one i) (rw (e, add-one i) at (r .is)) }
 
-pub rated-fits : {R N : ℕ} {E : List ℕ} {i x : ℕ} → IsSkeleton aSize R N E → Rated N E i x → x < 2 ^ 55
+rated-fits : {R N : ℕ} {E : List ℕ} {i x : ℕ} → IsSkeleton aSize R N E → Rated N E i x → x < 2 ^ 55
 rated-fits {N = N} {E} {i} {x} s r =
     let a = mixed-le x (columns-below s i (N - i)) in
     let k : N * (N - 1) / 2 ≤ 55 = omega (arith, rows-few (s .few)) in

@@ -15,7 +15,7 @@ pub laid-none : (old : List ℕ) → laidOver [] old ≡ old
 unfolding laidOver
 laid-none old = refl
 
-pub laid-more : (c old : List ℕ) (m x : ℕ) → length c ≡ m → m < length old → set (laidOver c old) m x ≡ laidOver (c ++ (x ∷ [])) old
+laid-more : (c old : List ℕ) (m x : ℕ) → length c ≡ m → m < length old → set (laidOver c old) m x ≡ laidOver (c ++ (x ∷ [])) old
 unfolding laidOver
 laid-more c old m x e h =
     let l : length c < length old = omega arith in
@@ -42,7 +42,7 @@ unfolding laidOver
 laid-all c old e = rw (e, drop-length, append-nil)
 
 -- one number more
-pub from-more : (f : ℕ → ℕ) (i k : ℕ) → map f (from i (k + 1)) ≡ map f (from i k) ++ (f (i + k) ∷ [])
+from-more : (f : ℕ → ℕ) (i k : ℕ) → map f (from i (k + 1)) ≡ map f (from i k) ++ (f (i + k) ∷ [])
 unfolding from
 from-more f i zero = let e : i + 0 ≡ i = omega arith in rw e
 from-more f i (suc k) =
@@ -51,7 +51,7 @@ from-more f i (suc k) =
     rw (a, b) (ap (λ l. f i ∷ l) (from-more f (suc i) k))
 
 -- one entry more
-pub entries-more : (i k : ℕ) (c : List ℕ) → k < length c → entryEdges i (take (k + 1) c) ≡ entryEdges i (take k c) ++ (getD c k 0 ∷ (i + k + 1) ∷ [])
+entries-more : (i k : ℕ) (c : List ℕ) → k < length c → entryEdges i (take (k + 1) c) ≡ entryEdges i (take k c) ++ (getD c k 0 ∷ (i + k + 1) ∷ [])
 unfolding entryEdges
 entries-more i k [] h = absurd (let n : ⊥ = omega arith in n)
 entries-more i zero (x ∷ c) h = let a : suc i ≡ i + 0 + 1 = omega arith in rw (← a)

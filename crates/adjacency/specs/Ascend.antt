@@ -18,7 +18,7 @@ pub data Asc (t : ℕ) : ℕ → List ℕ → Type 0 where
   none : {r : ℕ} → Asc t r []
   more : {r x : ℕ} {S : List ℕ} → r ≤ x → x < t → Asc t (suc x) S → Asc t r (x ∷ S)
 
-pub asc-from : {t q r : ℕ} {S : List ℕ} → q ≤ r → Asc t r S → Asc t q S
+asc-from : {t q r : ℕ} {S : List ℕ} → q ≤ r → Asc t r S → Asc t q S
 asc-from h none = none
 asc-from {q = q} h (more {r} {x} a b s) = let k : q ≤ x = omega arith in more k b s
 

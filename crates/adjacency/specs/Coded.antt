@@ -27,7 +27,7 @@ lower-in (more {a} {b} {E} ha hb apart p) v w m = step (decLt a b) (ℕ-discrete
     step (no l) d (no n) rest = rest (rw (lower-pass a b v E (λ e. absurd (n (sym e))) (λ e. omega arith)) at m)
 
 -- where there is one, it is the first
-pub entry-in : {N : ℕ} {E : List ℕ} → Plain N E → (i : ℕ) → length (lower E (suc i)) ≡ 1 → (1 ≤ entry E i) × (entry E i ≤ i)
+entry-in : {N : ℕ} {E : List ℕ} → Plain N E → (i : ℕ) → length (lower E (suc i)) ≡ 1 → (1 ≤ entry E i) × (entry E i ≤ i)
 unfolding entry
 entry-in {E = E} p i h = step (lower E (suc i)) h (λ w m. lower-in p (suc i) w m)
   where

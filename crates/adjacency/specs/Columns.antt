@@ -36,7 +36,7 @@ module _ (f g : ℕ → List ℕ) (x m : ℕ) (at-m : g m ≡ x ∷ f m) (off : 
   past i zero h = refl
   past i (suc n) h = ap₂ (λ l k. tied (suc i) l ++ k) (off (suc i) (λ e. omega arith)) (past (suc i) n (omega arith))
 
-  pub one-more : (i n : ℕ) → i < m → m ≤ i + n → List·Permᴰ (arcs (byColumn g i n)) ((x, m) ∷ (m, x) ∷ arcs (byColumn f i n))
+  one-more : (i n : ℕ) → i < m → m ≤ i + n → List·Permᴰ (arcs (byColumn g i n)) ((x, m) ∷ (m, x) ∷ arcs (byColumn f i n))
   unfolding byColumn tied arcs
   one-more i zero h k = absurd (let n : ⊥ = omega arith in n)
   one-more i (suc n) h k = step (ℕ-discrete (suc i) m) (λ l. one-more (suc i) n l (omega arith))
@@ -83,7 +83,7 @@ columns-one E i (suc n) h =
     step (w ∷ u ∷ l) e k r = absurd (let n : ⊥ = omega arith in n)
 
 -- the columns of a physical numbering are its CAM's edges
-pub columns-cam : (N : ℕ) (E : List ℕ) → Physical N E → byColumn (lower E) 1 (N - 1) ≡ camEdges (cam N E)
+columns-cam : (N : ℕ) (E : List ℕ) → Physical N E → byColumn (lower E) 1 (N - 1) ≡ camEdges (cam N E)
 unfolding cam
 columns-cam N E p = columns-one E 1 (N - 1) (λ v a b. p .only v (omega arith) (omega arith))
 

@@ -40,7 +40,7 @@ lower-low none v h = lower-nil v
 lower-low (more {i} {x} a b k) v h =
     lower-pass x (suc i) v _ (λ e. omega arith) (λ e. absurd (let n : ⊥ = omega arith in n)) ∙ lower-low k v (omega arith)
 
-pub lower-at : {i : ℕ} {c : List ℕ} → Entries i c → (j : ℕ) → j < length c → lower (entryEdges i c) (i + suc j) ≡ getD c j 0 ∷ []
+lower-at : {i : ℕ} {c : List ℕ} → Entries i c → (j : ℕ) → j < length c → lower (entryEdges i c) (i + suc j) ≡ getD c j 0 ∷ []
 unfolding entryEdges
 lower-at none j h = absurd (let n : ⊥ = omega arith in n)
 lower-at (more {i} {x} a b k) zero h =

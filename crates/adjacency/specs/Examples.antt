@@ -6,7 +6,7 @@ use Prim.Native.Nat.{ℕ}
 use native.Mathlib.Decide.{ℕ-discrete, decLt}
 use Rattle.digit_code.specs.document.Code.{sum}
 use Rattle.skeleton.specs.document.Skeleton.{arcs, neighbours}
-use Rattle.adjacency.specs.document.Mixed.{mixed, mixedDigits, left}
+use Rattle.adjacency.specs.document.Mixed.{mixed, mixedDigits, quotient}
 use Rattle.adjacency.specs.document.Adjacency.{from, lower, entry, cam, entryEdges, camEdges, zeroA, zeroCam, columnSum, powers, aZero, rows, tied, columns, aEdges}
 
 abbrev given : List ℕ
@@ -31,14 +31,14 @@ of-chain = refl
 
 -- decoded
 from-zeroA : zeroCam 7 545 ≡ given
-unfolding from zeroCam mixedDigits left
+unfolding from zeroCam mixedDigits quotient
 from-zeroA = refl
 
 from-aZero : aEdges 7 1646688 ≡ camEdges given
-unfolding from entryEdges mixedDigits left powers rows tied columns aEdges
+unfolding from entryEdges mixedDigits quotient powers rows tied columns aEdges
 from-aZero = refl
 
 -- two rows in one column, ascending
 two-rows : aEdges 3 3 ≡ 1 ∷ 3 ∷ 2 ∷ 3 ∷ []
-unfolding from mixedDigits left powers rows tied columns aEdges
+unfolding from mixedDigits quotient powers rows tied columns aEdges
 two-rows = refl

@@ -22,13 +22,13 @@ unfolding entryEdges
 made-length i [] = refl
 made-length i (x ∷ c) = let e = made-length (suc i) c in omega arith
 
-pub made-one : (i : ℕ) (c : List ℕ) (j : ℕ) → j < length c → getD (entryEdges i c) (2 * j) 0 ≡ getD c j 0
+made-one : (i : ℕ) (c : List ℕ) (j : ℕ) → j < length c → getD (entryEdges i c) (2 * j) 0 ≡ getD c j 0
 unfolding entryEdges
 made-one i [] j h = absurd (let n : ⊥ = omega arith in n)
 made-one i (x ∷ c) zero h = refl
 made-one i (x ∷ c) (suc j) h = let e : 2 * suc j ≡ suc (suc (2 * j)) = omega arith in rw e (made-one (suc i) c j (omega arith))
 
-pub made-other : (i : ℕ) (c : List ℕ) (j : ℕ) → j < length c → getD (entryEdges i c) (2 * j + 1) 0 ≡ i + suc j
+made-other : (i : ℕ) (c : List ℕ) (j : ℕ) → j < length c → getD (entryEdges i c) (2 * j + 1) 0 ≡ i + suc j
 unfolding entryEdges
 made-other i [] j h = absurd (let n : ⊥ = omega arith in n)
 made-other i (x ∷ c) zero h = omega arith
@@ -63,7 +63,7 @@ camFront most N c = row3 most N ∷ row5-cam N c ∷ row6-cam c ∷ []
 abbrev pub edgeFront : ℕ → ℕ → List ℕ → List Row
 edgeFront most N E = row3 most N ∷ row5-edges N E ∷ row6 N E 1 ∷ []
 
-pub front-made : (most N : ℕ) (c : List ℕ) → 1 ≤ N → N ≤ most → length c ≡ N - 1 → Entries 1 c → Clear (edgeFront most N (camEdges c))
+front-made : (most N : ℕ) (c : List ℕ) → 1 ≤ N → N ≤ most → length c ≡ N - 1 → Entries 1 c → Clear (edgeFront most N (camEdges c))
 front-made most N c low high len k = clear-both three (clear-both five six)
   where
     three : Clear (row3 most N ∷ [])

@@ -8,7 +8,7 @@ use Prim.Native.Nat.{ℕ, suc, _+_, _*_, _≤_, _<_}
 use native.Mathlib.Nat.{div-add-mod', mod-lt, mul-assoc, mul-le-mul-left, mul-le-mul-right, lt-of-lt-of-le, div-lt-iff-lt-mul, one-mul, suc-mul}
 use native.Mathlib.Omega.{arith}
 use lib.Arith.{digits-div, digits-mod, lt-one}
-use Rattle.adjacency.specs.document.Mixed.{left, mixed, mixedDigits}
+use Rattle.adjacency.specs.document.Mixed.{quotient, mixed, mixedDigits}
 
 unfoldable pub product : List ℕ → ℕ
 product [] = 1
@@ -26,27 +26,27 @@ pub data Positive : List ℕ → Type 0 where
 
 -- ---- the digits of the number that digits make
 
-pub left-mixed : {bs ds : List ℕ} (a : ℕ) → Below bs ds → left bs (mixed a bs ds) ≡ a
-unfolding left mixed
-left-mixed a Below.none = refl
-left-mixed a (Below.more {b} {d} l h) = rw (left-mixed (a * b + d) h) (digits-div a l)
+quotient-mixed : {bs ds : List ℕ} (a : ℕ) → Below bs ds → quotient bs (mixed a bs ds) ≡ a
+unfolding quotient mixed
+quotient-mixed a Below.none = refl
+quotient-mixed a (Below.more {b} {d} l h) = rw (quotient-mixed (a * b + d) h) (digits-div a l)
 
 pub digits-mixed : {bs ds : List ℕ} (a : ℕ) → Below bs ds → mixedDigits bs (mixed a bs ds) ≡ ds
 unfolding mixedDigits mixed
 digits-mixed a Below.none = refl
-digits-mixed a (Below.more {b} {d} l h) = ap₂ (λ x y. x ∷ y) (rw (left-mixed (a * b + d) h) (digits-mod a l)) (digits-mixed (a * b + d) h)
+digits-mixed a (Below.more {b} {d} l h) = ap₂ (λ x y. x ∷ y) (rw (quotient-mixed (a * b + d) h) (digits-mod a l)) (digits-mixed (a * b + d) h)
 
 -- ---- the number that the digits of a number make
 
-pub mixed-digits : (bs : List ℕ) (v : ℕ) → mixed (left bs v) bs (mixedDigits bs v) ≡ v
-unfolding left mixedDigits mixed
+mixed-digits : (bs : List ℕ) (v : ℕ) → mixed (quotient bs v) bs (mixedDigits bs v) ≡ v
+unfolding quotient mixedDigits mixed
 mixed-digits [] v = refl
-mixed-digits (b ∷ bs) v = rw (div-add-mod' (left bs v) b) (mixed-digits bs v)
+mixed-digits (b ∷ bs) v = rw (div-add-mod' (quotient bs v) b) (mixed-digits bs v)
 
 pub digits-below : {bs : List ℕ} (v : ℕ) → Positive bs → Below bs (mixedDigits bs v)
 unfolding mixedDigits
 digits-below v Positive.none = Below.none
-digits-below v (Positive.more {bs = bs} l p) = Below.more (mod-lt (left bs v) l) (digits-below v p)
+digits-below v (Positive.more {bs = bs} l p) = Below.more (mod-lt (quotient bs v) l) (digits-below v p)
 
 -- ---- the range
 
@@ -57,17 +57,17 @@ mixed-lt a (Below.more {b} {d} {bs} l h) =
     let fits : suc (a * b + d) ≤ suc a * b = rw suc-mul (omega arith) in
     rw (← mul-assoc (suc a) b (product bs)) (lt-of-lt-of-le (mixed-lt (a * b + d) h) (mul-le-mul-right (product bs) fits))
 
-left-lt : {bs : List ℕ} (c v : ℕ) → Positive bs → v < c * product bs → left bs v < c
-unfolding left product
-left-lt c v Positive.none h = omega arith
-left-lt c v (Positive.more {b} {bs} l p) h = div-lt-iff-lt-mul l .1 (left-lt (c * b) v p (rw mul-assoc h))
+quotient-lt : {bs : List ℕ} (c v : ℕ) → Positive bs → v < c * product bs → quotient bs v < c
+unfolding quotient product
+quotient-lt c v Positive.none h = omega arith
+quotient-lt c v (Positive.more {b} {bs} l p) h = div-lt-iff-lt-mul l .1 (quotient-lt (c * b) v p (rw mul-assoc h))
 
-pub left-none : {bs : List ℕ} {v : ℕ} → Positive bs → v < product bs → left bs v ≡ 0
-left-none {bs} {v} p h = lt-one (left-lt 1 v p (rw one-mul h))
+quotient-none : {bs : List ℕ} {v : ℕ} → Positive bs → v < product bs → quotient bs v ≡ 0
+quotient-none {bs} {v} p h = lt-one (quotient-lt 1 v p (rw one-mul h))
 
 -- every number of the range is that of its digits
 pub from-digits : {bs : List ℕ} {v : ℕ} → Positive bs → v < product bs → mixed 0 bs (mixedDigits bs v) ≡ v
-from-digits {bs} {v} p h = rw (left-none p h) at (mixed-digits bs v)
+from-digits {bs} {v} p h = rw (quotient-none p h) at (mixed-digits bs v)
 
 -- values only grow on the way
 pub mixed-le : {bs ds : List ℕ} (a : ℕ) → Below bs ds → a ≤ mixed a bs ds

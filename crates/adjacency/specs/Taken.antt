@@ -59,7 +59,7 @@ module _ {most R N : ℕ} {E : List ℕ} (s : IsSkeleton most R N E) where
   unfolding aZero powers
   a-range = rw (← product-powers N) (rw one-mul at (mixed-lt 0 (columns-below 1 (N - 1))))
 
-  pub a-digits : mixedDigits (powers N) (aZero N E) ≡ map (bin E) (from 1 (N - 1))
+  a-digits : mixedDigits (powers N) (aZero N E) ≡ map (bin E) (from 1 (N - 1))
   unfolding aZero powers
   a-digits = digits-mixed 0 (columns-below 1 (N - 1))
 
@@ -113,15 +113,15 @@ columns-again n c e b = rw (← e) (map-from (bin (columns 1 c)) 1 c again)
         let k = rw (pows-at 1 n j (omega arith)) at (below-at b j l) in
         rw (z, lower-columns 1 c j l) (bits-rows (1 + j) (getD c j 0) k)
 
-pub digits-long : (N x : ℕ) → length (mixedDigits (powers N) x) ≡ N - 1
+digits-long : (N x : ℕ) → length (mixedDigits (powers N) x) ≡ N - 1
 unfolding powers
 digits-long N x = digits-length (pows 1 (N - 1)) x ∙ length-map (λ i. 2 ^ i) (from 1 (N - 1)) ∙ from-length 1 (N - 1)
 
-pub powers-below : (N x : ℕ) → Below (powers N) (mixedDigits (powers N) x)
+powers-below : (N x : ℕ) → Below (powers N) (mixedDigits (powers N) x)
 unfolding powers
 powers-below N x = digits-below x (pows-positive 1 (N - 1))
 
-pub powers-digits : (N x : ℕ) → x < 2 ^ (N * (N - 1) / 2) → mixed 0 (powers N) (mixedDigits (powers N) x) ≡ x
+powers-digits : (N x : ℕ) → x < 2 ^ (N * (N - 1) / 2) → mixed 0 (powers N) (mixedDigits (powers N) x) ≡ x
 unfolding powers
 powers-digits N x h = from-digits (pows-positive 1 (N - 1)) (rw (product-powers N) h)
 

@@ -21,7 +21,7 @@ unfolding from
 from-length i zero = refl
 from-length i (suc n) = ap suc (from-length (suc i) n)
 
-pub from-positive : (i n : ℕ) → 1 ≤ i → Positive (from i n)
+from-positive : (i n : ℕ) → 1 ≤ i → Positive (from i n)
 unfolding from
 from-positive i zero h = Positive.none
 from-positive i (suc n) h = Positive.more h (from-positive (suc i) n (omega arith))
@@ -41,7 +41,7 @@ factorial-one : factorial 1 ≡ 1
 unfolding factorial
 factorial-one = refl
 
-pub product-from : (n : ℕ) → product (from 2 n) ≡ factorial (suc n)
+product-from : (n : ℕ) → product (from 2 n) ≡ factorial (suc n)
 product-from n =
     let e : 1 + n ≡ suc n = omega arith in
     sym (one-mul (product (from 2 n))) ∙ (rw (factorial-one, e) at (factorial-from 1 n))

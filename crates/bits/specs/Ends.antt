@@ -38,7 +38,7 @@ ends-more {c} {e} ds h =
       not-before = λ i l. let j : i ≤ length c = omega (arith, h .within) in rw (take-append-le i c ds j) (h .not-before i l);
     }
 
-pub ends-part : (c ds : List ℕ) {e : ℕ} → e ≤ length c → EndsAt (c ++ ds) e → EndsAt c e
+ends-part : (c ds : List ℕ) {e : ℕ} → e ≤ length c → EndsAt (c ++ ds) e → EndsAt c e
 ends-part c ds {e} w h =
     record {
       within = w;

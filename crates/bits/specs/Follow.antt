@@ -1,12 +1,11 @@
 -- What follows a code's end in each form, as the code tests it: a shift to the left and a comparison with 0.
 --
 -- In order: the low bits of a word; a whole number or fraction; a packed code. Assumes nothing.
-use mathlib.Core.Path.{_≡_, refl, sym, ap, _∙_}
-use mathlib.Core.Bool.{Bool, true, false, true≢false}
+use mathlib.Core.Path.{_≡_, sym, ap, _∙_}
+use mathlib.Core.Bool.{Bool, true, false}
 use mathlib.Core.List.{List, [], _∷_, _++_, append-nil}
 use Prim.Native.Nat.{ℕ, suc, _+_, _-_, _*_, _/_, _%_, _^_, _≤_, _<_}
 use native.Mathlib.Nat.{mod-mod, zero-mod}
-use native.Mathlib.Decide.{decLt}
 use native.Mathlib.Omega.{arith}
 use lib.Dec.{lit<}
 use lib.ListN.{length, take, drop, getD, replicate, length-replicate, length-drop, replicate-append-replicate, drop-of-length-le}
@@ -112,24 +111,3 @@ module _ (s : List ℕ) (e : ℕ) (o : 1 ≤ e) (h : 2 * e ≤ 8 * length s + 1)
         n (rw k at (low-zeros (8 - r) r x w))
 
 -- ---- which it is
-
-pub dec-zeros : (fs : List Bool) → Dec (Zeros fs)
-dec-zeros [] = yes refl
-dec-zeros (true ∷ fs) = no (λ e. true≢false (ap (λ (l : List Bool). getD l 0 true) e))
-dec-zeros (false ∷ fs) = go (dec-zeros fs)
-  where
-    go : Dec (Zeros fs) → Dec (Zeros (false ∷ fs))
-    go (yes e) = yes (ap {B = List Bool} (λ l. false ∷ l) e)
-    go (no n) = no (λ e. n (ap (drop 1) e))
-
-pub dec-fill : (fs : List Bool) → Dec (Fill fs)
-dec-fill fs = go (dec-zeros fs) (decLt (length fs) 8)
-  where
-    go : Dec (Zeros fs) → Dec (length fs < 8) → Dec (Fill fs)
-    go (yes z) (yes l) = yes (z, l)
-    go (yes z) (no l) = no (λ f. l (f .1))
-    go (no z) l = no (λ f. z (f .0))
-
-pub dec-nothing : (fs : List Bool) → Dec (Nothing fs)
-dec-nothing [] = yes refl
-dec-nothing (b ∷ fs) = no (λ e. omega (arith, ap length e))

@@ -16,7 +16,7 @@ use Rattle.bits.specs.document.Bits.{bits, digitsFrom, cutFrom, wholeDig
 use Rattle.bits.specs.Ends.{end-sum, ends-more}
 
 -- ones and a zero behind n ones that are passed make one digit
-pub one-digit : (n k : ℕ) (bs : List Bool) → digitsFrom n (replicate k true ++ (false ∷ bs)) ≡ (n + k) ∷ wholeDigits bs
+one-digit : (n k : ℕ) (bs : List Bool) → digitsFrom n (replicate k true ++ (false ∷ bs)) ≡ (n + k) ∷ wholeDigits bs
 unfolding digitsFrom
 one-digit n zero bs = rw add-zero
 one-digit n (suc k) bs = one-digit (suc n) k bs ∙ rw (suc-add, add-suc)
@@ -55,9 +55,9 @@ length-bits [] = refl
 length-bits (k ∷ ds) = simp (length-append, length-replicate) (omega (arith, length-bits ds))
 
 -- the bits begin with those of the digits
-pub record Begins (bs : List Bool) (ds : List ℕ) : Type 0 where
-  pub rest : List Bool
-  pub same : bs ≡ bits ds ++ rest
+record Begins (bs : List Bool) (ds : List ℕ) : Type 0 where
+  rest : List Bool
+  same : bs ≡ bits ds ++ rest
 
 ones-more : (n : ℕ) (bs : List Bool) → replicate n true ++ (true ∷ bs) ≡ true ∷ (replicate n true ++ bs)
 ones-more zero bs = refl
@@ -73,7 +73,7 @@ front n (false ∷ bs) (suc e) h =
     record { rest = r .rest; same = rw append-assoc (ap {B = List Bool} (λ l. replicate n true ++ (false ∷ l)) (r .same)) }
 
 -- the first e whole digits that are read are the input's
-pub begins : (bs : List Bool) (e : ℕ) → e ≤ length (wholeDigits bs) → bs ≡ bits (take e (wholeDigits bs)) ++ drop (e + sum (take e (wholeDigits bs))) bs
+begins : (bs : List Bool) (e : ℕ) → e ≤ length (wholeDigits bs) → bs ≡ bits (take e (wholeDigits bs)) ++ drop (e + sum (take e (wholeDigits bs))) bs
 begins bs e h =
     let r = front 0 bs e h in
     let c = take e (wholeDigits bs) in

@@ -29,22 +29,22 @@ module _ (c : List ℕ) (fs : List Bool) (h : EndsAt c (length c)) where
       let k : p - 1 < length (wholeDigits (bits c ++ fs)) = rw read-bits (simp length-append (omega arith)) in
       List·getD-append (wholeDigits (bits c ++ fs)) _ 0 (p - 1) k ∙ rw read-bits (List·getD-append c (wholeDigits fs) 0 (p - 1) (omega arith))
 
-  pub ten-digits : (R p : ℕ) → row10-bits R (bits c ++ fs) .applies p → code.row10 R c .applies p
+  ten-digits : (R p : ℕ) → row10-bits R (bits c ++ fs) .applies p → code.row10 R c .applies p
   ten-digits R p a =
       let g : p ≤ length c = a .2 (length c) (code-ends fs h) in
       (a .0, g, rw (digit-is p (a .0) g) at (a .3))
 
-  pub ten-bits : (R p : ℕ) → code.row10 R c .applies p → row10-bits R (bits c ++ fs) .applies p
+  ten-bits : (R p : ℕ) → code.row10 R c .applies p → row10-bits R (bits c ++ fs) .applies p
   ten-bits R p a =
       let n : p ≤ length (runs (bits c ++ fs)) = simp length-append (rw read-bits (simp length-append (omega (arith, a .1)))) in
       (a .0, n, (λ e w. rw (end-is e w) (a .1)), rw (digit-is p (a .0) (a .1)) (a .2))
 
-  pub thirteen-digits : (p : ℕ) → row13-bits (bits c ++ fs) .applies p → Larger plain c p
+  thirteen-digits : (p : ℕ) → row13-bits (bits c ++ fs) .applies p → Larger plain c p
   thirteen-digits p a =
       let z : take (a .0) (wholeDigits (bits c ++ fs)) ≡ c = rw (end-is (a .0) (a .1)) (code-read c fs) in
       rw z at (a .2)
 
-  pub thirteen-bits : (p : ℕ) → Larger plain c p → row13-bits (bits c ++ fs) .applies p
+  thirteen-bits : (p : ℕ) → Larger plain c p → row13-bits (bits c ++ fs) .applies p
   thirteen-bits p a = (length c, code-ends fs h, rw code-read a)
 
   never-eleven : (p : ℕ) → code.row11 c .applies p → ⊥
@@ -64,7 +64,7 @@ module _ (c : List ℕ) (fs : List Bool) (h : EndsAt c (length c)) where
   never-more May m p a = a .1 (rw (end-is (p - 1) (a .0), after-code c fs h) m)
 
   -- the bits are refused as the digits are
-  pub rows-alike : (R : ℕ) (May : List Bool → Type 0) → May fs → Alike (digitRows R c) (bitRows R May (bits c ++ fs))
+  rows-alike : (R : ℕ) (May : List Bool → Type 0) → May fs → Alike (digitRows R c) (bitRows R May (bits c ++ fs))
   rows-alike R May m =
       record {
         rows = (

@@ -4,6 +4,7 @@ use mathlib.Core.Path.{_≡_, refl}
 use mathlib.Core.Bool.{Bool, true, false}
 use Prim.Native.Nat.{ℕ, _+_, _-_, _%_, _≤_}
 use native.Mathlib.Omega.{arith}
+use Rattle.limits.specs.Atoms.{atomNames, atomBonds}
 use Rattle.skeleton.specs.Label.{Marks}
 use Rattle.skeleton.specs.Base.{base}
 use Rattle.skeleton.specs.Atoms.{Atom, C, N, O, rank, named, bonds, atoms, rank-named}
@@ -16,22 +17,22 @@ kinds true = atoms
 -- R is the limit where the marks are plain
 abbrev pub limits : Bool → ℕ → ℕ → ℕ
 limits false R m = R
-limits true R m = bonds (named (m % 3))
+limits true R m = bonds (named (m % atomNames))
 
 -- between a mark and that of one child more
 abbrev pub unit : Bool → ℕ
 unit false = 1
-unit true = 3
+unit true = atomNames
 
-bonds-rank : (a : Atom) → bonds a ≡ 4 - rank a
+bonds-rank : (a : Atom) → bonds a ≡ atomBonds - rank a
 bonds-rank C = refl
 bonds-rank N = refl
 bonds-rank O = refl
 
-bonds-are : (m : ℕ) → 4 - m % 3 ≡ bonds (named (m % 3))
+bonds-are : (m : ℕ) → atomBonds - m % atomNames ≡ bonds (named (m % atomNames))
 bonds-are m = omega (arith, bonds-rank (named (m % 3)), rank-named (m % 3) (omega arith))
 
-pub limits-named : {b : Bool} (R m : ℕ) → b ≡ true → 4 - m % 3 ≡ limits b R m
+pub limits-named : {b : Bool} (R m : ℕ) → b ≡ true → atomBonds - m % atomNames ≡ limits b R m
 limits-named R m e = rw e (bonds-are m)
 
 pub limits-plain : {b : Bool} (R m : ℕ) → b ≡ false → R ≡ limits b R m
@@ -45,9 +46,13 @@ pub more-is : (b : Bool) (m : ℕ) → more (kinds b) m ≡ m + unit b
 more-is false m = omega arith
 more-is true m = omega (arith, atoms .mark-of m)
 
-pub fewer-is : (b : Bool) (m : ℕ) → 1 ≤ kinds b .arity m → fewer (kinds b) m ≡ m - unit b
+fewer-is : (b : Bool) (m : ℕ) → 1 ≤ kinds b .arity m → fewer (kinds b) m ≡ m - unit b
 fewer-is false m h = refl
 fewer-is true m h = omega (arith, atoms .mark-of m)
+
+-- the same by the unit as it was looked up
+pub fewer-by : (b : Bool) (m r : ℕ) → r ≡ unit b → 1 ≤ kinds b .arity m → fewer (kinds b) m ≡ m - r
+fewer-by b m r e h = rw e (fewer-is b m h)
 
 -- a mark that tells of a child is not below the unit
 pub unit-fits : (b : Bool) (m : ℕ) → 1 ≤ kinds b .arity m → unit b ≤ m

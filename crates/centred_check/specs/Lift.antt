@@ -43,7 +43,7 @@ heights-forest (tree v d f) ds =
     (ap top (take-at (talls d) (talls f ++ heights ds) (width d) (talls-length d)) ∙ top-talls d)
     (drop-at (talls d) (talls f ++ heights ds) (width d) (talls-length d))
 
-pub falling-tail : (c : List ℕ) (l : List (List ℕ)) → Falling (c ∷ l) → Falling l
+falling-tail : (c : List ℕ) (l : List (List ℕ)) → Falling (c ∷ l) → Falling l
 falling-tail c [] f = tt
 falling-tail c (d ∷ l) f = f .1
 

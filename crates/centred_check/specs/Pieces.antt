@@ -17,7 +17,7 @@ use Rattle.digit_code.specs.Compare.{pick, further, lex, pairsOf, looked-few, C
 use Rattle.digit_code.specs.Comparing.{further-none, further-more}
 
 -- the second answer where the first is that both are equal
-abbrev pub andThen : Order → Order → Order
+abbrev andThen : Order → Order → Order
 andThen (Less n) o = Less n
 andThen (Equal n) o = further n o
 andThen (Greater n) o = Greater n
@@ -33,7 +33,7 @@ then-pick false true o p = refl
 then-pick false false o p = then-further o p
 
 -- u against a and w behind it
-pub lex-behind : (u a w : List ℕ) → length a ≤ length u → lex u (a ++ w) ≡ andThen (lex (take (length a) u) a) (lex (drop (length a) u) w)
+lex-behind : (u a w : List ℕ) → length a ≤ length u → lex u (a ++ w) ≡ andThen (lex (take (length a) u) a) (lex (drop (length a) u) w)
 unfolding lex
 lex-behind u [] w h = further-none (lex u w)
 lex-behind [] (y ∷ a) w h = let z : ⊥ = omega arith in absurd z

@@ -74,13 +74,13 @@ module _ {arity : ℕ → ℕ} {c st : List ℕ} {i at : ℕ} (l : Placed arity 
     next : at + suc m ≡ j + 1
     next = omega arith
 
-    pub place-some : getD st j 0 < getD st (j + 1) 0
+    place-some : getD st j 0 < getD st (j + 1) 0
     place-some = subst₂ (λ (a b : ℕ). getD st a 0 < getD st b 0) here next (tree-some m (omega arith))
 
-    pub place-within : getD st (j + 1) 0 ≤ length c
+    place-within : getD st (j + 1) 0 ≤ length c
     place-within = subst (λ (a : ℕ). getD st a 0 ≤ length c) next (l .starts (suc m) (omega arith) .within)
 
-    pub place-part : getD (codes arity (drop i c)) (j - at) [] ≡ part (getD st j 0) (getD st (j + 1) 0) c
+    place-part : getD (codes arity (drop i c)) (j - at) [] ≡ part (getD st j 0) (getD st (j + 1) 0) c
     place-part = subst₂ (λ (a b : ℕ). getD (codes arity (drop i c)) m [] ≡ part (getD st a 0) (getD st b 0) c) here next (tree-part m (omega arith))
 
   -- one mark more, whose children are the first of them

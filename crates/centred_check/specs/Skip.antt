@@ -57,7 +57,7 @@ module _ {arity : ℕ → ℕ} {c : List ℕ} {i m j places : ℕ} (s : Skipping
       step (no n) = let z : ⊥ = omega (arith, s .some, ap length (codes-past arity c j (omega arith))) in absurd z
 
   module _ (whole : Ends 1 (digits arity c)) (h : 0 < places) where
-    pub skip-room : places - 1 + arity (getD c j 0) ≤ length (codes arity (drop (suc j) c))
+    skip-room : places - 1 + arity (getD c j 0) ≤ length (codes arity (drop (suc j) c))
     skip-room =
         let l : j < length c = skip-inside h in
         omega (arith, s .some, ap length (codes-at arity c j l), length-drop (arity (getD c j 0)) (codes arity (drop (suc j) c)), enough arity c whole j l)

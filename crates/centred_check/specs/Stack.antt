@@ -32,7 +32,7 @@ top-drop (suc k) [] = omega arith
 top-drop (suc k) (h ∷ l) = omega (arith, top-drop k l)
 
 -- no tree is taller than its digits are many
-pub heights-low : (ds : List ℕ) → top (heights ds) ≤ length ds
+heights-low : (ds : List ℕ) → top (heights ds) ≤ length ds
 unfolding heights top
 heights-low [] = omega arith
 heights-low (k ∷ ds) = omega (arith, top-take k (heights ds), top-drop k (heights ds), heights-low ds)

@@ -38,7 +38,7 @@ module _ (M : Marks) (c : List ℕ) (h : Ends 1 (digits M c)) where
 
 -- Marks are the centred code of what they decode to exactly when their digits end, no child's code is larger than that of the sibling
 -- before it, and the root is in the centre with no larger code there.
-pub fast-iffₗ : (M : Marks) (c : List ℕ) → (Ends 1 (digits M c) × Ordered (M .arity) c × Middle M c) ↔ (Ends 1 (digits M c) × Own M (centredₗ M) c)
+fast-iffₗ : (M : Marks) (c : List ℕ) → (Ends 1 (digits M c) × Ordered (M .arity) c × Middle M c) ↔ (Ends 1 (digits M c) × Own M (centredₗ M) c)
 fast-iffₗ M c = (
   λ (h, o, m). (h, middle-centred M c h (decode-code M c .0 (code-orderedₗ M c .1 (h, o)) .1) .0 m),
   λ (h, k).

@@ -3,6 +3,8 @@
 // plain code's marks are its digits, and one slice is lent as both.
 use digit_code::Order;
 use digit_code::compare;
+use limits::ATOMS;
+use limits::BONDS;
 use limits::SIZE;
 use refusal::Check;
 ghost use mathlib.Core.Path.{_≡_};
@@ -35,11 +37,6 @@ ghost use Rattle.centred_check.specs.Spot.{Spot};
 
 // Places for where the trees on the stack begin, one for each, and one more for where the digits end. No place of the stack has this number.
 const STARTS: usize = SIZE + 1;
-
-// Atoms that a mark can name, and the neighbours that the first of them may have.
-const ATOMS: u8 = 3;
-
-const BONDS: u8 = 4;
 
 // How many neighbours the vertex of mark m may have.
 fn most(named: bool, limit: u8, m: u8) -> u8

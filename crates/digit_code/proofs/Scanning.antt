@@ -28,7 +28,7 @@ module _ {arity : ℕ → ℕ} {c ends : List ℕ} {i j m e : ℕ} (known : Know
   within = more-left c i p (omega (arith, enough arity c (known .whole) i inside))
 
   -- the part that begins there
-  pub child : Ending arity c e (getD ends e 0)
+  child : Ending arity c e (getD ends e 0)
   child = known .ending e (omega (arith, p .behind)) within
 
   pub pass : Passing arity c i (m + 1) (getD ends e 0)

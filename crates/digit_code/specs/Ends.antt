@@ -41,7 +41,7 @@ ends-open zero [] h i l = omega arith
 ends-open (suc w) (k ∷ ds) h zero l = omega arith
 ends-open (suc w) (k ∷ ds) h (suc i) l = omega (arith, ends-open (k + w) ds h i (omega arith))
 
-pub ends-from : (w : ℕ) (c : List ℕ) → sum c + w ≤ length c → ((i : ℕ) → i < length c → i < sum (take i c) + w) → Ends w c
+ends-from : (w : ℕ) (c : List ℕ) → sum c + w ≤ length c → ((i : ℕ) → i < length c → i < sum (take i c) + w) → Ends w c
 unfolding sum
 ends-from zero [] t o = tt
 ends-from zero (k ∷ ds) t o = let z : ⊥ = omega (arith, o 0 (omega arith)) in z

@@ -41,7 +41,7 @@ module _ (arity : ℕ → ℕ) where
   codes-count (suc w) (m ∷ ms) h = ap suc (length-drop (arity m) (codes arity ms) ∙ (let e = codes-count (arity m + w) ms h in omega arith))
 
   -- what is left of marks whose digits end fills the places open there
-  pub ends-drop : (w : ℕ) (c : List ℕ) → Ends w (digits arity c) → (i : ℕ) → (n : ℕ) × Ends n (digits arity (drop i c))
+  ends-drop : (w : ℕ) (c : List ℕ) → Ends w (digits arity c) → (i : ℕ) → (n : ℕ) × Ends n (digits arity (drop i c))
   ends-drop w c h zero = (w, h)
   ends-drop zero [] h (suc i) = (0, tt)
   ends-drop (suc w) (m ∷ ms) h (suc i) = ends-drop (arity m + w) ms h i

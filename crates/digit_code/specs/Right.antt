@@ -1,20 +1,17 @@
--- A right rooted code, on its digits alone, and its laws.
---
--- In order: what it is, and that this is what no row refuses; N digits with the sum N - 1; it ends at its last digit and nowhere before;
--- none is a proper prefix of another; each part of it is a right code. Assumes nothing.
+-- A right rooted code, on its digits alone: what it is, the same over marks, and that this is what no row refuses. Assumes nothing.
 use mathlib.Core.Path.{_≡_, subst}
 use mathlib.Core.Logic.{_↔_, ⊎-elim}
-use mathlib.Core.List.{List, [], _∷_, _++_}
-use Prim.Native.Nat.{ℕ, _+_, _≤_, _<_}
+use mathlib.Core.List.{List, [], _∷_}
+use Prim.Native.Nat.{ℕ, _≤_, _<_}
 use native.Mathlib.Omega.{arith}
 use lib.ListN.{length}
 use Rattle.refusal.specs.document.Table.{Clear, row3}
 use Rattle.refusal.specs.Laws.{clear-one, clear-both, clear-left, never, others, at-most, at-least}
-use Rattle.digit_code.specs.document.Code.{plain, digit, sum, EndsAt, cap, row10, row11, row12, row13, codeRows}
+use Rattle.digit_code.specs.document.Code.{plain, digit, cap, row10, row11, row12, row13, codeRows}
 use Rattle.digit_code.specs.Digits.{digits}
-use Rattle.digit_code.specs.Ends.{Ends, digits-plain, plain-ends, ends-iff, ends-sum, prefix-free}
+use Rattle.digit_code.specs.Ends.{Ends, digits-plain, plain-ends, ends-iff}
 use Rattle.digit_code.specs.Ordered.{Ordered, never-larger}
-use Rattle.digit_code.specs.Counting.{clear-ends, ends-whole, one-end}
+use Rattle.digit_code.specs.Counting.{clear-ends, ends-whole}
 
 -- a right rooted code of at most `most` digits, the root's at most R and every other at most R - 1
 pub record RightCode (most R : ℕ) (c : List ℕ) : Type 0 where
@@ -71,22 +68,3 @@ module _ (most R : ℕ) (c : List ℕ) where
         ends = ends-iff c .1 (clear-ends (clear-left (row11 c ∷ row12 c ∷ []) (row13 plain c ∷ []) (others (others k))));
         ordered = never-larger plain c .1 (never (others (others (others (others k)))));
       }
-
--- ---- laws
-
-module _ {most R : ℕ} {c : List ℕ} (r : RightCode most R c) where
-  -- a right code of N digits has the sum N - 1
-  pub right-sum : sum c + 1 ≡ length c
-  right-sum = ends-sum 1 c (r .ends)
-
-  -- it ends at its last digit
-  pub right-end : EndsAt c (length c)
-  right-end = ends-iff c .0 (r .ends)
-
-  -- and nowhere before
-  pub right-only-end : (e : ℕ) → EndsAt c e → e ≡ length c
-  right-only-end e a = one-end a right-end
-
-  -- none is a proper prefix of another
-  pub right-prefix : {m S : ℕ} (s : List ℕ) → RightCode m S (c ++ s) → s ≡ []
-  right-prefix s q = prefix-free 1 c s (r .ends) (q .ends)

@@ -47,10 +47,10 @@ holds-none N s =
 -- ---- one arc more
 
 module _ (A : List Arc) (a b v : ℕ) where
-  pub arc-hit : a ≡ v → neighbours (A ++ ((a, b) ∷ [])) v ≡ neighbours A v ++ (b ∷ [])
+  arc-hit : a ≡ v → neighbours (A ++ ((a, b) ∷ [])) v ≡ neighbours A v ++ (b ∷ [])
   arc-hit e = neighbours-append A ((a, b) ∷ []) v ∙ ap (λ l. neighbours A v ++ l) (neighbours-hit a b v [] e ∙ ap (λ l. b ∷ l) (neighbours-nil v))
 
-  pub arc-miss : (a ≡ v → ⊥) → neighbours (A ++ ((a, b) ∷ [])) v ≡ neighbours A v
+  arc-miss : (a ≡ v → ⊥) → neighbours (A ++ ((a, b) ∷ [])) v ≡ neighbours A v
   arc-miss n = neighbours-append A ((a, b) ∷ []) v ∙ ap (λ l. neighbours A v ++ l) (neighbours-miss a b v [] n ∙ neighbours-nil v) ∙ append-nil _
 
 shaped-more : (t : List (List ℕ)) (d : List ℕ) (i k b x : ℕ) → Shaped t d → i < size → Shaped (set t i (set (getD t i []) k b)) (set d i x)
@@ -118,7 +118,7 @@ module _
         rw (getD-set-other t (a - 1) i (grown t d a b) [] n)
         (h .rest i j l (rw (getD-set-other d (a - 1) i (raised d a) 0 n) at m) o)
 
-    pub holds-more : {t′ : List (List ℕ)} {d′ : List ℕ} → Added a b t d t′ d′ → Holds N (A ++ ((a, b) ∷ [])) t′ d′
+    holds-more : {t′ : List (List ℕ)} {d′ : List ℕ} → Added a b t d t′ d′ → Holds N (A ++ ((a, b) ∷ [])) t′ d′
     holds-more p =
         rw (p .rows, p .degs)
         (record {

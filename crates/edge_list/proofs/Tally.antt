@@ -11,7 +11,7 @@ use Rattle.edge_list.specs.document.Edges.{Edge, firstEnd, secondEnd, be
 use Rattle.edge_list.specs.Prefix.{hit, hit-same, hit-other, degree-more, degree-none}
 
 -- one more at a
-pub bump : (l : List ℕ) (a v : ℕ) → a < length l → getD (set l a (getD l a 0 + 1)) v 0 ≡ getD l v 0 + hit a v
+bump : (l : List ℕ) (a v : ℕ) → a < length l → getD (set l a (getD l a 0 + 1)) v 0 ≡ getD l v 0 + hit a v
 bump l a v h = step (ℕ-discrete a v)
   where
     step : Dec (a ≡ v) → getD (set l a (getD l a 0 + 1)) v 0 ≡ getD l v 0 + hit a v

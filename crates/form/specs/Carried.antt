@@ -37,7 +37,7 @@ module _ (N : ℕ) (E F : List ℕ) (t : IsTree N E) (ρ : Renumbering N E F) wh
   rooted-carried v h k =
       sym (rooted-base (λ v. tt) N E v) ∙ rooted-carriedₗ base N E F (λ v. tt) (λ v. tt) t ρ (λ v a b. refl) v h k ∙ rooted-base (λ v. tt) N F (ρ .to v)
 
-  pub degree-carried : (v : ℕ) → 1 ≤ v → v ≤ N → degree E v ≡ degree F (ρ .to v)
+  degree-carried : (v : ℕ) → 1 ≤ v → v ≤ N → degree E v ≡ degree F (ρ .to v)
   degree-carried v h k =
       let s : Rooted N E v = rooted-tree N E v t h k in
       sym (root-digit N E v s) ∙ ap (λ c. digit c 1) (rooted-carried v h k) ∙ root-digit N F (ρ .to v) (renumbered N E F ρ v s)

@@ -78,7 +78,7 @@ module _ (N : ℕ) (E : List ℕ) (t : IsTree N E) where
   few-left (u ∷ v ∷ w ∷ l) k a h i = let z : ⊥ = omega arith in absurd z
 
   -- where n rounds leave one vertex, or two, the larger of their codes is the centred one
-  pub peeled : (at : ℕ → List ℕ) (n : ℕ) → let l = left E n (upTo N) in 1 ≤ length l → length l ≤ 2 → Centred N E at (larger (at (middle₁ l)) (at (middle₂ l)))
+  peeled : (at : ℕ → List ℕ) (n : ℕ) → let l = left E n (upTo N) in 1 ≤ length l → length l ≤ 2 → Centred N E at (larger (at (middle₁ l)) (at (middle₂ l)))
   unfolding larger
   peeled at n h i =
       let l : List ℕ = left E n (upTo N) in

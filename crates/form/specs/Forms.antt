@@ -1,8 +1,7 @@
 -- What the N-tuple code and the centred code have in common (`IsForm`), and what follows from that alone.
 --
 -- In order: the form, which is that of `Labelled` at one label, and that both are one; what the code of a tree is and decodes to; that
--- equal codes come from the same skeleton; whether digits are of the form. What the refusal table lets pass of them is in `Accepted`.
--- Assumes nothing.
+-- equal codes come from the same skeleton. What the refusal table lets pass of them is in `Accepted`. Assumes nothing.
 use mathlib.Core.Path.{_≡_, refl, sym, _∙_, subst}
 use mathlib.Core.Logic.{_↔_}
 use mathlib.Core.List.{List}
@@ -16,7 +15,7 @@ use Rattle.skeleton.specs.Label.{rootedₗ}
 use Rattle.skeleton.specs.Base.{base, rooted-base, digits-base}
 use Rattle.skeleton.specs.Theorems.{decode-code}
 use Rattle.form.specs.document.Form.{NTuple, Centred, nTuple, centred}
-use Rattle.form.specs.Labelled.{IsFormₗ, n-tuple-formₗ, centred-formₗ, form-sizeₗ, form-decodedₗ, form-againₗ, form-verdictₗ, form-decidedₗ}
+use Rattle.form.specs.Labelled.{IsFormₗ, n-tuple-formₗ, centred-formₗ, form-sizeₗ, form-decodedₗ, form-againₗ, form-verdictₗ}
 
 -- c is the rooted code of the tree at one of its vertices
 abbrev pub AtRoot : ℕ → List ℕ → List ℕ → Type 0
@@ -43,7 +42,7 @@ labelled f = record {
 }
 
 -- and nothing else is
-pub unlabelled : {form : ℕ → List ℕ → List ℕ → Type 0} → IsFormₗ base (λ N E l c. form N E c) → IsForm form
+unlabelled : {form : ℕ → List ℕ → List ℕ → Type 0} → IsFormₗ base (λ N E l c. form N E c) → IsForm form
 unlabelled f = record {
   one = λ {N} {E} {c} {d} t x y. f .one N E (λ v. tt) t x y;
   some = λ N E t. f .some N E (λ v. tt) t;
@@ -88,7 +87,3 @@ module _ (form : ℕ → List ℕ → List ℕ → Type 0) (f : IsForm form) whe
   form-verdict N P E F c d t u x y =
       let (there, back) = form-verdictₗ base (λ N E l c. form N E c) (labelled f) N P E F (λ v. tt) (λ v. tt) c d t u x y in
       (λ e. let (n, (ρ, k)) = there e in (n, ρ), λ (n, ρ). back (n, (ρ, λ v a b. refl)))
-
-  -- digits that end are of the form, or are not
-  pub form-decided : (c : List ℕ) → Ends 1 c → Dec (form (length c) (decode c) c)
-  form-decided c h = rw digits-base at (form-decidedₗ base (λ N E l c. form N E c) (labelled f) c (rw digits-base h))

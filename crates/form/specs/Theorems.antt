@@ -6,13 +6,11 @@ use Prim.Native.Nat.{ℕ}
 use lib.ListN.{length}
 use Rattle.refusal.specs.document.Table.{Clear}
 use Rattle.digit_code.specs.document.Code.{decode}
-use Rattle.digit_code.specs.Ends.{Ends}
 use Rattle.digit_code.specs.Right.{RightCode}
 use Rattle.skeleton.specs.document.Skeleton.{IsTree, IsSkeleton, Renumbering}
-use Rattle.skeleton.specs.IsRooted.{IsRooted}
 use Rattle.form.specs.document.Form.{nTuple, centred, formRows}
-use Rattle.form.specs.Forms.{IsForm, n-tuple-form, centred-form, is-rooted, form-size, form-decoded, form-again, form-verdict, form-decided}
-use Rattle.form.specs.Accepted.{right-decoded, form-passes, form-exactly, form-itself}
+use Rattle.form.specs.Forms.{IsForm, n-tuple-form, centred-form, form-decoded, form-again, form-verdict}
+use Rattle.form.specs.Accepted.{form-passes, form-exactly, form-itself}
 
 -- Every tree has exactly one N-tuple code; it is one of the tree's rooted codes, and other numbers do not change it.
 pub the-n-tuple : IsForm nTuple
@@ -30,22 +28,10 @@ same-centred = form-verdict centred centred-form
 pub same-n-tuple : (N P : ℕ) (E F c d : List ℕ) → IsTree N E → IsTree P F → nTuple N E c → nTuple P F d → (c ≡ d) ↔ ((N ≡ P) × Renumbering N E F)
 same-n-tuple = form-verdict nTuple n-tuple-form
 
--- A right rooted code decodes to a skeleton.
-pub decoded-skeleton : (most R : ℕ) (c : List ℕ) → RightCode most R c → IsSkeleton most R (length c) (decode c)
-decoded-skeleton = right-decoded
-
 -- of either form
 module _ (form : ℕ → List ℕ → List ℕ → Type 0) (f : IsForm form) where
   -- the code c of a tree
   module _ (N : ℕ) (E c : List ℕ) (t : IsTree N E) (x : form N E c) where
-    -- It is a rooted code.
-    pub rooted : IsRooted c
-    rooted = is-rooted form f N E c t x
-
-    -- It has a digit for each vertex.
-    pub form-length : length c ≡ N
-    form-length = form-size form f N E c t x
-
     -- It decodes to the tree that was coded, under other numbers.
     pub code-decode : Renumbering N E (decode c)
     code-decode = form-decoded form f N E c t x
@@ -53,10 +39,6 @@ module _ (form : ℕ → List ℕ → List ℕ → Type 0) (f : IsForm form) whe
     -- It is the code of what it decodes to.
     pub again : form (length c) (decode c) c
     again = form-again form f N E c t x
-
-  -- Whether a rooted code is of the form is decided.
-  pub decided : (c : List ℕ) → Ends 1 c → Dec (form (length c) (decode c) c)
-  decided = form-decided form f
 
   module _ (most R : ℕ) (c : List ℕ) where
     -- Digits are not refused exactly when they are a right rooted code and of the form.

@@ -44,7 +44,7 @@ same-bits (fin false m e) (fin false n d) a c C v w = ap (λ (k : ℕ). 0 + (siz
         mul-right-comm (i * up g) (2 ^ 1074) c ∙ ap (λ (k : ℕ). k * 2 ^ 1074) (u .1) ∙ mul-right-comm a (down g) (2 ^ 1074) in
         cut-same (i * up g * 2 ^ 1074) (down g) (a * 2 ^ 1074) c (down-pos g) C z
 
-pub value-unique :
+value-unique :
     (x y : Float) (a c : ℕ) → 0 < c → T (fits binary64 x) → T (fits binary64 y) → HasValue x false a c → HasValue y false a c → x ≡ y
 value-unique x y a c C f g v w =
     sym (ofBits-toBits binary64 x f) ∙ ap (ofBits binary64) (same-bits x y a c C v w) ∙ ofBits-toBits binary64 y g

@@ -89,7 +89,7 @@ short m k t =
     go b (yes l) = l
     go b (no l) = let g : 1074 < suc k = omega arith in absurd (not-le-of-lt (pow-lt g) b)
 
-pub places : (x : Float) → T (fits binary64 x) → (NoFraction x → ⊥) → Places x
+places : (x : Float) → T (fits binary64 x) → (NoFraction x → ⊥) → Places x
 places nan f n = absurd (n tt)
 places (inf s) f n = absurd (n tt)
 places (fin true m e) f n = absurd (n tt)

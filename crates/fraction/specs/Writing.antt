@@ -19,9 +19,6 @@ use Rattle.fraction.specs.document.Fraction.{IsFraction}
 use Rattle.fraction.specs.Floats.{frac-value, divided}
 
 module _ {R : ℕ} {c : List ℕ} (w : Coded R fractionSize c) where
-  pub some : 1 ≤ length c
-  some = omega (arith, w .ends .less)
-
   pub power : 1 * 2 ^ (2 * length c - 1) % 2 ^ 64 ≡ 2 ^ (2 * length c - 1)
   power = shl-exact {a = 1} 1 (2 * length c - 1) 64 (lit< tt) (omega (arith, w .size)) ∙ one-mul (2 ^ (2 * length c - 1))
 

@@ -1,4 +1,4 @@
-// The numbers of document 01 that bound what is taken, each said once. specs/Limits.antt has them for the definitions.
+// The numbers of document 01 that bound what is taken, each said once. specs/ has them for the definitions.
 
 // Vertices of a skeleton, at most; so digits of a code too.
 pub const SIZE: usize = 64;
@@ -8,6 +8,11 @@ pub const VALENCE: u8 = 4;
 
 // Places in a row of the table of neighbours: no vertex may have more neighbours.
 pub const WIDTH: usize = 4;
+
+// Atoms that a mark can name, and the neighbours that the first of them may have, at most.
+pub const ATOMS: u8 = 3;
+
+pub const BONDS: u8 = 4;
 
 // The values of a byte: an array of so many has a place for each.
 pub const BYTES: usize = 256;

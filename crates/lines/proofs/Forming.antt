@@ -22,7 +22,7 @@ value-digit w n = let h = w .small in (omega arith, w .digit (omega arith))
 pub is-figure : {b v : ℕ} → Value b v → (v ≡ 10 → ⊥) → WrittenDigit b
 is-figure w n = let h = value-digit w n in omega arith
 
-pub no-figure : {b v : ℕ} → Value b v → v ≡ 10 → WrittenDigit b → ⊥
+no-figure : {b v : ℕ} → Value b v → v ≡ 10 → WrittenDigit b → ⊥
 no-figure {b} w e f = w .other (omega arith) (b - 48) (omega arith) (omega arith)
 
 -- a byte of t at i is no digit's
@@ -95,11 +95,11 @@ unopened (begins-not h) e =
     unformed (λ n ds f.
     h n (length (f .count) + 1) (record { count = f .count; rest = figures ds; counts = f .counts; parts = f .parts; start = refl }))
 
-pub figured : {t : List ℕ} {r : Bool} → Figured t r → r ≡ true → (1 ≤ length t) × WrittenDigits t
+figured : {t : List ℕ} {r : Bool} → Figured t r → r ≡ true → (1 ≤ length t) × WrittenDigits t
 figured (all l f) e = (l, f)
 figured (not-all h) e = let z : _≡_ {A = ℕ} 0 1 = cc in absurd (let n : ⊥ = omega arith in n)
 
-pub unfigured : {t : List ℕ} {r : Bool} → Figured t r → r ≡ false → 1 ≤ length t → WrittenDigits t → ⊥
+unfigured : {t : List ℕ} {r : Bool} → Figured t r → r ≡ false → 1 ≤ length t → WrittenDigits t → ⊥
 unfigured (all l f) e = let z : _≡_ {A = ℕ} 0 1 = cc in absurd (let n : ⊥ = omega arith in n)
 unfigured (not-all h) e = h
 

@@ -26,7 +26,7 @@ pub where-is : {t : List ℕ} {n : ℕ} {ds : List ℕ} (P : ℕ → List ℕ �
 where-is P s w = let e = shaped-once s (w .shape) in rw (e .0, e .1) (w .holds)
 
 -- a shape is that of the text before the line feed
-pub shape-moves : {t u b rest more : List ℕ} {n : ℕ} {ds : List ℕ} → Cut 10 t b rest → Cut 10 u b more → Shaped t n ds → Shaped u n ds
+shape-moves : {t u b rest more : List ℕ} {n : ℕ} {ds : List ℕ} → Cut 10 t b rest → Cut 10 u b more → Shaped t n ds → Shaped u n ds
 shape-moves {t} {u} {b} {rest} {more} c d s =
     let h = cut-once 10 t (s .text) (s .rest) b rest (s .feed) c in
     record { text = b; rest = more; feed = d; formed = rw (h .0) at (s .formed) }

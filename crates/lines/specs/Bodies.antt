@@ -19,12 +19,12 @@ unfolding figures
 length-figures [] = refl
 length-figures (d ∷ ds) = ap suc (length-figures ds)
 
-pub sum-figures : (ds : List ℕ) → sum (figures ds) ≡ 48 * length ds + sum ds
+sum-figures : (ds : List ℕ) → sum (figures ds) ≡ 48 * length ds + sum ds
 unfolding figures sum
 sum-figures [] = refl
 sum-figures (d ∷ ds) = omega (arith, sum-figures ds)
 
-pub same-figures : (ds es : List ℕ) → figures ds ≡ figures es → ds ≡ es
+same-figures : (ds es : List ℕ) → figures ds ≡ figures es → ds ≡ es
 unfolding figures
 same-figures [] [] e = refl
 same-figures [] (b ∷ es) e = let z : _≡_ {A = ℕ} 0 1 = cc in absurd (omega arith)
@@ -36,7 +36,7 @@ same-figures (d ∷ ds) (b ∷ es) e =
     cc
 
 -- a byte that no digit is written as does not stand in written digits
-pub free-figures : (k : ℕ) (ds : List ℕ) → (k < 48) ⊎ (57 < k) → Digits ds → Free k (figures ds)
+free-figures : (k : ℕ) (ds : List ℕ) → (k < 48) ⊎ (57 < k) → Digits ds → Free k (figures ds)
 unfolding figures
 free-figures k [] o h = tt
 free-figures k (d ∷ ds) o h = (other o, free-figures k ds o (h .1))
@@ -53,7 +53,7 @@ decimal-counts n h = go (decLt n 10)
     go (yes l) = one-digit (omega arith) refl
     go (no l) = two-digits (n / 10) (n % 10) (omega arith) (omega arith) (omega arith) refl (omega arith)
 
-pub count-decimal : {b : List ℕ} {n : ℕ} → IsCount b n → (b ≡ decimal n) × (n ≤ 99)
+count-decimal : {b : List ℕ} {n : ℕ} → IsCount b n → (b ≡ decimal n) × (n ≤ 99)
 unfolding decimal
 count-decimal {n} (one-digit l e) = (e ∙ sym (if-pos (decLt n 10) (omega arith) _ _), omega arith)
 count-decimal {n} (two-digits d f p q r e s) =
@@ -78,7 +78,7 @@ pub count-free : (k : ℕ) {b : List ℕ} {n : ℕ} → k < 48 → IsCount b n �
 count-free k {n} l (one-digit h e) = rw e (free-figures k (n ∷ []) (inl l) (h, tt))
 count-free k l (two-digits d f p q r e s) = rw e (free-figures k (d ∷ f ∷ []) (inl l) (q, (r, tt)))
 
-pub one-count : {b : List ℕ} {n m : ℕ} → IsCount b n → IsCount b m → n ≡ m
+one-count : {b : List ℕ} {n m : ℕ} → IsCount b n → IsCount b m → n ≡ m
 one-count {n} {m} (one-digit h e) (one-digit l f) = let g : n ∷ [] ≡ m ∷ [] = same-figures _ _ (cc) in cc
 one-count {n} (one-digit h e) (two-digits d f p q r g s) =
     let x : n ∷ [] ≡ d ∷ f ∷ [] = same-figures _ _ (cc) in
@@ -122,10 +122,10 @@ module _ (c : List ℕ) (fits : Fits c) where
     parts = refl;
   }
 
-  pub decimal-free : (k : ℕ) → k < 48 → Free k (decimal (length c))
+  decimal-free : (k : ℕ) → k < 48 → Free k (decimal (length c))
   decimal-free k l = count-free k l (decimal-counts (length c) (fits .few))
 
-  pub digits-free : (k : ℕ) → k < 48 → Free k (figures c)
+  digits-free : (k : ℕ) → k < 48 → Free k (figures c)
   digits-free k l = free-figures k c (inl l) (fits .code .digits)
 
   pub body-free : Free 10 (body c)
@@ -135,7 +135,7 @@ module _ (c : List ℕ) (fits : Fits c) where
       ((λ e. omega arith), digits-free 10 (omega arith))
 
   -- the line of c is cut at its space in one way
-  pub body-space : (x y : List ℕ) → x ++ (32 ∷ y) ≡ body c → (x ≡ decimal (length c)) × (y ≡ figures c)
+  body-space : (x y : List ℕ) → x ++ (32 ∷ y) ≡ body c → (x ≡ decimal (length c)) × (y ≡ figures c)
   unfolding body
   body-space x y e =
       cut-only 32 x y (decimal (length c)) (figures c) (decimal-free 32 (omega arith)) (digits-free 32 (omega arith)) e

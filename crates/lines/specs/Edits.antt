@@ -17,7 +17,7 @@ pub data Edit : List ℕ → List ℕ → Type 0 where
   later : {a : ℕ} {x y : List ℕ} → Edit x y → Edit (a ∷ x) (a ∷ y)
 
 -- behind any front
-pub edit-behind : (x : List ℕ) {s t : List ℕ} → Edit s t → Edit (x ++ s) (x ++ t)
+edit-behind : (x : List ℕ) {s t : List ℕ} → Edit s t → Edit (x ++ s) (x ++ t)
 edit-behind [] e = e
 edit-behind (a ∷ x) e = later (edit-behind x e)
 

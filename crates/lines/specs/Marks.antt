@@ -20,12 +20,6 @@ use Rattle.lines.specs.Bodies.{Fits, decimal-counts}
 use Rattle.lines.specs.Answered.{answered-once}
 use Rattle.lines.specs.Taking.{read-once}
 
-pub comma : Mark 44
-comma = ((λ f. omega (arith, f .0)), λ e. omega arith)
-
-pub point : Mark 46
-point = ((λ f. omega (arith, f .0)), λ e. omega arith)
-
 -- ---- what is written
 
 figured : (ds : List ℕ) → Digits ds → WrittenDigits (figures ds)

@@ -11,7 +11,7 @@ use Rattle.lines.specs.Judging.{judged}
 use Rattle.lines.specs.Damage.{Code, Accept, Accepted, Recovers}
 use Rattle.lines.specs.Cuts.{not-free, cut-some, cut-once, Meet, same, further, meet}
 use Rattle.lines.specs.Bodies.{Fits, body-free}
-use Rattle.lines.specs.Answered.{shaped-fed, answer-moves, fits, gives-code, answered-once, look, sure}
+use Rattle.lines.specs.Answered.{shaped-fed, answer-moves, fits, answered-once, look, sure}
 
 -- the text of codes is cut behind the first one's line
 pub cut-line : (c : List ℕ) (cs : List (List ℕ)) → Fits c → Cut 10 (written (c ∷ cs)) (body c) (written cs)
@@ -34,7 +34,7 @@ module _ (most : ℕ) (rows : List DigitRow) where
       record { answer = o; others = os; parts = refl; line = a; text = rw (cut-once 10 t b rest d more c u .1) h }
 
   -- an empty text has no answers
-  pub no-line : {t : List ℕ} {os : List Reply} → TextAnswers most rows t os → t ≡ [] → os ≡ []
+  no-line : {t : List ℕ} {os : List Reply} → TextAnswers most rows t os → t ≡ [] → os ≡ []
   no-line none e = refl
   no-line (unfinished h f a) e = let l = ap length e in absurd (omega arith)
   no-line (next c a h) e = let l = cut-some c in let n = ap length e in absurd (omega arith)
@@ -120,22 +120,15 @@ module _ (most : ℕ) (rows : List DigitRow) (bound : most ≤ 99) (lawful : (c 
       let g = given (a .0) (cut-line c cs (fits most rows bound lawful (a .0))) (rw e at h) in
       g .parts ∙ ap (λ os. gives c ∷ os) (reads-back cs (a .1) refl (g .text))
 
-  pub reads : (cs : List (List ℕ)) → Accepted most rows cs → TextAnswers most rows (written cs) (map gives cs)
-  unfolding written
-  reads [] a = none
-  reads (c ∷ cs) a =
-      let u = cut-line c cs (fits most rows bound lawful (a .0)) in
-      next u (gives-code most rows bound lawful (a .0) u) (reads cs (a .1))
-
   -- a line feed of a clean text is the end of a line
-  pub record Ends (cs : List (List ℕ)) (y : List ℕ) : Type 0 where
-    pub earlier : List (List ℕ)
-    pub behind : List (List ℕ)
-    pub parts : cs ≡ earlier ++ behind
-    pub lines-behind : y ≡ written behind
-    pub accepted : Accepted most rows behind
+  record Ends (cs : List (List ℕ)) (y : List ℕ) : Type 0 where
+    earlier : List (List ℕ)
+    behind : List (List ℕ)
+    parts : cs ≡ earlier ++ behind
+    lines-behind : y ≡ written behind
+    accepted : Accepted most rows behind
 
-  pub line-ends : (cs : List (List ℕ)) (x y : List ℕ) → Accepted most rows cs → written cs ≡ x ++ (10 ∷ y) → Ends cs y
+  line-ends : (cs : List (List ℕ)) (x y : List ℕ) → Accepted most rows cs → written cs ≡ x ++ (10 ∷ y) → Ends cs y
   unfolding written
   line-ends [] x y a e = let l = simp length-append at (ap length e) in absurd (omega arith)
   line-ends (c ∷ cs) x y a e =

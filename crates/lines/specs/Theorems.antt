@@ -5,7 +5,6 @@
 use mathlib.Core.Path.{_≡_, refl}
 use mathlib.Core.List.{List, _∷_, _++_, map}
 use Prim.Native.Nat.{ℕ, _≤_}
-use lib.ListN.{length}
 use Rattle.refusal.specs.document.Table.{Clear, Outcome, gives}
 use Rattle.lines.specs.document.Line.{written, Cut, DigitRow, LineAnswers, TextAnswers, Reply}
 use Rattle.lines.specs.Judging.{judged}
@@ -13,17 +12,14 @@ use Rattle.lines.specs.Damage.{Code, Robust, Accepted, Recovers}
 use Rattle.lines.specs.document.Damage.{Change}
 use Rattle.lines.specs.document.Reading.{LineRead, TextRead}
 use Rattle.lines.specs.Taking.{read-once}
-use Rattle.lines.specs.Turns.{read-text-once, read-whole}
+use Rattle.lines.specs.Turns.{read-text-once}
 use Rattle.lines.specs.Edits.{edit-of}
-use Rattle.lines.specs.Answered.{answer-moves, answered-once}
-use Rattle.lines.specs.Texts.{texts-once, reads, reads-back, recover}
+use Rattle.lines.specs.Answered.{answer-moves}
+use Rattle.lines.specs.Texts.{texts-once, reads-back, recover}
 use Rattle.lines.specs.Robustness.{one-edit}
 
 module _ (most : ℕ) (rows : List DigitRow) where
-  -- A line has one answer, and so has a text.
-  pub one-answer : (t : List ℕ) (o p : Reply) → LineAnswers most rows t o → LineAnswers most rows t p → o ≡ p
-  one-answer t o p h k = answered-once most rows h k
-
+  -- A text has one answer.
   pub one-reading : (t : List ℕ) (os ps : List Reply) → TextAnswers most rows t os → TextAnswers most rows t ps → os ≡ ps
   one-reading t os ps h k = texts-once most rows h k
 
@@ -39,12 +35,6 @@ module _ (most : ℕ) (rows : List DigitRow) where
       → (k ≡ j) × (at ≡ to) × (rec₁ ≡ rec₂) × (num₁ ≡ num₂) × (pla₁ ≡ pla₂)
   one-text w t rec num pla rec₁ num₁ pla₁ rec₂ num₂ pla₂ k at j to g h = read-text-once most rows g h
 
-  -- What is read of a text to its end answers it: what is said below of `TextAnswers` is said of the reader.
-  pub to-the-end :
-      (w : ℕ) (t rec num pla rec₁ num₁ pla₁ : List ℕ) (k at : ℕ) (g : TextRead most rows w t rec num pla rec₁ num₁ pla₁ k at) → at ≡ length t
-      → TextAnswers most rows t (g .read .answers)
-  to-the-end w t rec num pla rec₁ num₁ pla₁ k at g e = read-whole most rows g e
-
   -- "looks at nothing behind it": the answer to a line is the same whatever follows its line feed.
   pub first-line-only :
       (t u b rest more : List ℕ) (o : Reply) → Cut 10 t b rest → Cut 10 u b more → LineAnswers most rows t o → LineAnswers most rows u o
@@ -55,9 +45,6 @@ module _ (most : ℕ) (rows : List DigitRow) (bound : most ≤ 99) (lawful : (c 
   pub read-back :
       (cs : List (List ℕ)) (os : List Reply) → Accepted most rows cs → TextAnswers most rows (written cs) os → os ≡ map gives cs
   read-back cs os a h = reads-back most rows bound lawful cs a refl h
-
-  pub readable : (cs : List (List ℕ)) → Accepted most rows cs → TextAnswers most rows (written cs) (map gives cs)
-  readable cs a = reads most rows bound lawful cs a
 
   -- One byte of the text is replaced, lost or put in: a line is refused, the records read are among those sent, in their order, and at
   -- most two are missing.

@@ -12,11 +12,11 @@ use Rattle.laws.specs.Laid.{laid-length}
 use Rattle.laws.specs.document.Laid.{laidOver}
 use Rattle.laws.specs.Laying.{laid-none, laid-more}
 use Rattle.refusal.specs.document.Table.{Outcome}
-use Rattle.lines.specs.document.Line.{DigitRow, LineAnswers, TextAnswers, Reply}
+use Rattle.lines.specs.document.Line.{DigitRow, LineAnswers, Reply}
 use Rattle.lines.specs.Form.{UpTo, Behind}
 use Rattle.lines.specs.document.Reading.{block, blocks, counted, numberOf, placeOf, Taken, none, unfinished, next, ReadSoFar, TextRead}
 use Rattle.lines.specs.Taking.{unfed, fed-cut}
-use Rattle.lines.specs.FirstLines.{taken-all, taken-join, taken-once, taken-most, taken-fit, blocks-more, length-blocks}
+use Rattle.lines.specs.FirstLines.{taken-join, taken-once, taken-most, taken-fit, blocks-more, length-blocks}
 
 module _ (most : ℕ) (rows : List DigitRow) {w : ℕ} {t rec num pla : List ℕ} where
   -- one reading does not stop before another
@@ -49,11 +49,6 @@ module _ (most : ℕ) (rows : List DigitRow) {w : ℕ} {t rec num pla : List ℕ
         g .read .numbers ∙ ap (λ os. laidOver (map (λ o. numberOf (counted o)) os) num) (r .0) ∙ sym (h .read .numbers),
         g .read .places ∙ ap (λ os. laidOver (map (λ o. placeOf (counted o)) os) pla) (r .0) ∙ sym (h .read .places),
       )
-
-  -- a text that is read to its end
-  pub read-whole :
-      {rec₁ num₁ pla₁ : List ℕ} {k at : ℕ} (g : TextRead most rows w t rec num pla rec₁ num₁ pla₁ k at) → at ≡ length t → TextAnswers most rows t (g .read .answers)
-  read-whole {at = at} g e = taken-all most rows (g .read .taken) (drop-of-length-le t {i = at} (omega arith))
 
 -- ---- what is read so far
 

@@ -14,7 +14,7 @@ use Rattle.listing_text.specs.document.Listing.{listed, Listing, longer,
 use Rattle.listing_text.specs.Window.{take-least}
 
 module _ (most : ℕ) (rows : List DigitRow) where
-  pub one-listing : (t l m : List ℕ) → Listing most rows t l → Listing most rows t m → l ≡ m
+  one-listing : (t l m : List ℕ) → Listing most rows t l → Listing most rows t m → l ≡ m
   one-listing t l m (longer h e) (longer k f) = e ∙ sym f
   one-listing t l m (longer h e) (lines ps k b f) = absurd (omega arith)
   one-listing t l m (lines os h a e) (longer k f) = absurd (omega arith)

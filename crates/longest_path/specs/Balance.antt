@@ -21,11 +21,11 @@ use Rattle.longest_path.specs.Centre.{middles-left, done}
 use Rattle.longest_path.specs.Heights.{tall, Stands, top, below, beside, stands-in, parent-in, stands-arc, lower, higher, stands, one-place, arc-stands, tallest, child}
 
 -- v stands k high: what hangs below it is at least k tall, in the tree with the root r over f
-pub data Reaches (r : ℕ) (f : Forest) (k v : ℕ) : Type 0 where
+data Reaches (r : ℕ) (f : Forest) (k v : ℕ) : Type 0 where
   root : v ≡ r → k ≤ tall f → Reaches r f k v
   inner : {u h : ℕ} → Stands v u h r f → k ≤ h → Reaches r f k v
 
-pub weaken : {r : ℕ} {f : Forest} {k m v : ℕ} → k ≤ m → Reaches r f m v → Reaches r f k v
+weaken : {r : ℕ} {f : Forest} {k m v : ℕ} → k ≤ m → Reaches r f m v → Reaches r f k v
 weaken l (root e i) = root e (omega arith)
 weaken l (inner s i) = inner s (omega arith)
 

@@ -18,11 +18,11 @@ getD-carried g (x ∷ p) zero l = refl
 getD-carried g (x ∷ p) (suc n) l = getD-carried g p n (omega arith)
 
 module _ (g : ℕ → ℕ) (p : List ℕ) (s : 1 ≤ length p) where
-  pub carry-middle₁ : middle₁ (map g p) ≡ g (middle₁ p)
+  carry-middle₁ : middle₁ (map g p) ≡ g (middle₁ p)
   unfolding middle₁
   carry-middle₁ = rw length-map (getD-carried g p ((length p - 1) / 2) (omega arith))
 
-  pub carry-middle₂ : middle₂ (map g p) ≡ g (middle₂ p)
+  carry-middle₂ : middle₂ (map g p) ≡ g (middle₂ p)
   unfolding middle₂
   carry-middle₂ = rw length-map (getD-carried g p (length p / 2) (omega arith))
 
@@ -32,7 +32,7 @@ module _ (N : ℕ) (E F : List ℕ) (ρ : Renumbering N E F) where
   carry-joined (u ∷ []) j = tt
   carry-joined (u ∷ v ∷ p) j = (perm-in (ρ .carries) (Memᴰ·map (carry (ρ .to)) (j .0)), carry-joined (v ∷ p) (j .1))
 
-  pub carry-path : (p : List ℕ) → IsPath N E p → IsPath N F (map (ρ .to) p)
+  carry-path : (p : List ℕ) → IsPath N E p → IsPath N F (map (ρ .to) p)
   carry-path p h = record {
     inside = λ v m.
         let (w, k, e) = Memᴰ·of-map (ρ .to) p m in
@@ -45,7 +45,7 @@ module _ (N : ℕ) (E F : List ℕ) (t : IsTree N E) (ρ : Renumbering N E F) wh
   tree-within : Within N (arcs E)
   tree-within e m = (t .inside (e .0) (arc-end E (turn E m)), t .inside (e .1) (arc-end E m))
 
-  pub carry-longest : (p : List ℕ) → IsLongest N E p → IsLongest N F (map (ρ .to) p)
+  carry-longest : (p : List ℕ) → IsLongest N E p → IsLongest N F (map (ρ .to) p)
   carry-longest p h = record {
     path = carry-path N E F ρ p (h .path);
     longest = λ q k.

@@ -152,7 +152,7 @@ module _ (N : ℕ) (E : List ℕ) (t : IsTree N E) where
       step (inr a) (inl b) = inr (cc, cc)
       step (inr a) (inr b) = inl (cc, cc)
 
-  pub every-longest : (u v : ℕ) → IsCentre N E u v → (q : List ℕ) → IsLongest N E q → Middles q u v
+  every-longest : (u v : ℕ) → IsCentre N E u v → (q : List ℕ) → IsLongest N E q → Middles q u v
   every-longest u v c q h = rw (c .first, c .second) at (middles-same (c .path) q (c .longest) h)
 
   -- the centre is one vertex, or two, and no others

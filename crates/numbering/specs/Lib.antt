@@ -4,7 +4,6 @@ pub mod Sorted
 pub mod Turned
 pub mod Numbering
 pub mod Numbers
-pub mod Kids
 pub mod Same
 pub mod Standing
 pub mod Decoded

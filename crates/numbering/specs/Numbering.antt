@@ -133,7 +133,7 @@ module _ (M : Marks) (label : ℕ → M .Label) (N : ℕ) (E : List ℕ) (r : �
     is-fit = fit r (t .forest) is-good is-under
 
     -- the marks of the vertices in their order are the rooted code
-    pub order-code : (n : ℕ) → N ≤ n → map m (orderBy m K n 0 r) ≡ rootedₗ M label N E r
+    order-code : (n : ℕ) → N ≤ n → map m (orderBy m K n 0 r) ≡ rootedₗ M label N E r
     order-code zero h = let z : ⊥ = omega (arith, t .full) in absurd z
     order-code (suc n) h =
         order-marks m K (suc n) 0 r
@@ -157,7 +157,7 @@ module _ (M : Marks) (label : ℕ → M .Label) (N : ℕ) (E : List ℕ) (r : �
               (ap (map (M .atom)) e ∙ ap₂ _∷_ (M .atom-mark (width f) (label r)) (marks-labels M label f));
         }
 
-  pub numbering : (n : ℕ) → N ≤ n → Rooted N E r → Orders M label N E r m (orderBy m K n 0 r)
+  numbering : (n : ℕ) → N ≤ n → Rooted N E r → Orders M label N E r m (orderBy m K n 0 r)
   numbering n h t =
       let (s, e) = arranged N E r t m K n 0 h (root-kids t) (is-followed t) in
       subst (Orders M label N E r m) e (as-it-stands s (ap (map m) e ∙ order-code t n h))

@@ -11,7 +11,7 @@ use native.Mathlib.Decide.{ℕ-discrete}
 use native.Mathlib.Omega.{arith}
 use lib.ListN.{length, getD, length-map}
 use Rattle.laws.specs.document.Once.{Once}
-use Rattle.laws.specs.Places.{place, place-at, at-place, at-in}
+use Rattle.laws.specs.Places.{place, at-place, at-in}
 use Rattle.digit_code.specs.document.Code.{decode}
 use Rattle.skeleton.specs.document.Skeleton.{arcs, degree, children, IsTree, rooted, Renumbering}
 use Rattle.skeleton.specs.Forest.{Rooted}
@@ -56,12 +56,12 @@ pub record Numbers (N : ℕ) (E : List ℕ) (r : ℕ) (o : List ℕ) : Type 0 wh
   pub numbers : (ρ : Renumbering N E (decode (rooted N E r))) × (ρ .to r ≡ 1) × ((v : ℕ) → ρ .to v ≡ suc (place v o)) × ((i : ℕ) → ρ .from i ≡ getD o (i - 1) 0)
 
 -- the renumbering goes from the order o to the order p: the root to the root, labels kept, each vertex to the one that has its place
-pub record Beside (M : Marks) (N : ℕ) (E F : List ℕ) (r q : ℕ) (l k : ℕ → M .Label) (o p : List ℕ) (ρ : Renumbering N E F) : Type 0 where
-  pub root : ρ .to r ≡ q
-  pub keeps : Keeps M N E F l k ρ
-  pub to : (v : ℕ) → ρ .to v ≡ getD p (place v o) 0
-  pub from : (v : ℕ) → ρ .from v ≡ getD o (place v p) 0
-  pub at : (i : ℕ) → i < N → ρ .to (getD o i 0) ≡ getD p i 0
+record Beside (M : Marks) (N : ℕ) (E F : List ℕ) (r q : ℕ) (l k : ℕ → M .Label) (o p : List ℕ) (ρ : Renumbering N E F) : Type 0 where
+  root : ρ .to r ≡ q
+  keeps : Keeps M N E F l k ρ
+  to : (v : ℕ) → ρ .to v ≡ getD p (place v o) 0
+  from : (v : ℕ) → ρ .from v ≡ getD o (place v p) 0
+  at : (i : ℕ) → i < N → ρ .to (getD o i 0) ≡ getD p i 0
 
 -- ---- with labels
 
@@ -75,7 +75,7 @@ module _ (M : Marks) (label : ℕ → M .Label) (N : ℕ) (E : List ℕ) (r : �
   }
 
   -- the order of the vertices is one
-  pub orderₗ-numbers : IsTree N E → 1 ≤ r → r ≤ N → Orders M label N E r (markAt M label E r) (orderₗ M label N E r)
+  orderₗ-numbers : IsTree N E → 1 ≤ r → r ≤ N → Orders M label N E r (markAt M label E r) (orderₗ M label N E r)
   unfolding orderₗ
   orderₗ-numbers t a b = tree-numbering M label N E r (markAt M label E r) (children (arcs E)) reads-tree N (omega arith) t a b
 
@@ -89,11 +89,11 @@ module _ (M : Marks) (label : ℕ → M .Label) (N : ℕ) (E : List ℕ) (r : �
 
   module _ {m : ℕ → ℕ} {o : List ℕ} (x : Orders M label N E r m o) where
     -- the i-th mark of the code is that of the i-th vertex
-    pub mark-at : (i : ℕ) → i < N → getD (rootedₗ M label N E r) i 0 ≡ m (getD o i 0)
+    mark-at : (i : ℕ) → i < N → getD (rootedₗ M label N E r) i 0 ≡ m (getD o i 0)
     mark-at i h = ap (λ l. getD l i 0) (sym (x .code)) ∙ getD-map-in m o i 0 0 (omega (arith, x .all))
 
     -- the i-th digit is the number of its children
-    pub digit-at : {K : ℕ → ℕ → List ℕ} → Reads M label N E r m K → (i : ℕ) → i < N → getD (digits M (rootedₗ M label N E r)) i 0 ≡ kidsOf E r (getD o i 0)
+    digit-at : {K : ℕ → ℕ → List ℕ} → Reads M label N E r m K → (i : ℕ) → i < N → getD (digits M (rootedₗ M label N E r)) i 0 ≡ kidsOf E r (getD o i 0)
     unfolding digits
     digit-at ρ i h =
         let n : length (rootedₗ M label N E r) ≡ N = ap length (sym (x .code)) ∙ length-map o m ∙ x .all in
@@ -104,7 +104,7 @@ module _ (M : Marks) (label : ℕ → M .Label) (N : ℕ) (E : List ℕ) (r : �
 
 module _ (M : Marks) (N : ℕ) (E F : List ℕ) (r q : ℕ) (l k : ℕ → M .Label) (m n : ℕ → ℕ) (o p : List ℕ) where
   -- trees with equal codes: their orders side by side are a renumbering
-  pub beside : Orders M l N E r m o → Orders M k N F q n p → Rooted N F q → rootedₗ M l N E r ≡ rootedₗ M k N F q → (ρ : Renumbering N E F) × Beside M N E F r q l k o p ρ
+  beside : Orders M l N E r m o → Orders M k N F q n p → Rooted N F q → rootedₗ M l N E r ≡ rootedₗ M k N F q → (ρ : Renumbering N E F) × Beside M N E F r q l k o p ρ
   unfolding back after
   beside x y u e =
       let c : List ℕ = rootedₗ M l N E r in
@@ -128,20 +128,13 @@ module _ (M : Marks) (N : ℕ) (E F : List ℕ) (r q : ℕ) (l k : ℕ → M .La
         },
       )
 
-  -- where the numbers of p are written at the places that o gives, the renumbering is written
-  pub written : Orders M l N E r m o → (ρ : Renumbering N E F) → Beside M N E F r q l k o p ρ → (w : List ℕ) → ((i : ℕ) → i < N → getD w (getD o i 0 - 1) 0 ≡ getD p i 0)
-      → (v : ℕ) → 1 ≤ v → v ≤ N → getD w (v - 1) 0 ≡ ρ .to v
-  written x ρ y w f v a b =
-      let (i, e) = place-at v o (x .has v a b) in
-      ap (λ u. getD w (u - 1) 0) (sym e) ∙ f (place v o) (omega (arith, x .all)) ∙ sym (y .to v)
-
 -- ---- document 01's codes
 
 module _ (N : ℕ) (E : List ℕ) (r : ℕ) where
   abbrev alike : ℕ → base .Label
   alike v = tt
 
-  pub plain : {m : ℕ → ℕ} {K : ℕ → ℕ → List ℕ} {o : List ℕ} → Reads base alike N E r m K → Orders base alike N E r m o → Numbers N E r o
+  plain : {m : ℕ → ℕ} {K : ℕ → ℕ → List ℕ} {o : List ℕ} → Reads base alike N E r m K → Orders base alike N E r m o → Numbers N E r o
   plain {o = o} ρ x =
       let (σ, a, k, to, from) = x .numbers in
       let z : (σ : Renumbering N E (decode (digits base (rootedₗ base alike N E r)))) × (σ .to r ≡ 1) × ((v : ℕ) → σ .to v ≡ suc (place v o)) × ((i : ℕ) → σ .from i ≡ getD o (i - 1) 0)

@@ -16,7 +16,7 @@ use Rattle.digit_code.specs.Counting.{sum-append}
 use Rattle.digit_code.specs.Two.{map-flatten}
 use Rattle.numbering.specs.Order.{insertBy, sortBy, place, pairs, orderBy, marksBy}
 
-pub flatten-length : (cs : List (List ℕ)) → length (flatten cs) ≡ sum (map length cs)
+flatten-length : (cs : List (List ℕ)) → length (flatten cs) ≡ sum (map length cs)
 unfolding flatten sum
 flatten-length [] = refl
 flatten-length (c ∷ cs) = length-append c (flatten cs) ∙ ap (λ n. length c + n) (flatten-length cs)
@@ -59,7 +59,7 @@ module _ (f : List ℕ → List ℕ) where
       step (no h) e = ap (λ l. f d ∷ l) e
 
   -- the keys are sorted
-  pub sort-key : (cs : List (List ℕ)) → map f (sortBy f cs) ≡ sort (map f cs)
+  sort-key : (cs : List (List ℕ)) → map f (sortBy f cs) ≡ sort (map f cs)
   unfolding sortBy sort
   sort-key [] = refl
   sort-key (c ∷ cs) = insert-key c (sortBy f cs) ∙ ap (insert (f c)) (sort-key cs)
@@ -74,7 +74,7 @@ module _ (f : List ℕ → List ℕ) where
   unfolding insertBy
   insert-none c = refl
 
-  pub commute : (a c : List ℕ) (l : List (List ℕ)) → insertBy f a (place f c l) ≡ place f c (insertBy f a l)
+  commute : (a c : List ℕ) (l : List (List ℕ)) → insertBy f a (place f c l) ≡ place f c (insertBy f a l)
   commute a c [] = step (dec≽ (f a) (f c))
     where
       step : Dec (f a ≽ f c) → insertBy f a (place f c []) ≡ place f c (insertBy f a [])

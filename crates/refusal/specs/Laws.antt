@@ -1,7 +1,7 @@
 -- Laws of refusal tables, once for every call.
 --
 -- In order: one answer, and one result with one state of what was lent; a table of one row; tables one behind the other; how an
--- answer of one check becomes an answer of the whole; tables that apply alike; rows under other names; rows 3 and 15. Calls that write
+-- answer of one check becomes an answer of the whole; tables that apply alike; rows under other names; row 3. Calls that write
 -- are in `Giving`. Assumes nothing.
 use mathlib.Core.Path.{_≡_, refl, sym, ap, ap₂, _∙_, subst}
 use mathlib.Core.Logic.{_⊎_, inl, inr, ⊎-elim, _↔_}
@@ -11,7 +11,7 @@ use native.Mathlib.Omega.{arith}
 use Rattle.refusal.specs.declared.Check.{Check}
 use Rattle.refusal.specs.declared.Check.the-variants.{Passed, Refuse}
 use Rattle.refusal.specs.Checks.{checked, Answers, passes, fails}
-use Rattle.refusal.specs.document.Table.{RowOf, Row, renamed, ofList, Applies, Clear, First, FirstRefusal, OutcomeOf, Outcome, gives, refuses, Promise, Answered, kept, left, row3, row15}
+use Rattle.refusal.specs.document.Table.{RowOf, Row, renamed, ofList, Applies, Clear, First, FirstRefusal, OutcomeOf, Outcome, gives, refuses, Promise, Answered, kept, left, row3}
 
 -- ---- one answer
 
@@ -25,7 +25,7 @@ one-first (r ∷ rs) k j p q (inr a) (inl b) = absurd (a .0 q (b .1))
 one-first (r ∷ rs) k j p q (inr a) (inr b) = one-first rs k j p q (a .1) (b .1)
 
 -- the refusal and its place are one
-pub one-refusal : {K : Type 0} {rs : List (RowOf K)} {k j : K} {p q : ℕ} → FirstRefusal rs k p → FirstRefusal rs j q → (k ≡ j) × (p ≡ q)
+one-refusal : {K : Type 0} {rs : List (RowOf K)} {k j : K} {p q : ℕ} → FirstRefusal rs k p → FirstRefusal rs j q → (k ≡ j) × (p ≡ q)
 one-refusal {rs = rs} {k} {j} {p} {q} a b = one-first rs k j p q (a .is) (b .is)
 
 first-applies : {K : Type 0} (rs : List (RowOf K)) (k : K) (p : ℕ) → First rs k p → Applies rs k p
@@ -39,13 +39,6 @@ applied {rs = rs} {k} {p} l = first-applies rs k p (l .is)
 -- a table is clear, or refuses
 pub not-both : {K A : Type 0} {rs : List (RowOf K)} {k : K} {p : ℕ} → Clear rs → FirstRefusal rs k p → A
 not-both {k = k} {p} c l = absurd (c .nowhere k p (applied l))
-
--- of a check
-pub one-answer : {rs : List Row} {a b : Check} → Answers rs a → Answers rs b → a ≡ b
-one-answer (passes c) (passes d) = refl
-one-answer (passes c) (fails l) = not-both c l
-one-answer (fails l) (passes c) = not-both c l
-one-answer (fails l) (fails m) = let e = one-refusal l m in ap₂ Refuse (e .0) (e .1)
 
 -- of a call: where what is right is one of an input that no row refuses, the answer is one, and so is what the lent output holds then
 pub one-accepted :
@@ -75,15 +68,15 @@ module _ {K : Type 0} {r : RowOf K} where
 -- ---- tables one behind the other
 
 module _ {K : Type 0} where
-  pub applies-left : (xs ys : List (RowOf K)) (k : K) (p : ℕ) → Applies xs k p → Applies (xs ++ ys) k p
+  applies-left : (xs ys : List (RowOf K)) (k : K) (p : ℕ) → Applies xs k p → Applies (xs ++ ys) k p
   applies-left (r ∷ xs) ys k p (inl h) = inl h
   applies-left (r ∷ xs) ys k p (inr h) = inr (applies-left xs ys k p h)
 
-  pub applies-right : (xs ys : List (RowOf K)) (k : K) (p : ℕ) → Applies ys k p → Applies (xs ++ ys) k p
+  applies-right : (xs ys : List (RowOf K)) (k : K) (p : ℕ) → Applies ys k p → Applies (xs ++ ys) k p
   applies-right [] ys k p h = h
   applies-right (r ∷ xs) ys k p h = inr (applies-right xs ys k p h)
 
-  pub applies-either : (xs ys : List (RowOf K)) (k : K) (p : ℕ) → Applies (xs ++ ys) k p → Applies xs k p ⊎ Applies ys k p
+  applies-either : (xs ys : List (RowOf K)) (k : K) (p : ℕ) → Applies (xs ++ ys) k p → Applies xs k p ⊎ Applies ys k p
   applies-either [] ys k p h = inr h
   applies-either (r ∷ xs) ys k p (inl h) = inl (inl h)
   applies-either (r ∷ xs) ys k p (inr h) = ⊎-elim (λ a. inl (inr a)) (λ b. inr b) (applies-either xs ys k p h)
@@ -248,7 +241,7 @@ module _ (i : ℕ) (rs : List Row) where
       let (n, e, a) = alike-back (renamed-alike (λ k. (i, k)) rs) l in
       (ap (λ (x : ℕ × ℕ). x .0) e, subst (λ (m : ℕ). FirstRefusal rs m p) (sym (ap (λ (x : ℕ × ℕ). x .1) e)) a)
 
--- ---- rows 3 and 15
+-- ---- row 3
 
 -- where 3 does not apply, the number is at least 1 and at most `most`
 pub at-most : {most n : ℕ} {rs : List Row} → Clear (row3 most n ∷ rs) → n ≤ most
@@ -260,14 +253,6 @@ at-least {most} {n} c = let z : n ≡ 0 → ⊥ = λ e. never c 0 (refl, inl e) 
 -- and where it is, 3 does not apply
 pub size-clear : {most n : ℕ} → 1 ≤ n → n ≤ most → Clear (row3 most n ∷ [])
 size-clear l m = clear-one (λ p a. ⊎-elim (λ h. omega (arith, h)) (λ h. omega (arith, h)) (a .1))
-
--- 15 applies nowhere where the output has room
-pub room : {need lent : ℕ} → need ≤ lent → Clear (row15 need lent ∷ [])
-room h = clear-one (λ p a. let n : ⊥ = omega (arith, a .1) in n)
-
--- and at the length needed where it has none
-pub no-room : {need lent : ℕ} → lent < need → FirstRefusal (row15 need lent ∷ []) 15 need
-no-room h = first-place (refl, h) (λ q l a. let n : ⊥ = omega (arith, a .0) in n)
 
 -- a check of the whole table keeps the promise of a call that only checks
 pub check-answered : {rs : List Row} {a : Check} {o : Outcome ℕ} → Answers rs a → o ≡ checked a → Answered rs (λ n. n ≡ 0) o

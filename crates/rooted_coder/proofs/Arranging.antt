@@ -38,7 +38,7 @@ module _ (k : List ℕ → List ℕ) {out lens : List ℕ} {f e : ℕ} {p : List
   heads-one : Heads lens f (one .first ∷ one .others)
   heads-one = subst (Heads lens f) (one .is) (t .heads)
 
-  pub first-ends : (1 ≤ getD lens f 0) × (f + getD lens f 0 ≤ e)
+  first-ends : (1 ≤ getD lens f 0) × (f + getD lens f 0 ≤ e)
   first-ends =
       let l = ap (λ l. length (flatten l)) (one .is) ∙ length-first (one .first) (one .others) in
       (omega (arith, heads-one .0, heads-one .1), omega (arith, heads-one .0, t .ends))

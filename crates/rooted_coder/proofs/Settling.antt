@@ -21,11 +21,11 @@ idle s a m b h p [] y z e k l n = e
 idle s a m b h p (d ∷ x) y z e k l n = let w : ⊥ = omega arith in absurd w
 
 -- what stands where, when two parts are exchanged
-pub record Moved (s s' : List ℕ) (a m b : ℕ) : Type 0 where
-  pub before : (i : ℕ) → i < a → getD s' i 0 ≡ getD s i 0
-  pub second : (i : ℕ) → i < b - m → getD s' (a + i) 0 ≡ getD s (m + i) 0
-  pub first : (i : ℕ) → i < m - a → getD s' (a + (b - m) + i) 0 ≡ getD s (a + i) 0
-  pub behind : (i : ℕ) → b ≤ i → getD s' i 0 ≡ getD s i 0
+record Moved (s s' : List ℕ) (a m b : ℕ) : Type 0 where
+  before : (i : ℕ) → i < a → getD s' i 0 ≡ getD s i 0
+  second : (i : ℕ) → i < b - m → getD s' (a + i) 0 ≡ getD s (m + i) 0
+  first : (i : ℕ) → i < m - a → getD s' (a + (b - m) + i) 0 ≡ getD s (a + i) 0
+  behind : (i : ℕ) → b ≤ i → getD s' i 0 ≡ getD s i 0
 
 -- the same by the lists' parts
 at-third : (p x y : List ℕ) (n i : ℕ) → n ≡ length p + length x → getD (p ++ (x ++ y)) (n + i) 0 ≡ getD y i 0

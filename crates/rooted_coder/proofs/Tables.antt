@@ -123,7 +123,7 @@ module _ (M : Marks) (label : ℕ → M .Label) {N : ℕ} {E : List ℕ} {t : Li
   numbers = tree-numbering M label N E r (markOf s) (kids t) reads-table (suc size) (omega arith) tree h k
 
   -- what hangs at the root is the order of the edge list
-  pub placed : {out : List ℕ} {n : ℕ} → Covers s t r out n → Placed M label N E r s out n
+  placed : {out : List ℕ} {n : ℕ} → Covers s t r out n → Placed M label N E r s out n
   unfolding ordered compared orderₗ pairsₗ
   placed {out} c =
       let first : take N out ≡ ordered s t 0 r = ap (take N) (c .whole) ∙ take-at (ordered s t 0 r) (c .behind) N (numbers .all) in

@@ -128,9 +128,6 @@ module _ {m : List ℕ} {t : List (List ℕ)} {out₀ lens₀ : List ℕ} {p v a
             ∙ ap (λ i. i + length (flatten (map f (rest p (row t v) (j + 1))))) (length-one (map f (s .done)) (f w)) in
             omega (arith, total, s .hangs .head)
 
-        pub place : endOf lens at < size
-        place = omega (arith, room, some-ordered m t v w)
-
 -- the part of w, a child of v, stands at `at`; what stood before is as it was; n' pairs were looked at
 pub record Written (m : List ℕ) (t : List (List ℕ)) (out lens out' lens' : List ℕ) (v w at n n' : ℕ) : Type 0 where
   pub outs : length out' ≡ size

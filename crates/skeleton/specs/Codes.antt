@@ -164,7 +164,7 @@ module _ (M : Marks) where
         (codes-of A (suc n) p f (omega arith) k)
 
     -- the rooted code, from the forest of the root's children
-    pub code-of-tree : (A : List Arc) (n r : ℕ) (f : Forest) → List·Permᴰ A (hung r f) → (List·Memᴰ r (vertices f) → ⊥) → Distinct f → (List·Memᴰ 0 (vertices f) → ⊥) → count f < n
+    code-of-tree : (A : List Arc) (n r : ℕ) (f : Forest) → List·Permᴰ A (hung r f) → (List·Memᴰ r (vertices f) → ⊥) → Distinct f → (List·Memᴰ 0 (vertices f) → ⊥) → count f < n
         → codeₗ M label n A 0 r ≡ joinₗ M (label r) (branches f)
     unfolding codeₗ
     code-of-tree A zero r f π a t z l = let z : ⊥ = omega arith in absurd z

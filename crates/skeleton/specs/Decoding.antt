@@ -42,7 +42,7 @@ unfolding number count
 number-count j none = refl
 number-count j (tree v d f) = omega (arith, number-count (suc j) d, number-count (suc j + count d) f)
 
-pub edges-arcs : (p : ℕ) (f : Forest) (E : List ℕ) → arcs (edgesOf p f ++ E) ≡ hung p f ++ arcs E
+edges-arcs : (p : ℕ) (f : Forest) (E : List ℕ) → arcs (edgesOf p f ++ E) ≡ hung p f ++ arcs E
 unfolding edgesOf hung arcs
 edges-arcs p none E = refl
 edges-arcs p (tree v d f) E = ap (λ l. (p, v) ∷ (v, p) ∷ l) (
@@ -57,7 +57,7 @@ unfolding arcs
 edges-hung p f = ap arcs (sym (append-nil (edgesOf p f))) ∙ edges-arcs p f [] ∙ append-nil (hung p f)
 
 -- digits that are a forest's, and then others: the forest's edges, then those of the others
-pub edges-forest : (p : ℕ) (f : Forest) (W : List ℕ) (j : ℕ) (ds : List ℕ)
+edges-forest : (p : ℕ) (f : Forest) (W : List ℕ) (j : ℕ) (ds : List ℕ)
     → edgesFrom (replicate (width f) p ++ W) j (shape f ++ ds) ≡ edgesOf p (number j f) ++ edgesFrom W (j + count f) ds
 unfolding edgesFrom width shape number count edgesOf
 edges-forest p none W j ds = let e : j ≡ j + 0 = omega arith in ap (λ k. edgesFrom W k ds) e

@@ -41,7 +41,7 @@ cut (suc k) w (tree v d g) e =
     }
 
 -- digits that end are a forest's
-pub read : (ds : List ℕ) (w : ℕ) → Ends w ds → (f : Forest) × (width f ≡ w) × (shape f ≡ ds)
+read : (ds : List ℕ) (w : ℕ) → Ends w ds → (f : Forest) × (width f ≡ w) × (shape f ≡ ds)
 unfolding width shape
 read [] zero h = (none, refl, refl)
 read [] (suc w) h = absurd h
@@ -67,7 +67,7 @@ number-in v j (tree u d f) (List·Memᴰ·tail m) = step (List·Memᴰ·append-c
     step (inl h) a b = omega (arith, a h)
     step (inr h) a b = omega (arith, b h)
 
-pub number-all : (v j : ℕ) (f : Forest) → j ≤ v → v < j + count f → List·Memᴰ v (vertices (number j f))
+number-all : (v j : ℕ) (f : Forest) → j ≤ v → v < j + count f → List·Memᴰ v (vertices (number j f))
 unfolding number vertices count
 number-all v j none a b = let z : ⊥ = omega arith in absurd z
 number-all v j (tree u d f) a b = step (ℕ-discrete v j) (decLt v (suc j + count d)) (number-all v (suc j) d) (number-all v (suc j + count d) f)

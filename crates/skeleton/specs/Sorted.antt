@@ -28,7 +28,7 @@ module _ (M : Marks) (label : ℕ → M .Label) where
   Sorted none = Unit {0}
   Sorted (tree v d f) = Falling (branches M label d) × Sorted d × Sorted f
 
-  pub sorted-marks : (f : Forest) → Sorted f → flatten (branches M label f) ≡ marks M label f
+  sorted-marks : (f : Forest) → Sorted f → flatten (branches M label f) ≡ marks M label f
   unfolding branches marks joinₗ flatten
   sorted-marks none s = refl
   sorted-marks (tree v d f) (h, s, t) =

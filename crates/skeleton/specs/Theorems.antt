@@ -1,7 +1,7 @@
 -- The theorems of document 01's rooted codes, each under a plain sentence and proved by a name from elsewhere. `General` has them for
 -- vertices with labels, `Ordered` a test of a code on its digits alone, and `Accepted` what the refusal table lets pass. A section's
 -- first line names what its theorems speak of. Assumes nothing.
-use mathlib.Core.Path.{_≡_, refl, ap, sym, _∙_}
+use mathlib.Core.Path.{_≡_, refl}
 use mathlib.Core.Logic.{_↔_, Iff·trans}
 use mathlib.Core.List.{List, [], _++_, List·Permᴰ}
 use Prim.Native.Nat.{ℕ, _+_, _≤_}
@@ -66,7 +66,3 @@ module _ (N : ℕ) (E : List ℕ) (r : ℕ) (t : IsTree N E) (h : 1 ≤ r) (k : 
   unfolding Degrees Valences
   degrees R =
       Iff·trans (rw rooted-base at (General.degrees base N E r (λ v. tt) t h k (λ a. R))) (caps R (rooted N E r) (decode-code (rooted N E r) .0 right .0))
-
--- trees with equal rooted codes have equally many vertices
-pub same-size : (N P : ℕ) (E F : List ℕ) (r q : ℕ) → IsTree N E → 1 ≤ r → r ≤ N → IsTree P F → 1 ≤ q → q ≤ P → rooted N E r ≡ rooted P F q → N ≡ P
-same-size N P E F r q t h k u i j e = sym (code-length N E r t h k) ∙ ap length e ∙ code-length P F q u i j

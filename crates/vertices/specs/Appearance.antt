@@ -22,7 +22,7 @@ greatest-more [] k = omega arith
 greatest-more (x ∷ l) k = omega (arith, greatest-more l k)
 
 -- none is above it
-pub greatest-above : (l : List ℕ) (i : ℕ) → getD l i 0 ≤ greatest l
+greatest-above : (l : List ℕ) (i : ℕ) → getD l i 0 ≤ greatest l
 unfolding greatest
 greatest-above [] i = omega arith
 greatest-above (x ∷ l) zero = omega arith
@@ -54,7 +54,7 @@ module _ {R : ℕ → ℕ → Type 0} (R? : (u v : ℕ) → Dec (R u v)) where
           before (suc j) h r = f j (omega arith) (subst (λ (w : ℕ). R w v) (past j) r)
 
   -- it is at most the next number
-  pub class-most : (v u : ℕ) (l : List ℕ) → classOf R? v (suc (greatest l)) u l ≤ suc (greatest l)
+  class-most : (v u : ℕ) (l : List ℕ) → classOf R? v (suc (greatest l)) u l ≤ suc (greatest l)
   class-most v u l = at (finds v (suc (greatest l)) u l)
     where
       at : {x : ℕ} → Finds R v (suc (greatest l)) u l x → x ≤ suc (greatest l)

@@ -49,7 +49,7 @@ one-a-zero N E r s a b = numbered-apart r s (one-result (λ x y p q. (p ∙ sym 
 -- ---- by code
 
 -- the edges by code are one
-pub one-numbering : {N : ℕ} {E F G : List ℕ} → IsTree N E → NumberedByCode N E F → NumberedByCode N E G → F ≡ G
+one-numbering : {N : ℕ} {E F G : List ℕ} → IsTree N E → NumberedByCode N E F → NumberedByCode N E G → F ≡ G
 one-numbering t x y = x .edges ∙ ap decode (centred-form .one t (x .right) (y .right)) ∙ sym (y .edges)
 
 one-by-code : {A : Type 0} {of : List ℕ → A} {N : ℕ} {E : List ℕ} → IsTree N E → (a b : A) → ByCode of N E a → ByCode of N E b → a ≡ b

@@ -153,31 +153,27 @@ module _ {most N : ℕ} {E F : List ℕ} (s : IsSkeleton most valence N E) (x : 
         },
       )
 
+  -- and so is what is decoded into room for its edges
+  by-code-back : (new : List ℕ) (o : Outcome ℕ) (m : ℕ) → length E ≤ m → (length F ≤ m → IsSkeleton most valence N F → Physical N F → Kept F new o) → Renumbered N E new o
+  by-code-back new o m h from = by-code-kept new o (from (omega (arith, by-code-length)) by-code-skeleton by-code-physical)
+
 pub cam-by-code-back :
     (N : ℕ) (E old new : List ℕ) (n : ℕ) (old′ new′ : List ℕ) (o : Outcome ℕ) → CamByCode N E old new (gives n) → length E ≤ length old′
     → DecodeCam N (take n new) old′ new′ o → Renumbered N E new′ o
 cam-by-code-back N E old new n old′ new′ o c h g =
     let (k, b, _) = gave c in
-    let s = skeleton-of k in
-    let x = b .numbering in
-    by-code-kept s x new′ o
-    (from-cam N (b .edges) (omega (arith, by-code-length s x)) (by-code-skeleton s x) (by-code-physical s x) (subst (λ d. DecodeCam N d old′ new′ o) (b .is) g))
+    by-code-back (skeleton-of k) (b .numbering) new′ o (length old′) h (λ l s p. from-cam N (b .edges) l s p (subst (λ d. DecodeCam N d old′ new′ o) (b .is) g))
 
 pub zero-a-by-code-back :
     (N : ℕ) (E : List ℕ) (v : ℕ) (old new : List ℕ) (o : Outcome ℕ) → ZeroAByCode N E (gives v) → length E ≤ length old → DecodeZeroA N v old new o
     → Renumbered N E new o
 zero-a-by-code-back N E v old new o c h g =
     let (k, b) = gave-value c in
-    let s = skeleton-of k in
-    let x = b .numbering in
-    by-code-kept s x new o
-    (from-zero N (b .edges) (omega (arith, by-code-length s x)) (by-code-skeleton s x) (by-code-physical s x) (subst (λ y. DecodeZeroA N y old new o) (b .is) g))
+    by-code-back (skeleton-of k) (b .numbering) new o (length old) h (λ l s p. from-zero N (b .edges) l s p (subst (λ y. DecodeZeroA N y old new o) (b .is) g))
 
 pub a-zero-by-code-back :
     (N : ℕ) (E : List ℕ) (v : ℕ) (old new : List ℕ) (o : Outcome ℕ) → AZeroByCode N E (gives v) → length E ≤ length old → DecodeAZero N v old new o
     → Renumbered N E new o
 a-zero-by-code-back N E v old new o c h g =
     let (k, b) = gave-value c in
-    let s = skeleton-of k in
-    let x = b .numbering in
-    by-code-kept s x new o (from-a N (b .edges) (omega (arith, by-code-length s x)) (by-code-skeleton s x) (subst (λ y. DecodeAZero N y old new o) (b .is) g))
+    by-code-back (skeleton-of k) (b .numbering) new o (length old) h (λ l s p. from-a N (b .edges) l s (subst (λ y. DecodeAZero N y old new o) (b .is) g))

@@ -10,11 +10,11 @@ mixed v (b ∷ bs) [] = v
 mixed v (b ∷ bs) (d ∷ ds) = mixed (v * b + d) bs ds
 
 -- what is left of v when its digits for the bases are taken off, the last one first
-unfoldable pub left : List ℕ → ℕ → ℕ
-left [] v = v
-left (b ∷ bs) v = left bs v / b
+unfoldable pub quotient : List ℕ → ℕ → ℕ
+quotient [] v = v
+quotient (b ∷ bs) v = quotient bs v / b
 
 -- the digits of v
 unfoldable pub mixedDigits : List ℕ → ℕ → List ℕ
 mixedDigits [] v = []
-mixedDigits (b ∷ bs) v = left bs v % b ∷ mixedDigits bs v
+mixedDigits (b ∷ bs) v = quotient bs v % b ∷ mixedDigits bs v

@@ -1,5 +1,5 @@
 -- `bits::number` meets its contract, as `bits::zeros_behind` does; nothing may follow. Assumes nothing.
-use Prim.Native.Nat.{_-_, _*_}
+use Prim.Native.Nat.{ℕ, _-_, _*_}
 use native.Mathlib.Omega.{arith}
 use Rattle.bits.specs.document.Bits.{Nothing}
 use Rattle.bits.specs.Words.{length-word}
@@ -27,10 +27,24 @@ enum-known-e c = search needs
 enum-known-e-2 : tie.Need-enum-known-e-2
 enum-known-e-2 c = search needs
 
-within : (c : tie.After-known-told3) → Within (c .before .e2 .given .0 .0) (2 * c .before .before .before .before .before .before .before .before .args .n - 1)
+-- the digits were read, before what they came to is told apart
+abbrev read : tie.After-slice-known2 → tie.After-word-digits
+read c = c .before .before
+
+abbrev entered : tie.After-word-digits → tie.Start
+entered c = c .before .before .before
+
+-- they ended
+abbrev ended : tie.After-known-told3 → tie.After-word-digits
+ended c = read (c .before .before .before)
+
+abbrev end : tie.After-known-told3 → ℕ
+end c = c .before .e2 .given .0 .0
+
+within : (c : tie.After-known-told3) → Within (end c) (2 * entered (ended c) .args .n - 1)
 within c =
-    let a = c .before .before .before .before .before .before .before .before .args in
-    let t = end-within (c .before .before .before .before .before .word-digits .ensures) (c .before .e2 .given .1) in
+    let a = entered (ended c) .args in
+    let t = end-within (ended c .word-digits .ensures) (c .before .e2 .given .1) in
     omega (arith, t, length-word (2 * a .n - 1) (a .x))
 
 add-t15 : tie.Need-add-t15
@@ -41,33 +55,31 @@ same-length c = search needs
 
 returns : tie.Need-returns
 returns c =
-    let a = c .before .before .before .before .before .before .before .before .before .args in
-    let e = c .before .before .e2 .given in
-    let w = within (c .before) in
-    answer-more Nothing (c .before .before .before .before .before .before .word-digits .ensures) (e .1)
-    (word-something (a .x) (2 * a .n - 1) (e .0 .0) (w .long) (omega arith))
+    let e = c .before in
+    let a = entered (ended e) .args in
+    let w = within e in
+    answer-more Nothing (ended e .word-digits .ensures) (e .before .e2 .given .1) (word-something (a .x) (2 * a .n - 1) (end e) (w .long) (omega arith))
 
 same-length-2 : tie.Need-same-length-2
 same-length-2 c = search needs
 
 returns-2 : tie.Need-returns-2
-returns-2 c = answer-over Nothing (c .before .before .before .before .before .word-digits .ensures) (c .before .p .given .1)
+returns-2 c = answer-over Nothing (read (c .before .before .before) .word-digits .ensures) (c .before .p .given .1)
 
 same-length-3 : tie.Need-same-length-3
 same-length-3 c = search needs
 
 returns-3 : tie.Need-returns-3
-returns-3 c = answer-short Nothing (c .before .before .before .before .before .word-digits .ensures) (c .before .e .given .1)
+returns-3 c = answer-short Nothing (read (c .before .before .before) .word-digits .ensures) (c .before .e .given .1)
 
 same-length-4 : tie.Need-same-length-4
 same-length-4 c = search needs
 
 returns-4 : tie.Need-returns-4
 returns-4 c =
-    let a = c .before .before .before .before .before .before .before .before .before .args in
-    let e = c .before .before .e2 .given in
-    answer-read Nothing (c .before .before .before .before .before .before .word-digits .ensures) (e .1)
-    (word-nothing (a .x) (2 * a .n - 1) (e .0 .0) (omega arith))
+    let e = c .before in
+    let a = entered (ended e) .args in
+    answer-read Nothing (ended e .word-digits .ensures) (e .before .e2 .given .1) (word-nothing (a .x) (2 * a .n - 1) (end e) (omega arith))
 
 pub number-spec : {M : Type 1} → statement M
 number-spec =

@@ -15,6 +15,16 @@ Inv-loop code out₀ a₀ c₀ m₀ i₀ out a c m i = Packing code out₀ out i
 abbrev μ-loop : tie.MeasureT-loop
 μ-loop code out₀ a₀ c₀ m₀ i₀ out a c m i = length code - i
 
+abbrev entered : tie.At-loop Inv-loop μ-loop → tie.Start Inv-loop μ-loop
+entered c = c .before .before .before
+
+-- a turn of the loop, once its digit was read, and once its bits were appended
+abbrev taken : tie.After-digit Inv-loop μ-loop → tie.At-loop Inv-loop μ-loop
+taken c = c .before .before
+
+abbrev appended : tie.After-append Inv-loop μ-loop → tie.At-loop Inv-loop μ-loop
+appended c = taken (c .before)
+
 loop-holds : tie.Need-loop-holds Inv-loop μ-loop
 loop-holds c = pack-none (c .before .before .args .code .now) (c .before .before .args .out .now)
 
@@ -22,28 +32,28 @@ digit-requires : tie.Need-digit-requires Inv-loop μ-loop
 digit-requires c κs = c .loop-test .taken
 
 append-requires : tie.Need-append-requires Inv-loop μ-loop
-append-requires c κs = let p = c .before .before .before .before .before .pre in rw (c .digit .ensures) (pack-room (c .before .before .loop .inv) (p .0) (lit≤ tt) (p .1) (c .before .loop-test .taken))
+append-requires c κs = let p = entered (taken c) .pre in rw (c .digit .ensures) (pack-room (taken c .loop .inv) (p .0) (lit≤ tt) (p .1) (c .before .loop-test .taken))
 
 small : (c : tie.After-append Inv-loop μ-loop) → c .before .digit .result ≤ 6
-small c = omega (arith, c .before .digit .ensures, c .before .before .before .before .before .before .pre .0 .small (c .before .before .before .loop .i))
+small c = omega (arith, c .before .digit .ensures, entered (appended c) .pre .0 .small (appended c .loop .i))
 
 add-c : tie.Need-add-c Inv-loop μ-loop
 add-c c = omega (arith, small c)
 
 add-c-2 : tie.Need-add-c-2 Inv-loop μ-loop
-add-c-2 c = omega (arith, small c, c .before .before .before .loop .inv .few)
+add-c-2 c = omega (arith, small c, appended c .loop .inv .few)
 
 add-i : tie.Need-add-i Inv-loop μ-loop
 add-i c = omega arith
 
 shr-out : tie.Need-shr-out Inv-loop μ-loop
-shr-out c = omega (arith, small (c .before), c .before .before .before .before .loop .inv .few)
+shr-out c = omega (arith, small (c .before), appended (c .before) .loop .inv .few)
 
 cast-out : tie.Need-cast-out Inv-loop μ-loop
 cast-out c = record { fits = mod-lt _ (lit< tt) }
 
 slice-write-out : tie.Need-slice-write-out Inv-loop μ-loop
-slice-write-out c = let p = c .before .before .before .before .before .before .before .pre in pack-byte (c .before .before .before .before .loop .inv) (p .0) (lit≤ tt) (p .1) (c .before .before .before .loop-test .taken) (rw (c .before .before .digit .ensures) at (c .if1 .taken))
+slice-write-out c = let p = entered (appended (c .before)) .pre in pack-byte (appended (c .before) .loop .inv) (p .0) (lit≤ tt) (p .1) (c .before .before .before .loop-test .taken) (rw (c .before .before .digit .ensures) at (c .if1 .taken))
 
 add-m : tie.Need-add-m Inv-loop μ-loop
 add-m c = omega (arith, slice-write-out c)
@@ -53,10 +63,10 @@ loop-less c = omega arith
 
 loop-again : tie.Need-loop-again Inv-loop μ-loop
 loop-again c =
-    let p = c .before .before .before .before .before .before .before .pre in
+    let p = entered (appended (c .before)) .pre in
     let k = c .before .before .digit .ensures in
     rw k
-    (pack-out (c .before .before .before .before .loop .inv) (p .0) (lit≤ tt) (p .1) (c .before .before .before .loop-test .taken) (c .before .append .result)
+    (pack-out (appended (c .before) .loop .inv) (p .0) (lit≤ tt) (p .1) (c .before .before .before .loop-test .taken) (c .before .append .result)
     (rw k at (c .before .append .ensures)) (rw k at (c .if1 .taken)))
 
 loop-less-2 : tie.Need-loop-less-2 Inv-loop μ-loop
@@ -64,10 +74,10 @@ loop-less-2 c = omega arith
 
 loop-again-2 : tie.Need-loop-again-2 Inv-loop μ-loop
 loop-again-2 c =
-    let p = c .before .before .before .before .before .before .before .pre in
+    let p = entered (appended (c .before)) .pre in
     let k = c .before .before .digit .ensures in
     rw k
-    (pack-on (c .before .before .before .before .loop .inv) (p .0) (lit≤ tt) (p .1) (c .before .before .before .loop-test .taken) (c .before .append .result)
+    (pack-on (appended (c .before) .loop .inv) (p .0) (lit≤ tt) (p .1) (c .before .before .before .loop-test .taken) (c .before .append .result)
     (rw k at (c .before .append .ensures)) (rw k at (c .if1 .left)))
 
 sub-out : tie.Need-sub-out Inv-loop μ-loop
@@ -80,7 +90,7 @@ cast-out-2 : tie.Need-cast-out-2 Inv-loop μ-loop
 cast-out-2 c = record { fits = mod-lt _ (lit< tt) }
 
 slice-write-out-2 : tie.Need-slice-write-out-2 Inv-loop μ-loop
-slice-write-out-2 c = let p = c .before .before .before .before .pre in pack-last (c .before .loop .inv) (p .0) (lit≤ tt) (p .1) (c .loop-test .left)
+slice-write-out-2 c = let p = entered (c .before) .pre in pack-last (c .before .loop .inv) (p .0) (lit≤ tt) (p .1) (c .loop-test .left)
 
 add-result : tie.Need-add-result Inv-loop μ-loop
 add-result c = omega (arith, slice-write-out-2 c)
@@ -90,7 +100,7 @@ same-length c = simp length-set (c .before .loop .inv .size)
 
 returns : tie.Need-returns Inv-loop μ-loop
 returns c =
-    let p = c .before .before .before .before .pre in
+    let p = entered (c .before) .pre in
     let l = c .before .loop in
     rw (mod-mod-pow (l .a * 2 ^ (8 - l .c)) 56 8) (pack-done (l .inv) (p .0) (lit≤ tt) (p .1) (c .loop-test .left))
 

@@ -1,5 +1,6 @@
 -- `bits::packed` meets its contract, as `bits::zeros_behind` does; what follows fills the last byte. Assumes nothing.
-use Prim.Native.Nat.{_*_}
+use mathlib.Core.List.{List}
+use Prim.Native.Nat.{ℕ, _*_}
 use native.Mathlib.Omega.{arith}
 use lib.ListN.{length}
 use Rattle.bits.specs.document.Bits.{Fill}
@@ -10,11 +11,28 @@ use borrow.Author.Needs.{needs}
 use Rattle.bits.proofs.packed.Statement.{statement}
 use Rattle.bits.proofs.packed.Tie as tie
 
-within : (c : tie.After-known-told3) → Within (c .before .n2 .given .0 .0) (8 * length (c .before .before .before .before .before .before .before .before .before .args .s .now))
+-- the digits were read, before what they came to is told apart
+abbrev read : tie.After-slice-known2 → tie.After-digits
+read c = c .before .before
+
+abbrev bytesLent : tie.After-digits → List ℕ
+bytesLent c = c .before .before .before .before .args .s .now
+
+-- they ended
+abbrev ended : tie.After-known-told3 → tie.After-digits
+ended c = read (c .before .before .before)
+
+abbrev end : tie.After-known-told3 → ℕ
+end c = c .before .n2 .given .0 .0
+
+within : (c : tie.After-known-told3) → Within (end c) (8 * length (bytesLent (ended c)))
 within c =
-    let s = c .before .before .before .before .before .before .before .before .before .args .s .now in
-    let t = end-within (c .before .before .before .before .before .digits .ensures) (c .before .n2 .given .1) in
-    omega (arith, t, length-bytes s)
+    let t = end-within (ended c .digits .ensures) (c .before .n2 .given .1) in
+    omega (arith, t, length-bytes (bytesLent (ended c)))
+
+-- they ended, and the last byte is looked at
+abbrev looked : tie.After-shared-slice-known2 → tie.After-known-told3
+looked c = c .before .before
 
 pub packed-spec : {M : Type 1} → statement M
 packed-spec =
@@ -29,31 +47,27 @@ packed-spec =
     (λ c. search needs)
     (λ c. search needs)
     (λ c. search needs)
-    (λ c. let s = c .before .before .before .before .before .before .before .before .before .before .args .s .now in
-    let n = c .before .before .n2 .given in
-    let w = within (c .before) in
-    answer-more Fill (c .before .before .before .before .before .before .digits .ensures) (n .1)
-    (spare-byte s (n .0 .0) (w .some) (w .long) (c .if1 .taken)))
+    (λ c. let e = c .before in
+    let w = within e in
+    answer-more Fill (ended e .digits .ensures) (e .before .n2 .given .1) (spare-byte (bytesLent (ended e)) (end e) (w .some) (w .long) (c .if1 .taken)))
     (λ c. omega (arith, within (c .before)))
-    (λ c. omega (arith, within (c .before .before)))
-    (λ c. omega (arith, within (c .before .before)))
-    (λ c. omega (arith, within (c .before .before)))
+    (λ c. omega (arith, within (looked c)))
+    (λ c. omega (arith, within (looked c)))
+    (λ c. omega (arith, within (looked c)))
     (λ c. search needs)
     (λ c. search needs)
     (λ c. search needs)
-    (λ c. let s = c .before .before .before .before .before .before .before .before .before .before .before .before .args .s .now in
-    let n = c .before .before .before .before .n2 .given in
-    let w = within (c .before .before .before) in
-    answer-read Fill (c .before .before .before .before .before .before .before .before .digits .ensures) (n .1)
-    (fill-zeros s (n .0 .0) (w .some) (w .long) (c .before .before .if1 .left) (c .if2 .taken)))
-    (λ c. omega (arith, within (c .before .before .before)))
+    (λ c. let e = looked (c .before) in
+    let w = within e in
+    answer-read Fill (ended e .digits .ensures) (e .before .n2 .given .1)
+    (fill-zeros (bytesLent (ended e)) (end e) (w .some) (w .long) (c .before .before .if1 .left) (c .if2 .taken)))
+    (λ c. omega (arith, within (looked (c .before))))
     (λ c. search needs)
-    (λ c. answer-over Fill (c .before .before .before .before .before .digits .ensures) (c .before .p .given .1))
+    (λ c. answer-over Fill (read (c .before .before .before) .digits .ensures) (c .before .p .given .1))
     (λ c. search needs)
-    (λ c. answer-short Fill (c .before .before .before .before .before .digits .ensures) (c .before .n .given .1))
+    (λ c. answer-short Fill (read (c .before .before .before) .digits .ensures) (c .before .n .given .1))
     (λ c. search needs)
-    (λ c. let s = c .before .before .before .before .before .before .before .before .before .before .before .before .args .s .now in
-    let n = c .before .before .before .before .n2 .given in
-    let w = within (c .before .before .before) in
-    answer-more Fill (c .before .before .before .before .before .before .before .before .digits .ensures) (n .1)
-    (fill-ones s (n .0 .0) (w .some) (w .long) (c .before .before .if1 .left) (c .if2 .left))))
+    (λ c. let e = looked (c .before) in
+    let w = within e in
+    answer-more Fill (ended e .digits .ensures) (e .before .n2 .given .1)
+    (fill-ones (bytesLent (ended e)) (end e) (w .some) (w .long) (c .before .before .if1 .left) (c .if2 .left))))

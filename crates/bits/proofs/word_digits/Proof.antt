@@ -16,9 +16,19 @@ Inv-loop limit x len out₀ n₀ b₀ out n b = Sofar limit (word len x) out n b
 abbrev μ-loop : tie.MeasureT-loop
 μ-loop limit x len out₀ n₀ b₀ out n b = len - b
 
+abbrev entered : tie.At-loop Inv-loop μ-loop → tie.Start Inv-loop μ-loop
+entered c = c .before .before
+
+-- a turn of the loop, once its digit was taken in
+abbrev looped : tie.After-step Inv-loop μ-loop → tie.At-loop Inv-loop μ-loop
+looped c = c .before .before .before .before
+
 -- what the turn came to
-turn : (c : tie.After-step Inv-loop μ-loop) → let a = c .before .before .before .before .before .before .args in let l = c .before .before .before .before .loop in Turns (a .limit) (word (a .len) (a .x)) (c .step .last .1 .1 .1 .1 .1 .0) (l .n) (l .b) (c .step .result)
-turn c = let a = c .before .before .before .before .before .before .args in c .step .ensures (word (a .len) (a .x)) (length-word (a .len) (a .x)) (c .before .before .before .before .loop .inv) (near-exact _ (c .before .before .digit-in .ensures))
+turn : (c : tie.After-step Inv-loop μ-loop)
+    → let l = c .before .before .before .before in let a = entered l .args in Turns (a .limit) (word (a .len) (a .x)) (c .step .last .1 .1 .1 .1 .1 .0) (l .loop .n) (l .loop .b) (c .step .result)
+turn c =
+    let a = entered (looped c) .args in
+    c .step .ensures (word (a .len) (a .x)) (length-word (a .len) (a .x)) (looped c .loop .inv) (near-exact _ (c .before .before .digit-in .ensures))
 
 pub word-digits-spec : {M : Type 1} → statement M
 word-digits-spec =
@@ -28,13 +38,13 @@ word-digits-spec =
     μ-loop
     (λ c. sofar-none _ _ _ (c .before .pre .1 .1))
     (λ c κs. (omega arith, c .before .before .before .pre .1 .0))
-    (λ c κs. (c .before .before .before .before .before .pre .0, let l = c .before .before .before .loop in record { few = omega arith; within = omega arith; twice = twice (l .inv); long = l .inv .long }))
+    (λ c κs. let l = c .before .before .before in (entered l .pre .0, record { few = omega arith; within = omega arith; twice = twice (l .loop .inv); long = l .loop .inv .long }))
     (λ c. search needs)
-    (λ c. (rw (c .before .found .given .1) at (turn (c .before .before .before .before .before))) .long ∙ sym (c .before .before .before .before .before .before .before .before .before .before .before .pre .1 .1))
+    (λ c. (rw (c .before .found .given .1) at (turn (c .before .before .before .before .before))) .long ∙ sym (entered (looped (c .before .before .before .before .before)) .pre .1 .1))
     (λ c. rw (c .before .found .given .1) at (turn (c .before .before .before .before .before)))
     (λ c. search needs)
-    (λ c. omega (arith, twice (c .before .before .before .before .before .before .before .before .before .loop .inv)))
+    (λ c. omega (arith, twice (looped (c .before .before .before .before .before) .loop .inv)))
     (λ c. let t = rw (c .before .e .given .1) at (turn (c .before .before .before .before .before)) in omega (arith, t .0))
     (λ c. (rw (c .before .e .given .1) at (turn (c .before .before .before .before .before))) .1)
-    (λ c. c .before .loop .inv .long ∙ sym (c .before .before .before .pre .1 .1))
-    (λ c. let a = c .before .before .before .args in sofar-out (c .before .loop .inv) (omega (arith, length-word (a .len) (a .x)))))
+    (λ c. c .before .loop .inv .long ∙ sym (entered (c .before) .pre .1 .1))
+    (λ c. let a = entered (c .before) .args in sofar-out (c .before .loop .inv) (omega (arith, length-word (a .len) (a .x)))))

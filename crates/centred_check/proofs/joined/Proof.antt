@@ -21,6 +21,10 @@ abbrev μ-loop : tie.MeasureT-loop
 abbrev start : tie.At-loop Inv-loop μ-loop → tie.Start Inv-loop μ-loop
 start c = c .before .before .before .before .before .before
 
+-- whether the tree falls behind the one before it is told
+abbrev told : tie.After-falls-at Inv-loop μ-loop → tie.At-loop Inv-loop μ-loop
+told c = c .before .before .before .before .before
+
 pub joined-spec : {M : Type 1} → statement M
 joined-spec =
     tie.close
@@ -45,14 +49,14 @@ joined-spec =
       join-first (s .pre .0) (l .loop .inv) (s .pre .1 .1 .0) (omega arith),
       (join-second (s .pre .0) (l .loop .inv) (s .pre .1 .1 .0) (omega arith), join-within (s .pre .0) (l .loop .inv) (s .pre .1 .1 .0) (omega arith)),
     ))
-    (λ c. let l = c .before .before .before .before .before .before in let s = start l in
+    (λ c. let l = told (c .before) in let s = start l in
     join-stop (s .pre .0) (l .loop .inv) (s .pre .1 .1 .0) (omega arith) (was-denied (c .before .falls-at .ensures) (not-true _ (c .if2 .taken))))
-    (λ c. let l = c .before .before .before .before .before .before .before in omega (arith, l .loop .inv .some, start l .pre))
+    (λ c. let l = told (c .before .before) in omega (arith, l .loop .inv .some, start l .pre))
     (λ c. omega arith)
-    (λ c. let l = c .before .before .before .before .before .before .before .before in let s = start l in
+    (λ c. let l = told (c .before .before .before) in let s = start l in
     join-next (s .pre .0) (l .loop .inv) (s .pre .1 .1 .0) (omega arith) (top-more (l .loop .inv .topped) (omega (arith, s .pre)) (omega arith) (omega arith)) (was-held (c .before .before .before .falls-at .ensures) (not-false _ (c .before .before .if2 .left))))
     (λ c. omega arith)
-    (λ c. let l = c .before .before .before .before .before .before .before .before in let s = start l in
+    (λ c. let l = told (c .before .before .before) in let s = start l in
     join-next (s .pre .0) (l .loop .inv) (s .pre .1 .1 .0) (omega arith) (top-same (l .loop .inv .topped) (omega (arith, s .pre)) (omega arith) (omega arith)) (was-held (c .before .before .before .falls-at .ensures) (not-false _ (c .before .before .if2 .left))))
     (λ c. let l = c .before in let s = start l in omega (arith, top-last (l .loop .inv .topped) (omega arith), s .pre))
     (λ c. let l = c .before in let s = start l in join-last (s .pre .0) (l .loop .inv) (s .pre .1 .1 .0) (omega arith)))

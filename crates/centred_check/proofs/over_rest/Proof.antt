@@ -7,7 +7,7 @@ use lib.ListN.{getD}
 use borrow.Author.Needs.{needs}
 use Rattle.digit_code.specs.Compare.{told-falls}
 use Rattle.centred_check.specs.Middle.{fewer}
-use Rattle.centred_check.specs.Kinds.{kinds, fewer-is, unit-fits}
+use Rattle.centred_check.specs.Kinds.{kinds, fewer-by, unit-fits}
 use Rattle.centred_check.specs.Over.{rest-not, rest-so, rest-by}
 use Rattle.centred_check.proofs.over_rest.Statement.{statement}
 use Rattle.centred_check.proofs.over_rest.Tie as tie
@@ -20,9 +20,15 @@ some c = c .pre .1 .1 .1 .1
 
 -- the mark of the root without one child
 left-is : (c : tie.After-step) → fewer (kinds (start c .args .named)) (getD (now (start c .args .code)) 0 0) ≡ getD (now (start c .args .code)) 0 0 - c .step .result
-left-is c =
-    let s = start c in
-    omega (arith, c .step .ensures, fewer-is (s .args .named) (getD (now (s .args .code)) 0 0) (some s))
+left-is c = let s = start c in fewer-by (s .args .named) (getD (now (s .args .code)) 0 0) (c .step .result) (c .step .ensures) (some s)
+
+-- the first digits do not decide
+abbrev undecided : tie.Else2 → tie.After-step
+undecided c = c .before .before .before
+
+-- and what is behind them was compared
+abbrev compared : tie.After-compare-three → tie.After-step
+compared c = undecided (c .before .before .before .before .before)
 
 pub over-rest-spec : {M : Type 1} → statement M
 over-rest-spec =
@@ -53,9 +59,9 @@ over-rest-spec =
     (λ c. search needs)
     (λ c. search needs)
     (λ c. search needs)
-    (λ c. let t = c .before .before .before .before .before .before .before .before .before .before in let a = start t .args in
+    (λ c. let t = compared (c .before .before) in let a = start t .args in
     rest-by (kinds (a .named)) (now (a .code)) (a .x) (a .y) (a .e) (omega (arith, start t .pre)) (omega (arith, start t .pre)) (omega (arith, start t .pre)) (omega (arith, start t .pre)) (omega (arith, left-is t)) (told-falls _ _ (sym (c .before .before .compare-three .ensures) ∙ c .enum-told .given .1)))
-    (λ c. let t = c .before .before .before .before .before .before .before .before .before .before in let a = start t .args in
+    (λ c. let t = compared (c .before .before) in let a = start t .args in
     rest-by (kinds (a .named)) (now (a .code)) (a .x) (a .y) (a .e) (omega (arith, start t .pre)) (omega (arith, start t .pre)) (omega (arith, start t .pre)) (omega (arith, start t .pre)) (omega (arith, left-is t)) (told-falls _ _ (sym (c .before .before .compare-three .ensures) ∙ c .enum-told2 .given .1)))
-    (λ c. let t = c .before .before .before .before .before .before .before .before .before .before in let a = start t .args in
+    (λ c. let t = compared (c .before .before) in let a = start t .args in
     rest-by (kinds (a .named)) (now (a .code)) (a .x) (a .y) (a .e) (omega (arith, start t .pre)) (omega (arith, start t .pre)) (omega (arith, start t .pre)) (omega (arith, start t .pre)) (omega (arith, left-is t)) (told-falls _ _ (sym (c .before .before .compare-three .ensures) ∙ c .enum-told3 .given .1))))

@@ -16,6 +16,10 @@ Inv-loop named ds ms ends best₀ i₀ best i = (i ≤ length ms) × (Known (ari
 abbrev μ-loop : tie.MeasureT-loop
 μ-loop named ds ms ends best₀ i₀ best i = length ms - i
 
+-- where the codes end is known
+abbrev lent : tie.After-ends2 Inv-loop μ-loop → tie.Start Inv-loop μ-loop
+lent c = c .before .before .before .before .before
+
 pub ordered-marks-spec : {M : Type 1} → statement M
 ordered-marks-spec =
     tie.close
@@ -24,9 +28,9 @@ ordered-marks-spec =
     μ-loop
     (λ c. refl)
     (λ c κs. (c .before .before .before .pre .1 .0, (c .before .before .before .pre .1 .1, refl)))
-    (λ c. let s = c .before .before .before .before .before in (omega arith, (known-marks (s .pre .0) (c .before .ends-of .ensures), best-none _)))
+    (λ c. let s = lent c in (omega arith, (known-marks (s .pre .0) (c .before .ends-of .ensures), best-none _)))
     (λ c. sym (c .before .before .loop .inv .1 .0 .long))
-    (λ c κs. (c .before .before .before .before .before .before .before .before .pre .0, (c .before .before .loop .inv .1 .0, omega arith)))
+    (λ c κs. (lent (c .before .before .before) .pre .0, (c .before .before .loop .inv .1 .0, omega arith)))
     (λ c κs. search needs)
     (λ c. omega arith)
     (λ c. omega arith)

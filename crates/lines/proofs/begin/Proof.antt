@@ -6,6 +6,14 @@ use Rattle.lines.proofs.Forming.{begins-one, begins-two, no-beginning, 
 use Rattle.lines.proofs.begin.Statement.{statement}
 use Rattle.lines.proofs.begin.Tie as tie
 
+-- the first byte is a digit
+abbrev first : tie.After-shared-slice-known3 → tie.After-value
+first c = c .before .before
+
+-- and no zero, and the second byte was looked at
+abbrev second : tie.After-value2 → tie.After-value
+second c = first (c .before .before .before .before)
+
 no-digit : tie.Need-returns-2
 no-digit c =
     let w = c .before .value .ensures in
@@ -13,12 +21,12 @@ no-digit c =
 
 one-digit : tie.Need-returns-3
 one-digit c =
-    let w = value-digit (c .before .before .before .value .ensures) (omega arith) in
+    let w = value-digit (first (c .before) .value .ensures) (omega arith) in
     begins (begins-one (omega arith) (w .0) (w .1) (c .if3 .taken))
 
 leading-zero : tie.Need-returns-4
 leading-zero c =
-    let w = value-digit (c .before .before .before .before .value .ensures) (omega arith) in
+    let w = value-digit (first (c .before .before) .value .ensures) (omega arith) in
     no-beginning (λ n l h e q. omega arith) (λ d e l p h k q r s. omega arith)
 
 no-second : tie.Need-returns-5
@@ -28,7 +36,7 @@ no-second c =
 
 two-digits : tie.Need-returns-7
 two-digits c =
-    let v = value-digit (c .before .before .before .before .before .before .before .before .before .before .value .ensures) (omega arith) in
+    let v = value-digit (second (c .before .before .before .before) .value .ensures) (omega arith) in
     let w = value-digit (c .before .before .before .before .value2 .ensures) (omega arith) in
     begins (begins-two (omega arith) (omega arith) (v .0) (w .0) (v .1) (w .1) (c .if7 .taken))
 

@@ -9,7 +9,11 @@ use Rattle.lines.proofs.Locating.{Found, no-feed, no-form, found, not-s
 use Rattle.lines.proofs.locate.Statement.{statement}
 use Rattle.lines.proofs.locate.Tie as tie
 
-read : (c : tie.After-n) → Found (c .before .before .before .before .before .before .before .args .text .now) (c .before .before .before .before .before .feed .result) (c .n .given .0 .0) (c .n .given .0 .1 .0)
+-- the line up to its line feed was read for its form
+abbrev cut : tie.After-form → tie.After-feed
+cut c = c .before .before .before
+
+read : (c : tie.After-n) → Found (cut (c .before .before) .before .before .args .text .now) (cut (c .before .before) .feed .result) (c .n .given .0 .0) (c .n .given .0 .1 .0)
 read c =
     let f = c .before .before in
     let i = f .before .before in

@@ -18,25 +18,42 @@ Inv-loop limit text records₀ numbers₀ places₀ lines k₀ at₀ records num
 abbrev μ-loop : tie.MeasureT-loop
 μ-loop limit text records₀ numbers₀ places₀ lines k₀ at₀ records numbers places k at = lines - k
 
+-- room for the lines was counted
+abbrev lent : tie.After-room Inv-loop μ-loop → tie.Start Inv-loop μ-loop
+lent c = c .before .before .before .before .before
+
+-- a turn, from its last step back: what is behind the line was found, the line's answer noted, the line read; it is none past the end
+abbrev behind : tie.After-behind Inv-loop μ-loop → tie.After-note Inv-loop μ-loop
+behind c = c .before .before .before .before .before
+
+abbrev noted : tie.After-note Inv-loop μ-loop → tie.After-read-line Inv-loop μ-loop
+noted c = c .before .before .before .before .before
+
+abbrev read : tie.After-read-line Inv-loop μ-loop → tie.Else1 Inv-loop μ-loop
+read c = c .before .before .before
+
+abbrev turn : tie.Else1 Inv-loop μ-loop → tie.In-loop Inv-loop μ-loop
+turn c = c .before
+
 word : (c : tie.In-loop Inv-loop μ-loop) → Fits w64 (size * c .before .loop .k) × Fits w64 (size * c .before .loop .k + size) × Fits w64 (c .before .loop .k + 1)
-word c = fits (c .before .loop .inv) (c .loop-test .taken) (c .before .before .before .before .before .before .before .good .1 .1 .0 .0)
+word c = fits (c .before .loop .inv) (c .loop-test .taken) (lent (c .before .before) .good .1 .1 .0 .0)
 
 note-requires : tie.Need-note-requires Inv-loop μ-loop
 note-requires c κs =
-    let i = c .before .before .before .before .before .before .before .before in
+    let i = turn (read (c .before .before .before .before)) in
     let r = room-now (i .before .loop .inv) (i .loop-test .taken) in
     (r .1, r .2)
 
 behind-requires : tie.Need-behind-requires Inv-loop μ-loop
 behind-requires c κs =
-    let e = c .before .before .before .before .before .before .before .before .before .before .before .before in
+    let e = read (noted (c .before .before .before .before)) in
     not-past (e .before .before .loop .inv) (e .if1 .left)
 
 loop-again : tie.Need-loop-again Inv-loop μ-loop
 loop-again c =
-    let n = c .before .before .before .before .before in
-    let r = n .before .before .before .before .before in
-    let e = r .before .before .before in
+    let n = behind c in
+    let r = noted n in
+    let e = read r in
     going-more (e .before .before .loop .inv) (e .before .loop-test .taken) (e .if1 .left) (r .read-line .ensures) (n .note .ensures) (c .behind .ensures)
 
 pub read-text-spec : {M : Type 1} → statement M
@@ -63,8 +80,8 @@ read-text-spec =
     (λ c κs. search needs)
     note-requires
     behind-requires
-    (λ c. word (c .before .before .before .before .before .before .before .before .before .before .before .before .before .before) .2)
-    (λ c. falls _ _ (c .before .before .before .before .before .before .before .before .before .before .before .before .before .before .loop-test .taken))
+    (λ c. word (turn (read (noted (behind c)))) .2)
+    (λ c. falls _ _ (turn (read (noted (behind c))) .loop-test .taken))
     loop-again
     (λ c. lengths (c .before .loop .inv) .0)
     (λ c. lengths (c .before .loop .inv) .1)

@@ -16,22 +16,33 @@ Inv-loop limit text from out₀ w₀ at₀ line₀ read₀ out w at line read = 
 abbrev μ-loop : tie.MeasureT-loop
 μ-loop limit text from out₀ w₀ at₀ line₀ read₀ out w at line read = length text - at
 
+-- a turn, from its last step back: the answer was put, its line answered, the line met
+abbrev put : tie.After-slice-known2 Inv-loop μ-loop → tie.After-answer Inv-loop μ-loop
+put c = c .before .before
+
+abbrev answered : tie.After-answer Inv-loop μ-loop → tie.After-first Inv-loop μ-loop
+answered c = c .before .before
+
+abbrev met : tie.After-first Inv-loop μ-loop → tie.In-loop Inv-loop μ-loop
+met c = c .before .before
+
 add-read : tie.Need-add-read Inv-loop μ-loop
 add-read c =
-    let i = c .before .before .before .before .before .before .before in
-    omega (arith, one-more (i .before .loop .inv) (i .loop-test .taken) (told (c .before .before .before .before .before .first .result)), c .is-record .ensures)
+    let f = answered (put (c .before)) in
+    let i = met f in
+    omega (arith, one-more (i .before .loop .inv) (i .loop-test .taken) (told (f .first .result)), c .is-record .ensures)
 
 loop-less : tie.Need-loop-less Inv-loop μ-loop
 loop-less c =
-    let i = c .before .before .before .before .before .before .before .before in
+    let i = met (answered (put (c .before .before))) in
     omega (arith, behind-falls (c .behind .ensures) (i .loop-test .taken), i .loop-test .taken)
 
 loop-again : tie.Need-loop-again Inv-loop μ-loop
 loop-again c =
     let o = c .before in
-    let a = o .before .before .before in
-    let f = a .before .before in
-    let i = f .before .before in
+    let a = put (o .before) in
+    let f = answered a in
+    let i = met f in
     rw (o .is-record .ensures)
     (going-more (i .before .loop .inv) (i .loop-test .taken) (f .first .ensures) (a .answer .ensures) (c .behind .ensures))
 

@@ -60,6 +60,27 @@ Callees t = (
 )
 
 module _ (t : ℕ) where
+  -- the steps of a turn, each with what it goes back to
+  -- a number of the row was looked up
+  abbrev looped : order-lts.After-neighbour (Callees t) (order-at t) order.Post order-Inv-loop order-μ-loop → order-lts.At-loop (Callees t) (order-at t) order.Post order-Inv-loop order-μ-loop
+  looped c = c .before .before .before .before
+
+  -- it is a child, and where the child's part begins was found
+  abbrev found : order-lts.After-end (Callees t) (order-at t) order.Post order-Inv-loop order-μ-loop → order-lts.After-neighbour (Callees t) (order-at t) order.Post order-Inv-loop order-μ-loop
+  found c = c .before .before .before .before
+
+  -- the child was laid there
+  abbrev laid : order-lts.After-lay (Callees t) (order-at t) order.Post order-Inv-loop order-μ-loop → order-lts.After-end (Callees t) (order-at t) order.Post order-Inv-loop order-μ-loop
+  laid c = c .before .before .before
+
+  -- it has children of its own, and the part below it was ordered
+  abbrev descended : order-lts.After-order (Callees t) (order-at t) order.Post order-Inv-loop order-μ-loop → order-lts.After-lay (Callees t) (order-at t) order.Post order-Inv-loop order-μ-loop
+  descended c = c .before .before .before .before .before
+
+  -- these are several
+  abbrev tested : order-lts.Then4 (Callees t) (order-at t) order.Post order-Inv-loop order-μ-loop → order-lts.After-order (Callees t) (order-at t) order.Post order-Inv-loop order-μ-loop
+  tested c = c .before .before .before .before .before
+
   -- what the call knows
   called : (s : order-lts.Start (Callees t) (order-at t) order.Post order-Inv-loop order-μ-loop) → let a = s .args in
       Call (a .marks .now) (a .rows .now) (a .out .now) (a .lens .now) (a .parent) (getD (a .out .now) (a .at) 0) (a .at)
@@ -74,62 +95,62 @@ module _ (t : ℕ) where
 
   -- and so is the number in its row
   column : (c : order-lts.After-neighbour (Callees t) (order-at t) order.Post order-Inv-loop order-μ-loop) →
-      let l = c .before .before .before .before in
+      let l = looped c in
       let a = l .before .args in
       c .neighbour .result ≡ cell (a .rows .now) (getD (a .out .now) (a .at) 0) (l .loop .j)
   column c =
-      let l = c .before .before .before .before in
+      let l = looped c in
       c .neighbour .ensures ∙ ap (λ v. cell (l .before .args .rows .now) v (l .loop .j)) (looked-up (c .before))
 
   -- the part of a child has its places
   spot : (c : order-lts.After-end (Callees t) (order-at t) order.Post order-Inv-loop order-μ-loop) →
-      let n = c .before .before .before .before in
-      let l = n .before .before .before .before in
+      let n = found c in
+      let l = looped n in
       let a = l .before .args in
       Room (a .marks .now) (a .rows .now) (l .loop .out) (l .loop .lens) (n .before .vertex .result) (n .neighbour .result) (c .end .result)
   spot c =
       let x = c .before .before in
-      let n = x .before .before in
-      let l = n .before .before .before .before in
+      let n = found c in
+      let l = looped n in
       roomy (called (l .before)) (l .loop .inv) (n .before .before .before .loop-test .taken) (column n) (x .before .if1 .left) (x .if2 .taken) (looked-up (n .before)) (c .end .ensures)
 
   -- it begins behind the vertex
-  ahead : (c : order-lts.After-end (Callees t) (order-at t) order.Post order-Inv-loop order-μ-loop) → let l = c .before .before .before .before .before .before .before .before in l .before .args .at < c .end .result
-  ahead c = let l = c .before .before .before .before .before .before .before .before in omega (arith, c .end .ensures, l .loop .inv .hangs .head)
+  ahead : (c : order-lts.After-end (Callees t) (order-at t) order.Post order-Inv-loop order-μ-loop) → let l = looped (found c) in l .before .args .at < c .end .result
+  ahead c = let l = looped (found c) in omega (arith, c .end .ensures, l .loop .inv .hangs .head)
 
   -- few pairs were looked at so far
-  small : (c : order-lts.After-end (Callees t) (order-at t) order.Post order-Inv-loop order-μ-loop) → let l = c .before .before .before .before .before .before .before .before in l .loop .looked ≤ size * size * size
-  small c = let l = c .before .before .before .before .before .before .before .before in omega (arith, c .end .ensures, l .loop .inv .hangs .head, l .loop .inv .hangs .few, within (spot c))
+  small : (c : order-lts.After-end (Callees t) (order-at t) order.Post order-Inv-loop order-μ-loop) → let l = looped (found c) in l .loop .looked ≤ size * size * size
+  small c = let l = looped (found c) in omega (arith, c .end .ensures, l .loop .inv .hangs .head, l .loop .inv .hangs .few, within (spot c))
 
   -- and below the child
   small-below : (c : order-lts.After-order (Callees t) (order-at t) order.Post order-Inv-loop order-μ-loop) → c .order .result ≤ size * size * size
   small-below c =
-      let y = c .before .before .before .before .before in
-      let e = y .before .before .before in
+      let y = descended c in
+      let e = laid y in
       omega (arith, c .order .ensures .few, c .order .ensures .head, ends (spot e) (y .lay .ensures .0) (y .lay .ensures .1) (c .order .ensures))
 
   -- the second time the same place is looked up
-  again : (c : order-lts.After-end2 (Callees t) (order-at t) order.Post order-Inv-loop order-μ-loop) → c .end2 .result ≡ c .before .before .before .before .before .before .before .before .before .before .end .result
+  again : (c : order-lts.After-end2 (Callees t) (order-at t) order.Post order-Inv-loop order-μ-loop) → c .end2 .result ≡ laid (descended (c .before .before)) .end .result
   again c =
       let o = c .before .before in
-      let y = o .before .before .before .before .before in
-      let e = y .before .before .before in
-      let l = e .before .before .before .before .before .before .before .before in
+      let y = descended o in
+      let e = laid y in
+      let l = looped (found e) in
       omega (arith, c .end2 .ensures, e .end .ensures, kept-called (spot e) (y .lay .ensures .0) (y .lay .ensures .1) (o .order .ensures) (l .before .args .at) (ahead e))
 
   -- the child's part is written, whichever way control came
   met : (c : order-lts.Joined3 (Callees t) (order-at t) order.Post order-Inv-loop order-μ-loop) →
-      let e = c .before .before .before .before .before in
-      let n = e .before .before .before .before in
-      let l = n .before .before .before .before in
+      let e = laid (c .before .before) in
+      let n = found e in
+      let l = looped n in
       let a = l .before .args in
       Written (a .marks .now) (a .rows .now) (l .loop .out) (l .loop .lens) (c .if3 .out) (c .if3 .lens) (n .before .vertex .result) (n .neighbour .result) (e .end .result) (l .loop .looked) (c .if3 .looked)
   met c =
       let y = c .before .before in
-      let e = y .before .before .before in
+      let e = laid y in
       let x = e .before .before in
-      let n = x .before .before in
-      let l = n .before .before .before .before in
+      let n = found e in
+      let l = looped n in
       ⊎-elim
       (λ w.
       let o : order-lts.After-order (Callees t) (order-at t) order.Post order-Inv-loop order-μ-loop =
@@ -155,51 +176,53 @@ pub +order-spec : {M : Type 1} → statement M
     (λ c κs.
     let r = called t (c .before .before .before .before) .rows in
     (omega (arith, looked-up t c, r .some), omega (arith, looked-up t c, r .inside, r .few), c .before .before .loop-test .taken))
-    (λ c. let l = c .before .before .before .before .before in at-zero (called t (l .before)) (l .loop .inv) (c .before .before .before .before .loop-test .taken) (column t (c .before)) (c .if1 .taken))
+    (λ c. let l = looped t (c .before) in at-zero (called t (l .before)) (l .loop .inv) (c .before .before .before .before .loop-test .taken) (column t (c .before)) (c .if1 .taken))
     (λ c. omega (arith, c .before .before .before .before .loop-test .taken))
-    (λ c κs. below (called t (c .before .before .before .before .before .before .before .before)))
+    (λ c κs. below (called t (looped t (c .before .before .before) .before)))
     (λ c κs. let r = spot t (c .before .before) in ((within r, omega (arith, r .rows .inside, r .rows .few)), (r .outs, r .long)))
     (λ c κs. let r = spot t (c .before .before .before) in (r .rows .some, omega (arith, r .rows .inside, r .rows .few), omega arith))
     (λ c κs.
     let y = c .before .before .before .before in
-    let e = y .before .before .before in
+    let e = laid t y in
     let k = calls (spot t e) (y .lay .ensures .0) (y .lay .ensures .1) in
-    (omega (arith, ahead t e, within (spot t e), e .before .before .before .before .before .before .before .before .before .pre .0), ((k .outs, k .long, k .one), (k .rows, k .room))))
-    (λ c. let e = c .before .before .before .before .before .before .before .before in omega (arith, small t e, small-below t c))
-    (λ c κs. below (called t (c .before .before .before .before .before .before .before .before .before .before .before .before .before .before .before .before .before .before)))
+    (omega (arith, ahead t e, within (spot t e), looped t (found t e) .before .pre .0), ((k .outs, k .long, k .one), (k .rows, k .room))))
+    (λ c. let e = laid t (descended t c) in omega (arith, small t e, small-below t c))
+    (λ c κs. below (called t (looped t (found t (laid t (descended t (c .before)))) .before)))
     (λ c κs.
     let o = c .before .before .before in
-    let y = o .before .before .before .before .before in
-    let e = y .before .before .before in
+    let y = descended t o in
+    let e = laid t y in
     let is = again t (c .before) in
     (omega (arith, is, within (spot t e)), subst (λ q. endOf (o .order .last .1 .1 .1 .0) q ≤ size) (sym is) (ends (spot t e) (y .lay .ensures .0) (y .lay .ensures .1) (o .order .ensures))))
     (λ c κs.
     let i = c .before .before in
-    let o = c .before .before .before .before .before .before .before in
-    let y = o .before .before .before .before .before in
-    let e = y .before .before .before in (
+    let o = tested t i in
+    let y = descended t o in
+    let e = laid t y in (
       (o .order .ensures .outs, o .order .ensures .long),
       (
-        subst (λ q. Standing (o .order .last .1 .1 .0) (o .order .last .1 .1 .1 .0) (q + 1) (endOf (o .order .last .1 .1 .1 .0) q)) (sym (again t (c .before .before .before .before .before)))
+        subst (λ q. Standing (o .order .last .1 .1 .0) (o .order .last .1 .1 .1 .0) (q + 1) (endOf (o .order .last .1 .1 .1 .0) q)) (sym (again t (i .before .before .before)))
             (standing (spot t e) (y .lay .ensures .0) (y .lay .ensures .1) (o .order .ensures)),
         omega (arith, i .before .several .ensures .more (i .if4 .taken)),
       ),
     ))
     (λ c.
-    let o = c .before .before .before .before .before .before .before .before in
-    omega (arith, small t (o .before .before .before .before .before .before .before .before), small-below t o, c .arrange .ensures .0))
+    let o = tested t (c .before .before .before) in
+    omega (arith, small t (laid t (descended t o)), small-below t o, c .arrange .ensures .0))
     (λ c κs.
-    let x = c .before .before .before .before .before .before .before .before in
-    let n = x .before .before in
-    let l = n .before .before .before .before in
-    extends (called t (l .before)) (l .loop .inv) (n .before .before .before .loop-test .taken) (column t n) (x .before .if1 .left) (x .if2 .taken) (looked-up t (n .before)) (c .before .before .before .before .before .before .end .ensures) (met t (c .before)))
-    (λ c. omega (arith, c .before .before .before .before .before .before .before .before .before .before .before .before .before .before .loop-test .taken))
+    let e = laid t (c .before .before .before) in
+    let x = e .before .before in
+    let n = found t e in
+    let l = looped t n in
+    extends (called t (l .before)) (l .loop .inv) (n .before .before .before .loop-test .taken) (column t n) (x .before .if1 .left) (x .if2 .taken) (looked-up t (n .before)) (e .end .ensures) (met t (c .before)))
+    (λ c. omega (arith, found t (laid t (c .before .before .before .before)) .before .before .before .loop-test .taken))
     (λ c.
-    let x = c .before .before .before .before .before .before .before .before .before in
-    let n = x .before .before in
-    let l = n .before .before .before .before in
-    taken (called t (l .before)) (l .loop .inv) (n .before .before .before .loop-test .taken) (column t n) (x .before .if1 .left) (x .if2 .taken) (looked-up t (n .before)) (c .before .before .before .before .before .before .before .end .ensures)
+    let e = laid t (c .before .before .before .before) in
+    let x = e .before .before in
+    let n = found t e in
+    let l = looped t n in
+    taken (called t (l .before)) (l .loop .inv) (n .before .before .before .loop-test .taken) (column t n) (x .before .if1 .left) (x .if2 .taken) (looked-up t (n .before)) (e .end .ensures)
     (met t (c .before .before)) (c .extend .ensures))
     (λ c. omega (arith, c .before .before .before .before .before .loop-test .taken))
-    (λ c. let l = c .before .before .before .before .before .before in skip (called t (l .before)) (l .loop .inv) (c .before .before .before .before .before .loop-test .taken) (column t (c .before .before)) (c .before .if1 .left) (c .if2 .left))
+    (λ c. let l = looped t (c .before .before) in skip (called t (l .before)) (l .loop .inv) (c .before .before .before .before .before .loop-test .taken) (column t (c .before .before)) (c .before .if1 .left) (c .if2 .left))
     (λ c. at-end (called t (c .before .before)) (c .before .loop .inv) (c .loop-test .left))

@@ -32,8 +32,15 @@ module _ (d s s1 s2 : List ℕ) (n r : ℕ) (a : 1 ≤ r) (b : r ≤ n) (h : n �
     λ z. getD-set-other s2 r v (deg d r) 0 z ∙ lowered v (omega arith) ∙ ap (λ x. x - 1) (degrees v i j),
   )
 
-same-long : (c : tie.After-lower) → length (c .lower .last .0) ≡ length (c .before .before .before .before .before .before .before .before .args .marks .now)
-same-long c = c .lower .kept .0 ∙ c .before .before .before .before .transfer .kept .1 .1 .1 .0
+abbrev lent : tie.After-transfer → tie.Start
+lent c = c .before .before .before .before
+
+-- the degrees were copied, and then lowered
+abbrev transferred : tie.After-lower → tie.After-transfer
+transferred c = c .before .before .before .before
+
+same-long : (c : tie.After-lower) → length (c .lower .last .0) ≡ length (lent (transferred c) .args .marks .now)
+same-long c = c .lower .kept .0 ∙ transferred c .transfer .kept .1 .1 .1 .0
 
 pub fill-spec : {M : Type 1} → statement M
 fill-spec =
@@ -43,12 +50,12 @@ fill-spec =
     (λ c κs. search needs)
     (λ c. search needs)
     (λ c. search needs)
-    (λ c. let w = c .before .before .before in omega (arith, same-long w, w .before .before .before .before .before .before .before .before .pre))
+    (λ c. let w = c .before .before .before in omega (arith, same-long w, lent (transferred w) .pre))
     (λ c. let w = c .before .before .before in rw length-set (same-long w))
     (λ c.
     let w = c .before .before .before in
-    let u = w .before .before .before .before in
-    let s = u .before .before .before .before in
+    let u = transferred w in
+    let s = lent u in
     let (low, high, few, room, long) = s .pre in
     let fits : s .args .n ≤ length (s .args .degs .now) = omega arith in
     filled (s .args .degs .now) (s .args .marks .now) (u .transfer .last .1 .1 .1 .0) (w .lower .last .0) (s .args .n) (s .args .root) low high fits room (same-long w) (u .transfer .kept .1 .1 .1 .0) (u .transfer .ensures) (w .lower .ensures)))

@@ -15,9 +15,14 @@ use Rattle.vertices.proofs.Telling.{depths-differ, lengths-differ, code
 use Rattle.vertices.proofs.alike.Statement.{statement}
 use Rattle.vertices.proofs.alike.Tie as tie
 
-abbrev start : tie.Else1 → tie.Start
-start c = c .before .before .before .before .before .before
+abbrev lent : tie.After-shared-slice-known5 → tie.Start
+lent c = c .before .before .before .before .before
 
+-- the depths agree
+abbrev start : tie.Else1 → tie.Start
+start c = lent (c .before)
+
+-- and the lengths of the parts, which were compared
 abbrev compared : tie.After-compare → tie.Else1
 compared c = c .before .before .before .before .before .before
 
@@ -43,7 +48,7 @@ alike-spec =
     (tie.spec
     (λ c. search needs)
     (λ c. search needs)
-    (λ c. let s = c .before .before .before .before .before .before in
+    (λ c. let s = lent (c .before) in
     depths-differ (s .pre .0) (s .pre .1 .0) (s .pre .1 .1 .0) (s .pre .1 .1 .1) (c .if1 .taken))
     (λ c. search needs)
     (λ c. omega (arith, c .shared-slice-known6 .given (start (c .before) .args .u)))

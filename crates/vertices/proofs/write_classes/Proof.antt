@@ -21,12 +21,20 @@ Inv-loop code out₀ ends deep top₀ i₀ out top i = Known plain code ends 0 �
 abbrev μ-loop : tie.MeasureT-loop
 μ-loop code out₀ ends deep top₀ i₀ out top i = length code - i
 
+-- where each vertex's part ends is known
+abbrev lent : tie.After-ends-of Inv-loop μ-loop → tie.Start Inv-loop μ-loop
+lent c = c .before .before .before .before
+
+-- in a turn: the vertex has its class
+abbrev classed : tie.After-class-of Inv-loop μ-loop → tie.At-loop Inv-loop μ-loop
+classed c = c .before .before .before .before .before
+
 written : (c : List ℕ) {old out : List ℕ} {top i : ℕ} → Writing (alike? c) (length c) old out top i → length c ≤ i → Laid (classes c) old out i
 unfolding classes
 written c w h = writing-all (alike? c) w h
 
 -- the greatest class, where the two arms meet
-top-next : (c : tie.Joined1 Inv-loop μ-loop) → c .if1 .top ≡ max (c .before .before .before .before .before .before .loop .top) (c .before .class-of .result)
+top-next : (c : tie.Joined1 Inv-loop μ-loop) → c .if1 .top ≡ max (classed (c .before) .loop .top) (c .before .class-of .result)
 top-next c = ⊎-elim (λ w. omega arith) (λ w. omega arith) (c .if1 .came)
 
 pub write-classes-spec : {M : Type 1} → statement M
@@ -38,18 +46,19 @@ write-classes-spec =
     (λ c. refl)
     (λ c κs. let p = c .before .before .before .pre in (p .0, (p .1 .0, refl)))
     (λ c. refl)
-    (λ c κs. let p = c .before .before .before .before .before .before .pre in (p .0, (p .1 .0, refl)))
-    (λ c. let s = c .before .before .before .before .before .before .before .before in
-    (c .before .before .before .before .ends-of .ensures, (c .before .depths-of .ensures, writing-none (alike? _) (s .pre .1 .1))))
+    (λ c κs. let p = lent (c .before .before) .pre in (p .0, (p .1 .0, refl)))
+    (λ c. let e = c .before .before .before .before in
+    let s = lent e in
+    (e .ends-of .ensures, (c .before .depths-of .ensures, writing-none (alike? _) (s .pre .1 .1))))
     (λ c. sym (c .before .before .loop .inv .0 .long))
     (λ c. sym (c .before .before .before .loop .inv .1 .0 .long))
     (λ c. let l = c .before .before .before .before .loop .inv in omega (arith, writing-low (alike? _) (l .1 .1), l .0 .few))
     (λ c κs. let l = c .before .before .before .before .loop .inv in
     (l .0, (l .1 .0, (omega arith, omega (arith, writing-length (alike? _) (l .1 .1), l .1 .1 .room)))))
-    (λ c. let l = c .before .before .before .before .before .loop .inv in omega (arith, writing-length (alike? _) (l .1 .1), l .1 .1 .room))
+    (λ c. let l = classed c .loop .inv in omega (arith, writing-length (alike? _) (l .1 .1), l .1 .1 .room))
     (λ c. omega arith)
     (λ c. omega arith)
-    (λ c. let l = c .before .before .before .before .before .before .loop .inv in
+    (λ c. let l = classed (c .before) .loop .inv in
     (l .0, (l .1 .0, writing-next (alike? _) (l .1 .1) (omega arith) (c .before .class-of .ensures) (top-next c))))
     (λ c. writing-length (alike? _) (c .before .loop .inv .1 .1))
     (λ c. written _ (c .before .loop .inv .1 .1) (omega arith)))

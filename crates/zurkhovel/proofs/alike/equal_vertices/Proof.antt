@@ -23,6 +23,14 @@ start c = c .before .before .before .before .before
 clear : (c : tie.After-enum-told) → Clear (edgeRows size valence (start c .args .n) (now (start c .args .edges)) 1)
 clear c = was-clear (c .before .before .check .ensures) (c .enum-told .given .1)
 
+-- there is room, and the code was written
+abbrev coded : tie.After-centred → tie.Else1
+coded c = c .before .before
+
+-- and its classes
+abbrev classed : tie.After-write-classes → tie.After-centred
+classed c = c .before .before .before .before
+
 pub equal-vertices-spec : {M : Type 1} → statement M
 equal-vertices-spec =
     tie.close
@@ -35,12 +43,13 @@ equal-vertices-spec =
     (λ c. search needs)
     (λ c κs. let d = c .before .before in (tabled (skeleton-of (clear d)), omega (arith, at-most (clear d))))
     (λ c. let d = c .before .before .before .before in omega (arith, at-most (clear d)))
-    (λ c. let d = c .before .before .before .before .before in written-length (c .before .before .centred .ensures))
-    (λ c κs. let d = c .before .before .before .before .before .before in
-    let w = c .before .before .before .centred .ensures in
-    let r = right-code (skeleton-of (clear d)) w in
-    (r .ends, (r .few, omega (arith, written-length w, c .before .before .before .before .before .if1 .left))))
+    (λ c. written-length (c .before .before .centred .ensures))
+    (λ c κs. let w = c .before .before .before in
+    let e = coded w in
+    let r = right-code (skeleton-of (clear (e .before))) (w .centred .ensures) in
+    (r .ends, (r .few, omega (arith, written-length (w .centred .ensures), e .if1 .left))))
     (λ c. search needs)
-    (λ c. let d = c .before .before .before .before .before .before .before .before .before in
-    of-given (start d .args .n) (now (start d .args .edges)) (clear d) ClassesOf (start d .args .n) (λ x l e k. k .count ∙ e) (c .before .before .before .before .before .before .before .before .if1 .left)
-    (c .before .before .before .before .before .before .centred .ensures) (classes-numbered _) (c .before .before .write-classes .ensures)))
+    (λ c. let w = classed (c .before .before) in
+    let e = coded w in
+    let d = e .before in
+    of-given (start d .args .n) (now (start d .args .edges)) (clear d) ClassesOf (start d .args .n) (λ x l e k. k .count ∙ e) (e .if1 .left) (w .centred .ensures) (classes-numbered _) (c .before .before .write-classes .ensures)))

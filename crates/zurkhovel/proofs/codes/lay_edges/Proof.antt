@@ -9,6 +9,10 @@ use Rattle.zurkhovel.proofs.Decoded.{edges-short, edges-room, edges-giv
 use Rattle.zurkhovel.proofs.codes.lay_edges.Statement.{statement}
 use Rattle.zurkhovel.proofs.codes.lay_edges.Tie as tie
 
+-- there is room
+abbrev start : tie.Else1 → tie.Start
+start c = c .before .before .before
+
 pub lay-edges-spec : {M : Type 1} → statement M
 lay-edges-spec =
     tie.close
@@ -16,8 +20,8 @@ lay-edges-spec =
     (λ c. at-least (c .before .before .pre))
     (λ c. search needs)
     (λ c. let s = c .before .before .before in edges-short (now (s .args .code)) (s .pre) (c .if1 .taken) refl)
-    (λ c κs. let s = c .before .before .before .before in
+    (λ c κs. let s = start (c .before) in
     let r = clear-right size valence (now (s .args .code)) (s .pre) in
     (r .ends, (r .few, edges-room (now (s .args .code)) (s .pre) (c .before .if1 .left))))
     (λ c. search needs)
-    (λ c. let s = c .before .before .before .before .before .before .before in edges-given (now (s .args .code)) (s .pre) (c .before .before .before .before .if1 .left) (c .before .before .write-edges .ensures)))
+    (λ c. let e = c .before .before .before .before in let s = start e in edges-given (now (s .args .code)) (s .pre) (e .if1 .left) (c .before .before .write-edges .ensures)))

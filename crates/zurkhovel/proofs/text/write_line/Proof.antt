@@ -21,6 +21,14 @@ start c = c .before .before .before .before .before
 clear : (c : tie.After-enum-told) → Clear (edgeRows size valence (start c .args .n) (now (start c .args .edges)) 1)
 clear c = was-clear (c .before .before .check .ensures) (c .enum-told .given .1)
 
+-- there is room, and the code was found
+abbrev coded : tie.After-centred → tie.Else1
+coded c = c .before .before
+
+-- and its line was written
+abbrev written : tie.After-write → tie.After-centred
+written c = c .before .before .before .before
+
 pub write-line-spec : {M : Type 1} → statement M
 write-line-spec =
     tie.close
@@ -34,15 +42,17 @@ write-line-spec =
     (λ c. search needs)
     (λ c κs. let d = c .before .before .before in (tabled (skeleton-of (clear d)), omega (arith, at-most (clear d))))
     (λ c. let d = c .before .before .before .before .before in omega (arith, at-most (clear d)))
-    (λ c. let d = c .before .before .before .before .before .before in written-length (c .before .before .centred .ensures))
-    (λ c κs. let e = c .before .before .before .before .before .before in
+    (λ c. written-length (c .before .before .centred .ensures))
+    (λ c κs. let r = coded (c .before .before .before) in
+    let e = r .before in
     let d = e .before in
     let w = c .before .before .before .centred .ensures in (
       omega (arith, written-length w, at-most (clear d)),
-      (code-digits (skeleton-of (clear d)) w .digits, omega (arith, derived-size (start d .args .n) (now (start d .args .edges)) (clear d) line (e .extent .result) (e .extent .ensures) w, c .before .before .before .before .before .if1 .left)),
+      (code-digits (skeleton-of (clear d)) w .digits, omega (arith, derived-size (start d .args .n) (now (start d .args .edges)) (clear d) line (e .extent .result) (e .extent .ensures) w, r .if1 .left)),
     ))
     (λ c. search needs)
-    (λ c. let e = c .before .before .before .before .before .before .before .before .before in
+    (λ c. let w = written (c .before .before) in
+    let r = coded w in
+    let e = r .before in
     let d = e .before in
-    derived-given (start d .args .n) (now (start d .args .edges)) (clear d) line (e .extent .result) (e .extent .ensures) (c .before .before .before .before .before .before .before .before .if1 .left)
-    (c .before .before .before .before .before .before .centred .ensures) (c .before .before .write .ensures)))
+    derived-given (start d .args .n) (now (start d .args .edges)) (clear d) line (e .extent .result) (e .extent .ensures) (r .if1 .left) (w .centred .ensures) (c .before .before .write .ensures)))
