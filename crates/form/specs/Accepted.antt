@@ -3,23 +3,24 @@
 use mathlib.Core.Path.{_≡_, refl}
 use mathlib.Core.Logic.{_↔_}
 use mathlib.Core.List.{List, [], _∷_, _++_}
-use Prim.Native.Nat.{ℕ}
+use Prim.Native.Nat.{ℕ, _≤_}
 use native.Mathlib.Omega.{arith}
 use lib.ListN.{length}
-use Rattle.refusal.specs.document.Table.{Row, Clear}
+use Rattle.refusal.specs.document.Table.{Row, Clear, row3}
 use Rattle.refusal.specs.Laws.{clear-one, clear-both, clear-left, never}
 use Rattle.refusal.specs.Laws as Laws
 use Rattle.digit_code.specs.document.Code.{decode, codeRows}
 use Rattle.digit_code.specs.Ends.{Ends}
-use Rattle.digit_code.specs.Right.{RightCode, right-clear, clear-right}
+use Rattle.digit_code.specs.Right.{RightCode, Rightₗ, right-clear, clear-right}
 use Rattle.skeleton.specs.document.Skeleton.{IsSkeleton}
 use Rattle.skeleton.specs.Theorems.{decode-code, decoded-tree, degrees}
 use Rattle.skeleton.specs.Ordered.{code-ordered}
-use Rattle.skeleton.specs.Label.{Marks, digits}
+use Rattle.skeleton.specs.Label.{Marks, digits, labels, Valences, markRows}
 use Rattle.skeleton.specs.Base.{base, digits-base}
-use Rattle.skeleton.specs.Accepted.{code-passes}
+use Rattle.skeleton.specs.General.{decoded-tree as decoded-treeₗ}
+use Rattle.skeleton.specs.Accepted.{code-passes, marks-accepted, right-marks}
 use Rattle.form.specs.document.Form.{formRows}
-use Rattle.form.specs.Labelled.{Own, row14ₗ, IsFormₗ, form-decidedₗ}
+use Rattle.form.specs.Labelled.{Own, row14ₗ, formRowsₗ, IsFormₗ, is-rootedₗ, form-againₗ, form-decidedₗ}
 use Rattle.form.specs.Forms.{IsForm, labelled, is-rooted, form-again}
 
 -- a right rooted code decodes to a skeleton
@@ -36,7 +37,7 @@ right-decoded most R c r = record {
 
 module _ (M : Marks) (form : ℕ → List ℕ → (ℕ → M .Label) → List ℕ → Type 0) (f : IsFormₗ M form) (c : List ℕ) where
   -- rows that let pass only marks whose digits end, and row 14 behind them
-  own-passes : (rows : List Row) → (Clear rows → Ends 1 (digits M c)) → Clear (rows ++ (row14ₗ M form c ∷ [])) ↔ (Clear rows × Own M form c)
+  pub own-passes : (rows : List Row) → (Clear rows → Ends 1 (digits M c)) → Clear (rows ++ (row14ₗ M form c ∷ [])) ↔ (Clear rows × Own M form c)
   own-passes rows ends = (
     λ k.
         let r : Clear rows = clear-left rows (row14ₗ M form c ∷ []) k in
@@ -47,6 +48,31 @@ module _ (M : Marks) (form : ℕ → List ℕ → (ℕ → M .Label) → List �
       is : Dec (Own M form c) → (row14ₗ M form c .applies 0 → ⊥) → Own M form c
       is (yes x) n = x
       is (no m) n = absurd (n (refl, m))
+
+  -- no row applies to a right code of marks of the form, and to no other marks, where no label allows more than R neighbours
+  pub form-passesₗ : (size R : ℕ) (most : M .Label → ℕ) → ((a : M .Label) → most a ≤ R)
+      → Clear (formRowsₗ M form size R most c) ↔ (Rightₗ (M .arity) (λ m. most (M .atom m)) size c × Own M form c)
+  unfolding digits
+  form-passesₗ size R most low =
+      let right = right-marks M c size R most low in
+      let own = own-passes (row3 size (length c) ∷ markRows M R most c) (λ k. right .1 k .ends) in
+      (λ k. let (r, x) = own .0 k in (right .1 r, x), λ (r, x). own .1 (right .0 r, x))
+
+  -- the code of a skeleton in which no vertex has more neighbours than its label allows passes
+  pub form-acceptedₗ : (size R : ℕ) (most : M .Label → ℕ) → 1 ≤ R → ((a : M .Label) → 1 ≤ most a) → (N : ℕ) (E : List ℕ) (l : ℕ → M .Label)
+      → IsSkeleton size R N E → Valences M most l N E → form N E l c → Clear (formRowsₗ M form size R most c)
+  unfolding is-rootedₗ
+  form-acceptedₗ size R most some one N E l s v x =
+      clear-both (marks-accepted M c size R most some one .1 (is-rootedₗ M form f N E l c (s .tree) x, s, v))
+      (clear-one {r = row14ₗ M form c} (λ p a. a .1 (form-againₗ M form f N E l c (s .tree) x)))
+
+  -- what passes, decoded and coded, is itself
+  pub form-itselfₗ : (size R : ℕ) (most : M .Label → ℕ) → ((a : M .Label) → most a ≤ R)
+      → Clear (formRowsₗ M form size R most c) → (d : List ℕ) → form (length c) (decode (digits M c)) (labels M c) d → d ≡ c
+  unfolding digits
+  form-itselfₗ size R most low k d y =
+      let (r, x) = form-passesₗ size R most low .0 k in
+      f .one (length c) (decode (digits M c)) (labels M c) (decoded-treeₗ M c (r .ends)) y x
 
 -- ---- document 01's codes
 

@@ -5,15 +5,15 @@
 -- from the same skeleton with the same labels; whether marks are of the form. Assumes nothing.
 use mathlib.Core.Path.{_≡_, ap, sym, _∙_, subst}
 use mathlib.Core.Logic.{_↔_, ⊎-elim}
-use mathlib.Core.List.{List, List-discrete}
+use mathlib.Core.List.{List, [], _∷_, _++_, List-discrete}
 use Prim.Native.Nat.{ℕ, _≤_}
 use native.Mathlib.Decide.{ℕ-discrete}
 use lib.ListN.{length}
-use Rattle.refusal.specs.document.Table.{Row}
+use Rattle.refusal.specs.document.Table.{Row, row3}
 use Rattle.digit_code.specs.document.Code.{decode}
 use Rattle.digit_code.specs.Ends.{Ends}
 use Rattle.skeleton.specs.document.Skeleton.{IsTree, Renumbering}
-use Rattle.skeleton.specs.Label.{Marks, rootedₗ, digits, labels, Keeps, IsRootedₗ}
+use Rattle.skeleton.specs.Label.{Marks, rootedₗ, digits, labels, Keeps, IsRootedₗ, markRows}
 use Rattle.skeleton.specs.General.{code-length, decoded-tree, code-decode, equal-codes}
 use Rattle.longest_path.specs.Theorems.{centre-inside}
 use Rattle.form.specs.document.Form.{NTuple, Centred}
@@ -35,6 +35,10 @@ module _ (M : Marks) where
   -- 14: a right rooted code is not of the form asked for
   abbrev pub row14ₗ : (ℕ → List ℕ → (ℕ → M .Label) → List ℕ → Type 0) → List ℕ → Row
   row14ₗ form c = record { number = 14; applies = λ p. (p ≡ 0) × (Own form c → ⊥) }
+
+  -- what is refused of marks that are to be of a form
+  abbrev pub formRowsₗ : (ℕ → List ℕ → (ℕ → M .Label) → List ℕ → Type 0) → ℕ → ℕ → (M .Label → ℕ) → List ℕ → List Row
+  formRowsₗ form code-length R most c = (row3 code-length (length c) ∷ markRows M R most c) ++ (row14ₗ form c ∷ [])
 
   -- c is the rooted code of the tree at one of its vertices
   abbrev pub AtRootₗ : ℕ → List ℕ → (ℕ → M .Label) → List ℕ → Type 0

@@ -1,7 +1,9 @@
 -- Named atoms: a vertex is carbon, nitrogen or oxygen. Its mark is three times its digit and the atom's rank, so that marks are compared
--- by the digit first and then by the atom, and every number is a mark. Assumes nothing.
+-- by the digit first and then by the atom (`by-digit-then-atom`), and every number is a mark. Assumes nothing.
 use mathlib.Core.Path.{_≡_, refl}
+use mathlib.Core.Logic.{_↔_, _⊎_, inl, inr, ⊎-elim}
 use Prim.Native.Nat.{ℕ, zero, suc, _+_, _*_, _/_, _%_, _<_}
+use native.Mathlib.Decide.{decLt}
 use native.Mathlib.Omega.{arith}
 use Rattle.skeleton.specs.Label.{Marks}
 
@@ -52,3 +54,11 @@ atoms = record {
   atom-mark = λ k a. let e : (3 * k + rank a) % 3 ≡ rank a = omega (arith, rank-under a) in rw e (named-rank a);
   mark-of = λ m. omega (arith, rank-named (m % 3) (omega arith));
 }
+
+-- marks stand as their digits do, and where those are equal as their atoms do
+pub by-digit-then-atom : (j k : ℕ) (a b : Atom) → (3 * j + rank a < 3 * k + rank b) ↔ ((j < k) ⊎ ((j ≡ k) × (rank a < rank b)))
+by-digit-then-atom j k a b = (λ h. split h (decLt j k), ⊎-elim (λ l. omega (arith, rank-under a)) (λ (e, l). omega arith))
+  where
+    split : 3 * j + rank a < 3 * k + rank b → Dec (j < k) → (j < k) ⊎ ((j ≡ k) × (rank a < rank b))
+    split h (yes l) = inl l
+    split h (no n) = let e : j ≡ k = omega (arith, rank-under b) in inr (e, omega arith)

@@ -4,13 +4,14 @@
 -- Decoding needs nothing of its own: it reads the digits off the marks. Nor does the renumbering of a skeleton: that it keeps the labels
 -- is said beside it.
 --
--- In order: marks; the code; what it tells; the bound on neighbours. Assumes nothing.
+-- In order: marks; the code; what it tells; the bound on neighbours, and what is refused of marks. Assumes nothing.
 use mathlib.Core.Path.{_≡_}
 use mathlib.Core.List.{List, [], _∷_, map, flatten, List·Memᴰ}
-use Prim.Native.Nat.{ℕ, zero, suc, _+_, _-_, _≤_}
+use Prim.Native.Nat.{ℕ, zero, suc, _+_, _-_, _≤_, _<_}
 use lib.ListN.{length, getD}
 use Rattle.laws.specs.document.Order.{sort}
-use Rattle.digit_code.specs.document.Code.{digit, cap}
+use Rattle.refusal.specs.document.Table.{Row}
+use Rattle.digit_code.specs.document.Code.{digit, cap, row10, row11, row12, row13}
 use Rattle.skeleton.specs.document.Skeleton.{Arc, arcs, degree, children, IsTree, Renumbering}
 
 -- how a vertex is written, by the number of its children and its label, and how the two are read off again
@@ -70,3 +71,11 @@ module _ (M : Marks) where
   -- and by places
   abbrev pub Capped : (M .Label → ℕ) → List ℕ → Type 0
   Capped most c = (p : ℕ) → 1 ≤ p → p ≤ length c → M .arity (digit c p) ≤ cap (most (M .atom (digit c p))) p
+
+  -- 20: a vertex has more neighbours than its label allows; the place is its mark
+  abbrev pub row20 : (M .Label → ℕ) → List ℕ → Row
+  row20 most c = record { number = 20; applies = λ p. (1 ≤ p) × (p ≤ length c) × (cap (most (M .atom (digit c p))) p < M .arity (digit c p)) }
+
+  -- what is refused of marks, where no vertex has more than R neighbours
+  abbrev pub markRows : ℕ → (M .Label → ℕ) → List ℕ → List Row
+  markRows R most c = row10 R (digits c) ∷ row20 most c ∷ row11 (digits c) ∷ row12 (digits c) ∷ row13 (M .arity) c ∷ []
