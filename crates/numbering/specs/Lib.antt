@@ -6,6 +6,8 @@ pub mod Numbering
 pub mod Numbers
 pub mod Kids
 pub mod Same
+pub mod Pairs
+pub mod Bound
 pub mod Standing
 pub mod Decoded
 pub mod Examples
