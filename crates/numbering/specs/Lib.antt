@@ -5,6 +5,8 @@ pub mod Turned
 pub mod Numbering
 pub mod Numbers
 pub mod Same
+pub mod Pairs
+pub mod Bound
 pub mod Standing
 pub mod Decoded
 pub mod Examples

@@ -55,7 +55,7 @@ under-right N r v l k u w h = u w (List·Memᴰ·tail (Memᴰ·append-right l h)
 
 module _ (M : Marks) (label : ℕ → M .Label) (m : ℕ → ℕ) where
   -- m gives each vertex of a forest its mark
-  abbrev Fit : Forest → Type 0
+  abbrev pub Fit : Forest → Type 0
   Fit none = Unit {0}
   Fit (tree v d f) = (m v ≡ M .mark (width d) (label v)) × Fit d × Fit f
 
@@ -122,14 +122,14 @@ module _ (M : Marks) (label : ℕ → M .Label) (N : ℕ) (E : List ℕ) (r : �
         List·Permᴰ·trans (ρ .kids 0 r (is-root .0) (is-root .1))
         (children-all A 0 r (roots (t .forest)) root-near (λ h. let z : ⊥ = omega (arith, t .inside 0 (List·Memᴰ·tail (root-in (t .forest) h))) in z))
 
-    root-mark : m r ≡ M .mark (width (t .forest)) (label r)
+    pub root-mark : m r ≡ M .mark (width (t .forest)) (label r)
     unfolding degree
     root-mark = ρ .top ∙ ap (λ k. M .mark k (label r)) (perm-length root-near ∙ roots-length (t .forest))
 
     pub is-followed : Follows K r (t .forest)
     is-followed = follows r (t .forest) is-good is-under
 
-    is-fit : Fit M label m (t .forest)
+    pub is-fit : Fit M label m (t .forest)
     is-fit = fit r (t .forest) is-good is-under
 
     -- the marks of the vertices in their order are the rooted code
