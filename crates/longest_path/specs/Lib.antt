@@ -5,6 +5,7 @@ pub mod Inner
 pub mod Peel
 pub mod Centre
 pub mod Run
+pub mod Farthest
 pub mod Carry
 pub mod Heights
 pub mod Balance

@@ -1,13 +1,15 @@
 -- What is proved of paths and the centre, in one place. Each statement is proved by a name of another file. Assumes nothing.
 use mathlib.Core.Path.{_≡_}
 use mathlib.Core.Logic.{_⊎_}
-use mathlib.Core.List.{List}
+use mathlib.Core.List.{List, _∷_}
 use Prim.Native.Nat.{ℕ, _≤_}
 use Rattle.skeleton.specs.document.Skeleton.{IsTree, Renumbering}
 use Rattle.longest_path.specs.document.Path.{IsLongest, IsCentre}
 use Rattle.longest_path.specs.Middles.{SameMiddles}
 use Rattle.longest_path.specs.Centre.{centre-in}
 use Rattle.longest_path.specs.Run.{some-longest, middles-same, centre-same}
+use Rattle.longest_path.specs.Ways.{Way}
+use Rattle.longest_path.specs.Farthest.{Farthest, farthest-twice, ends-longest}
 use Rattle.longest_path.specs.Carry.{carry-centre}
 
 module _ (N : ℕ) (E : List ℕ) (t : IsTree N E) where
@@ -30,3 +32,11 @@ module _ (N : ℕ) (E : List ℕ) (t : IsTree N E) where
   -- A renumbering carries the centre to the centre.
   pub centre-carried : (F : List ℕ) (ρ : Renumbering N E F) (u v : ℕ) → IsCentre N E u v → IsCentre N F (ρ .to u) (ρ .to v)
   centre-carried F = carry-centre N E F t
+
+  -- A vertex that is farthest from any vertex ends a longest path.
+  pub ends-one : (s u : ℕ) → 1 ≤ s → s ≤ N → 1 ≤ u → u ≤ N → Farthest N E s u → (v : ℕ) × (y : Way N E v u) × IsLongest N E (v ∷ y .rest)
+  ends-one = ends-longest N E t
+
+  -- The way to it from a vertex that is farthest from it is a longest path.
+  pub two-walks : (s u v : ℕ) → 1 ≤ s → s ≤ N → Farthest N E s u → (x : Way N E v u) → Farthest N E u v → IsLongest N E (v ∷ x .rest)
+  two-walks = farthest-twice N E t
