@@ -75,7 +75,7 @@ module _ (M : Marks) (label : ℕ → M .Label) (N : ℕ) (E : List ℕ) (r : �
   }
 
   -- the order of the vertices is one
-  orderₗ-numbers : IsTree N E → 1 ≤ r → r ≤ N → Orders M label N E r (markAt M label E r) (orderₗ M label N E r)
+  pub orderₗ-numbers : IsTree N E → 1 ≤ r → r ≤ N → Orders M label N E r (markAt M label E r) (orderₗ M label N E r)
   unfolding orderₗ
   orderₗ-numbers t a b = tree-numbering M label N E r (markAt M label E r) (children (arcs E)) reads-tree N (omega arith) t a b
 

@@ -16,7 +16,7 @@ use Rattle.digit_code.specs.Counting.{sum-append}
 use Rattle.digit_code.specs.Two.{map-flatten}
 use Rattle.numbering.specs.Order.{insertBy, sortBy, place, pairs, orderBy, marksBy}
 
-flatten-length : (cs : List (List ℕ)) → length (flatten cs) ≡ sum (map length cs)
+pub flatten-length : (cs : List (List ℕ)) → length (flatten cs) ≡ sum (map length cs)
 unfolding flatten sum
 flatten-length [] = refl
 flatten-length (c ∷ cs) = length-append c (flatten cs) ∙ ap (λ n. length c + n) (flatten-length cs)
