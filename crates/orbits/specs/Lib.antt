@@ -1,0 +1,2 @@
+-- Which vertices a renumbering of the skeleton onto itself carries to one another. Assumes nothing.
+pub mod Joins
