@@ -1,2 +1,4 @@
 -- Which vertices a renumbering of the skeleton onto itself carries to one another. Assumes nothing.
 pub mod Joins
+pub mod Sides
+pub mod Parents
