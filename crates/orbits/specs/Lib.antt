@@ -2,3 +2,4 @@
 pub mod Joins
 pub mod Sides
 pub mod Parents
+pub mod Carried
