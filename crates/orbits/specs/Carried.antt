@@ -20,7 +20,7 @@ use Rattle.longest_path.specs.document.Path.{Joined, middle₁, middle₂, IsCe
 use Rattle.longest_path.specs.Theorems.{one-centre, centre-inside, centre-carried}
 use Rattle.form.specs.document.Form.{centred}
 use Rattle.numbering.specs.document.Decoded.{parent}
-use Rattle.orbits.specs.Parents.{tree-of, parent-low, parent-arc, arc-parent}
+use Rattle.orbits.specs.Parents.{root-parent, has-parent, tree-of, parent-low, parent-arc, arc-parent}
 
 -- some renumbering of the skeleton onto itself carries u to v
 abbrev pub Carried : ℕ → List ℕ → ℕ → ℕ → Type 0
@@ -53,19 +53,6 @@ middles-joined N E u v z = step (ℕ-discrete ((length p - 1) / 2) (length p / 2
         let m = joined-at (arcs E) p ((length p - 1) / 2) (z .longest .path .joined) (omega arith) in
         let b : getD p (suc ((length p - 1) / 2)) 0 ≡ v = ap (λ i. getD p i 0) e ∙ z .second in
         inr (rw (z .first, b) at m)
-
--- ---- parents by number
-
--- the root is no one's child, and no vertex is 0
-root-parent : (c : List ℕ) → parent c 1 ≡ 0
-unfolding parent
-root-parent c = refl
-
-has-parent : (c : List ℕ) (v : ℕ) → 1 ≤ parent c v → 2 ≤ v
-unfolding parent
-has-parent c zero h = let z : ⊥ = omega arith in absurd z
-has-parent c (suc zero) h = let z : ⊥ = omega arith in absurd z
-has-parent c (suc (suc v)) h = omega arith
 
 -- ---- a centred code
 

@@ -3,3 +3,5 @@ pub mod Joins
 pub mod Sides
 pub mod Parents
 pub mod Carried
+pub mod Half
+pub mod Rule

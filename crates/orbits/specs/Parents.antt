@@ -3,7 +3,7 @@
 use mathlib.Core.Path.{_≡_, refl, ap, ap₂, sym, _∙_, subst}
 use mathlib.Core.Logic.{_⊎_, inl, inr, ⊎-elim, if-pos, if-neg, Dec·not}
 use mathlib.Core.List.{List, [], _∷_, map, flatten, List·Memᴰ, List·Memᴰ·head, List·Memᴰ·tail, List·Memᴰ·cases-cons, List·Memᴰ·not-nil}
-use Prim.Native.Nat.{ℕ, suc, _+_, _-_, _≤_, _<_}
+use Prim.Native.Nat.{ℕ, zero, suc, _+_, _-_, _≤_, _<_}
 use native.Mathlib.Decide.{ℕ-discrete}
 use native.Mathlib.Omega.{arith}
 use lib.ListN.{length, getD, drop, length-map}
@@ -23,6 +23,17 @@ use Rattle.skeleton.specs.Walks.{turn, arc-end}
 use Rattle.numbering.specs.document.Decoded.{IsVertex, starts, begins, parent}
 use Rattle.numbering.specs.Decoded.{rooted-decoded}
 use Rattle.vertices.specs.document.Vertices.{subtree}
+
+-- the root has no parent, and what has one is another vertex
+pub root-parent : (c : List ℕ) → parent c 1 ≡ 0
+unfolding parent
+root-parent c = refl
+
+pub has-parent : (c : List ℕ) (v : ℕ) → 1 ≤ parent c v → 2 ≤ v
+unfolding parent
+has-parent c zero h = let z : ⊥ = omega arith in absurd z
+has-parent c (suc zero) h = let z : ⊥ = omega arith in absurd z
+has-parent c (suc (suc v)) h = omega arith
 
 -- every member of l is p or another
 but-or : (p w : ℕ) (l : List ℕ) → List·Memᴰ w l → (w ≡ p) ⊎ List·Memᴰ w (but p l)
@@ -82,7 +93,8 @@ module _ (c : List ℕ) (x : IsRooted c) where
       step (inr h) (inr k) =
           let z : ⊥ = omega (arith, starts-high v (u + 1) (childCodes plain c u) h, starts-high u (v + 1) (childCodes plain c v) k) in absurd z
 
-  falling : (v : ℕ) → 1 ≤ v → v ≤ length c → Falling (childCodes plain c v)
+  -- its children's codes go down
+  pub falling : (v : ℕ) → 1 ≤ v → v ≤ length c → Falling (childCodes plain c v)
   falling v a b =
       let e : suc (v - 1) ≡ v = omega arith in
       subst (λ n. Falling (childCodes plain c n)) e (rw (child-codes plain c (v - 1)) (by-places plain c .0 (code-ordered c .0 x .1) (v - 1) (omega arith)))

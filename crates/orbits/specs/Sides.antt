@@ -3,7 +3,7 @@
 -- In order: a root's tree goes to the front; a tree from its other end; the edge. What is known of such codes is in `Joins`. Assumes nothing.
 use mathlib.Core.Path.{_≡_, refl, ap, sym, _∙_, subst}
 use mathlib.Core.List.{List, [], _∷_, _++_, append-assoc, head-eq-of-cons-eq, List·Memᴰ, List·Memᴰ·head, List·Memᴰ·tail, List·Memᴰ·not-nil, List·Permᴰ, List·Permᴰ·cons, List·Permᴰ·swap, List·Permᴰ·trans, List·Permᴰ·append-comm, Permᴰ·refl, Permᴰ·symm, Permᴰ·append-left}
-use Prim.Native.Nat.{ℕ, suc, _≤_}
+use Prim.Native.Nat.{ℕ, _≤_}
 use native.Mathlib.Omega.{arith}
 use Rattle.laws.specs.document.Once.{Once}
 use Rattle.laws.specs.Once.{once-perm}
@@ -63,7 +63,7 @@ module _ {N : ℕ} {E : List ℕ} {r : ℕ} (t : Rooted N E r) where
 -- ---- an edge
 
 -- the code of every tree of a forest is one whole code
-branches-ones : (f : Forest) → Ones (branches base (λ v. tt) f)
+pub branches-ones : (f : Forest) → Ones (branches base (λ v. tt) f)
 unfolding branches joinₗ join
 branches-ones none = λ c h. absurd (List·Memᴰ·not-nil h)
 branches-ones (tree v d f) = ones-more (join-ends (branches-ones d)) (branches-ones f)
@@ -74,7 +74,7 @@ pub record Edge (N : ℕ) (E : List ℕ) (u v : ℕ) : Type 0 where
   pub G : List (List ℕ)
   pub ones : Ones D
   pub others : Ones G
-  pub side : codeAt (suc N) (arcs E) u v ≡ join D
+  pub side : (n : ℕ) → N ≤ n → codeAt n (arcs E) u v ≡ join D
   pub upper : rooted N E u ≡ join (join D ∷ G)
   pub lower : rooted N E v ≡ join (join G ∷ D)
 
@@ -85,11 +85,11 @@ module _ (N : ℕ) (E : List ℕ) (u v : ℕ) (d x : Forest) where
   code-over t e = sym (rooted-base (λ v. tt) N E u) ∙ rooted-join base (λ v. tt) N E u t ∙ ap (λ f. joinₗ base tt (branches base (λ v. tt) f)) e
 
   -- and the code at v below u
-  code-under : (t : Rooted N E u) → t .forest ≡ tree v d x → codeAt (suc N) (arcs E) u v ≡ join (branches base (λ v. tt) d)
+  code-under : (t : Rooted N E u) → t .forest ≡ tree v d x → (n : ℕ) → N ≤ n → codeAt n (arcs E) u v ≡ join (branches base (λ v. tt) d)
   unfolding branches joinₗ join roots
-  code-under t e =
-      let m = codes-of base (λ v. tt) (arcs E) (suc N) u (t .forest) (omega (arith, t .full)) (good (arcs E) u (t .forest) (t .same) (t .apart) (t .distinct)) in
-      sym (code-base (λ v. tt) (suc N) (arcs E) u v) ∙ head-eq-of-cons-eq (rw e at m)
+  code-under t e n l =
+      let m = codes-of base (λ v. tt) (arcs E) n u (t .forest) (omega (arith, t .full)) (good (arcs E) u (t .forest) (t .same) (t .apart) (t .distinct)) in
+      sym (code-base (λ v. tt) n (arcs E) u v) ∙ head-eq-of-cons-eq (rw e at m)
 
 pub edge : (N : ℕ) (E : List ℕ) → IsTree N E → (u v : ℕ) → List·Memᴰ (u, v) (arcs E) → Edge N E u v
 unfolding hung vertices rearranged
