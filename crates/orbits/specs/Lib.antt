@@ -5,3 +5,5 @@ pub mod Parents
 pub mod Carried
 pub mod Half
 pub mod Rule
+pub mod Classes
+pub mod Examples
