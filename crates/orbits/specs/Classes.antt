@@ -3,7 +3,7 @@
 --
 -- In order: the test; the classes; that the test tells whether two vertices are carried to one another (`test-right`); that the classes are by
 -- first appearance (`classes-right`), no others are (`classes-only`), and of every skeleton's centred code (`classes-of`). Assumes nothing.
-use mathlib.Core.Path.{_≡_, refl, ap, ap₂, sym, _∙_, subst}
+use mathlib.Core.Path.{_≡_, refl, ap, sym, _∙_, subst}
 use mathlib.Core.Logic.{_↔_, Iff·trans, ite, Dec·and}
 use mathlib.Core.List.{List, [], _∷_, _++_}
 use Prim.Native.Nat.{ℕ, zero, suc, _+_, _≤_, _<_}

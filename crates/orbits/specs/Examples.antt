@@ -1,8 +1,7 @@
 -- The classes, run on figures. Assumes nothing.
 use mathlib.Core.Path.{_≡_, refl}
 use mathlib.Core.Logic.{Dec·and}
-use mathlib.Core.List.{List, [], _∷_, flatten}
-use Prim.Native.Nat.{ℕ}
+use mathlib.Core.List.{[], _∷_, flatten}
 use native.Mathlib.Decide.{ℕ-discrete}
 use Rattle.digit_code.specs.document.Code.{codes, edgesFrom, decode}
 use Rattle.numbering.specs.document.Decoded.{parent}

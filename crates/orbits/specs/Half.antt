@@ -1,35 +1,34 @@
 -- What is left of a code where a child of the root is cut off with all that hangs on it: the code of the other half (`others-rest`).
 --
 -- In order: that part of the digits; the root's children's codes in the code; the theorem. Assumes nothing.
-use mathlib.Core.Path.{_≡_, refl, ap, ap₂, sym, _∙_, subst}
+use mathlib.Core.Path.{_≡_, ap, ap₂, sym, _∙_, subst}
 use mathlib.Core.Logic.{⊎-elim}
 use mathlib.Core.List.{List, [], _∷_, _++_, map, flatten, append-assoc, head-eq-of-cons-eq, tail-eq-of-cons-eq, List·Memᴰ, List·Memᴰ·head, List·Memᴰ·tail, List·Memᴰ·not-nil, List·Permᴰ, Permᴰ·middle}
-use Prim.Native.Nat.{ℕ, suc, _+_, _-_, _≤_}
+use Prim.Native.Nat.{ℕ, _+_, _-_, _≤_}
 use native.Mathlib.Nat.{add-zero}
 use native.Mathlib.Omega.{arith}
-use lib.ListN.{length, take, drop, length-append, length-map}
+use lib.ListN.{length, take, drop, length-append}
 use lib.Seq.{take-at, drop-at, take-all}
-use Rattle.laws.specs.document.Order.{sort}
 use Rattle.laws.specs.Falling.{Falling}
 use Rattle.laws.specs.Perms.{perm-length}
 use Rattle.laws.specs.Sorting.{trans≽, sort-perm, sort-stays}
 use Rattle.digit_code.specs.document.Code.{plain, digit, codes, childCodes, decode}
 use Rattle.digit_code.specs.Ends.{Ends, plain-ends}
 use Rattle.digit_code.specs.Parts.{flatten-append, flatten-codes, codes-count}
-use Rattle.skeleton.specs.document.Skeleton.{arcs, join, codeAt, rooted}
+use Rattle.skeleton.specs.document.Skeleton.{arcs, join, codeAt}
 use Rattle.skeleton.specs.IsRooted.{IsRooted}
 use Rattle.skeleton.specs.Base.{base}
 use Rattle.skeleton.specs.Ordered.{down-branches, code-ordered}
 use Rattle.skeleton.specs.Right.{read-code}
 use Rattle.skeleton.specs.Theorems.{decode-code}
 use Rattle.skeleton.specs.Walks.{turn}
-use Rattle.numbering.specs.document.Decoded.{IsVertex, starts, begins, parent}
+use Rattle.numbering.specs.document.Decoded.{starts, begins, parent}
 use Rattle.numbering.specs.Decoded.{rooted-decoded}
 use Rattle.numbering.specs.Standing.{bare, Known, at-root, its-codes, its-order}
 use Rattle.vertices.specs.document.Vertices.{subtree}
 use Rattle.orbits.specs.Joins.{Ones, ones-perm, ones-more, join-ends, Same, same-join, join-same, same-less}
 use Rattle.orbits.specs.Sides.{branches-ones, Edge}
-use Rattle.orbits.specs.Parents.{root-parent, falling, parent-arc, arc-down, side-code}
+use Rattle.orbits.specs.Parents.{root-parent, falling, parent-arc, arc-down}
 
 -- what is left of the code where the root's child v is cut off
 abbrev pub rest : List ℕ → ℕ → List ℕ

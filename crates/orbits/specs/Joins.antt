@@ -4,10 +4,10 @@
 -- In order: codes one behind the other are told apart; putting a code among others loses nothing; lists that are joined to one code; what one
 -- end's code and one side tell of the other. Assumes nothing.
 use mathlib.Core.Path.{_≡_, refl, ap, ap₂, sym, _∙_, subst}
-use mathlib.Core.Logic.{_↔_, _⊎_, inl, inr, ite, ⊎-elim}
-use mathlib.Core.List.{List, [], _∷_, _++_, flatten, nil≢cons, cons≢nil, head-eq-of-cons-eq, tail-eq-of-cons-eq, List·Memᴰ, List·Memᴰ·head, List·Memᴰ·tail, List·Memᴰ·cases-cons, List·Memᴰ·not-nil, List·Permᴰ, Permᴰ·symm}
+use mathlib.Core.Logic.{_↔_, _⊎_, inl, inr, ite}
+use mathlib.Core.List.{List, [], _∷_, _++_, flatten, head-eq-of-cons-eq, tail-eq-of-cons-eq, List·Memᴰ, List·Memᴰ·head, List·Memᴰ·tail, List·Memᴰ·cases-cons, List·Memᴰ·not-nil, List·Permᴰ, Permᴰ·symm}
 use Prim.Native.Nat.{ℕ, zero, suc, _+_, _≤_, _<_}
-use native.Mathlib.Nat.{add-zero, zero-add, suc-add}
+use native.Mathlib.Nat.{zero-add, suc-add}
 use native.Mathlib.Omega.{arith}
 use lib.ListN.{length, length-append}
 use Rattle.laws.specs.document.Order.{_≽_, dec≽, insert, sort}

@@ -1,5 +1,7 @@
--- Parents and arcs in what a rooted code decodes to: every arc joins a vertex to its parent (`arc-parent`). What is known of a vertex there is
--- `IsVertex` of the crate `numbering`; it has also the code of what hangs at a vertex, which is its subtree code (`side-code`). Assumes nothing.
+-- Parents in what a rooted code decodes to, from what is known of each vertex there (`IsVertex` of the crate `numbering`).
+--
+-- In order: who has a parent; lists of vertices and of codes; a parent has a lower number, and every arc joins a vertex to its parent
+-- (`arc-parent`); the code of what hangs at a vertex is its subtree code (`side-code`). Assumes nothing.
 use mathlib.Core.Path.{_≡_, refl, ap, ap₂, sym, _∙_, subst}
 use mathlib.Core.Logic.{_⊎_, inl, inr, ⊎-elim, if-pos, if-neg, Dec·not}
 use mathlib.Core.List.{List, [], _∷_, map, flatten, List·Memᴰ, List·Memᴰ·head, List·Memᴰ·tail, List·Memᴰ·cases-cons, List·Memᴰ·not-nil}
@@ -75,7 +77,7 @@ module _ (c : List ℕ) (x : IsRooted c) where
   pub parent-arc : (v : ℕ) → 2 ≤ v → v ≤ length c → List·Memᴰ (v, parent c v) A
   parent-arc v a b = near-arc A v (parent c v) (rw (rooted-decoded c x v (omega arith) b .near a) (List·Memᴰ·head refl))
 
-  -- children begin behind their parent
+  -- a vertex is joined to its parent and to its children
   pub arc-down : (u v : ℕ) → List·Memᴰ (u, v) A → (v ≡ parent c u) ⊎ List·Memᴰ v (begins c u)
   unfolding children
   arc-down u v m =

@@ -9,7 +9,7 @@ use Rattle.laws.specs.document.Once.{Once}
 use Rattle.laws.specs.Once.{once-perm}
 use Rattle.laws.specs.Perms.{perm-in, perm-length, front}
 use Rattle.skeleton.specs.document.Skeleton.{arcs, IsTree, join, codeAt, rooted}
-use Rattle.skeleton.specs.Forest.{Forest, none, tree, vertices, count, hung, Rooted}
+use Rattle.skeleton.specs.Forest.{Forest, none, tree, vertices, hung, Rooted}
 use Rattle.skeleton.specs.Forests.{gather, gather-vertices, gather-hung, count-vertices, distinct-once}
 use Rattle.skeleton.specs.Grow.{rooted-tree}
 use Rattle.skeleton.specs.Walks.{turn, arc-end}
