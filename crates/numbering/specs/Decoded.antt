@@ -84,7 +84,7 @@ module _ (c : List ℕ) (n : ℕ) (y : Found c (decode c) (arcs (decode c)) (suc
       }
 
 -- every vertex of a rooted code
-rooted-decoded : (c : List ℕ) → IsRooted c → (i : ℕ) → 1 ≤ i → i ≤ length c → IsVertex c i
+pub rooted-decoded : (c : List ℕ) → IsRooted c → (i : ℕ) → 1 ≤ i → i ≤ length c → IsVertex c i
 unfolding parent
 rooted-decoded c x zero a b = let z : ⊥ = omega arith in absurd z
 rooted-decoded c x (suc zero) a b =
