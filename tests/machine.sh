@@ -22,6 +22,14 @@ need_emulator() {
     fi
 }
 
+# sets cc, the C compiler for this machine itself, for programs without the library: nothing goes before them
+need_own_compiler() {
+    emulator= cc=gcc
+    if ! command -v $cc > /dev/null || [ ! -e /usr/include/stdio.h ]; then
+        install_missing gcc libc6-dev
+    fi
+}
+
 # sets cc, the C compiler for x86-64. What it links is not static: Debian's libm.a for another machine names files that are not there
 need_compiler() {
     need_emulator
