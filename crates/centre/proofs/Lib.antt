@@ -1,7 +1,8 @@
 -- Laws that the proofs of several functions cite. Assumes nothing.
 mod Rows
-mod Found
-mod Visits
-mod Walked
-mod Halves
-mod Twice
+mod Listed
+mod Waiting
+mod Step
+mod Begin
+mod Inward
+mod Rounds
