@@ -1,4 +1,0 @@
--- The answers of the C functions. Assumes nothing.
-pub mod Unpacked
-pub mod One
-pub mod document
