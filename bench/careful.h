@@ -1,5 +1,5 @@
-/* A careful C implementation of six of the library's calls, as a C programmer would ship it: the same inputs, the same checks, the same refusal numbers and places.
- * Each function returns the refusal number, 0 for success; `*place` is the place of a refusal, or the number of bytes written. */
+/* A careful C implementation of six of the library's calls, as a C programmer would ship it: the same inputs, the same checks, the same answer
+ * in one whole number. A function that only looks returns the refusal number, 0 for none, and has `*place` for its place. */
 #ifndef CAREFUL_H
 #define CAREFUL_H
 
@@ -32,12 +32,17 @@ unsigned code_rooted(const struct tree *t, unsigned root, uint8_t *order, uint8_
 void code_centred(const struct tree *t, uint8_t *out);
 void code_n_tuple(const struct tree *t, uint8_t *out);
 
+/* A call's answer: 256 times the refusal number plus the place. */
+static inline uint32_t answered(uint32_t number, uint64_t place) {
+    return number << 8 | (uint32_t)place;
+}
+
 /* The calls. */
-uint32_t c_read_line(const uint8_t *text, size_t len, uint8_t *out, size_t out_len, uint64_t *place);
-uint32_t c_write_line(uint64_t n, const uint8_t *edges, size_t len, uint8_t *out, size_t out_len, uint64_t *place);
-uint32_t c_centred_code(uint64_t n, const uint8_t *edges, size_t len, uint8_t *out, size_t out_len, uint64_t *place);
-uint32_t c_n_tuple_code(uint64_t n, const uint8_t *edges, size_t len, uint8_t *out, size_t out_len, uint64_t *place);
-uint32_t c_same(uint64_t n1, const uint8_t *e1, size_t l1, uint64_t n2, const uint8_t *e2, size_t l2, uint64_t *list, uint64_t *place);
-uint32_t c_pack(uint64_t n, const uint8_t *edges, size_t len, uint64_t root, uint8_t *out, size_t out_len, uint64_t *place);
+uint32_t c_read_line(const uint8_t *text, size_t len, uint8_t *out, size_t out_len);
+uint32_t c_write_line(size_t n, const uint8_t *edges, size_t len, uint8_t *out, size_t out_len);
+uint32_t c_centred_code(size_t n, const uint8_t *edges, size_t len, uint8_t *out, size_t out_len);
+uint32_t c_n_tuple_code(size_t n, const uint8_t *edges, size_t len, uint8_t *out, size_t out_len);
+uint32_t c_same_skeleton(size_t n1, const uint8_t *e1, size_t l1, size_t n2, const uint8_t *e2, size_t l2);
+uint32_t c_pack(size_t n, const uint8_t *edges, size_t len, size_t root, uint8_t *out, size_t out_len);
 
 #endif

@@ -1,30 +1,29 @@
-/* measure KIND check - N       both sides on the same inputs, whole and damaged: every answer, place and byte of output alike
+/* measure KIND check - N       both sides on the same inputs, whole and damaged: every answer and byte of output alike
  * measure KIND CALL WHO N      one call on TREES trees of N vertices; WHO is proved, c, or none (all but the call)
  * measure KIND graph6 - N      the same trees in graph6, one to a line
  *
  * KIND is random, where each new vertex hangs on a random earlier one with fewer than four neighbours, or path, where it hangs on the last. Then vertices get random numbers,
  * edges a random order and a random direction. */
-#include "../tests/second/zurkhovel.h"
 #include "careful.h"
 #include <stdio.h>
 #include <stdlib.h>
 #include <string.h>
+#include <zurkhovel.h>
 
-enum { TREES = 500, EDGES = 2 * (SIZE - 1), LINE = SIZE + 4, PACKED = SIZE / 4 };
+enum { TREES = 500 };
 
 struct input {
     unsigned n;
-    uint8_t edges[EDGES], other[EDGES]; /* other: the same tree under other numbers for every even input, another tree for every odd one */
-    uint8_t line[LINE];
-    uint64_t line_len;
+    uint8_t edges[ZK_EDGES], other[ZK_EDGES]; /* other: the same tree under other numbers for every even input, another tree for every odd one */
+    uint8_t line[ZK_LINE];
+    size_t line_len;
 };
 static struct input inputs[TREES];
 
-/* what a call gave */
+/* what a call gave: the answer as zurkhovel.h has it, and what it wrote */
 struct result {
-    uint32_t number;
-    uint64_t place, list;
-    uint8_t out[LINE];
+    uint32_t answer;
+    uint8_t out[ZK_LINE];
 };
 
 static uint64_t state = 20011;
@@ -78,15 +77,17 @@ static void shuffle(unsigned n, const uint8_t *from, uint8_t *edges) {
 }
 
 static void make(struct input *x, unsigned n, int same) {
-    uint8_t plain[EDGES];
+    uint8_t plain[ZK_EDGES];
     x->n = n;
     grow(n, plain);
     shuffle(n, plain, x->edges);
     if (!same)
         grow(n, plain);
     shuffle(n, plain, x->other);
-    if (c_write_line(n, x->edges, 2 * (n - 1), x->line, LINE, &x->line_len))
+    uint32_t answer = c_write_line(n, x->edges, 2 * (n - 1), x->line, ZK_LINE);
+    if (zk_refused(answer))
         exit(2);
+    x->line_len = zk_place(answer);
 }
 
 /* ---- The calls, each by both sides ---- */
@@ -95,44 +96,44 @@ enum side { NONE, PROVED, PLAIN };
 
 static void read_line(enum side s, const struct input *x, struct result *r) {
     if (s == PROVED)
-        r->number = zk_read_line(x->line, x->line_len, r->out, SIZE, &r->place);
+        r->answer = zk_read_line(x->line, x->line_len, r->out, ZK_DIGITS);
     else if (s == PLAIN)
-        r->number = c_read_line(x->line, x->line_len, r->out, SIZE, &r->place);
+        r->answer = c_read_line(x->line, x->line_len, r->out, ZK_DIGITS);
 }
 
 static void write_line(enum side s, const struct input *x, struct result *r) {
     if (s == PROVED)
-        r->number = zk_write_line(x->n, x->edges, 2 * (x->n - 1), r->out, LINE, &r->place);
+        r->answer = zk_write_line(x->n, x->edges, 2 * (x->n - 1), r->out, ZK_LINE);
     else if (s == PLAIN)
-        r->number = c_write_line(x->n, x->edges, 2 * (x->n - 1), r->out, LINE, &r->place);
+        r->answer = c_write_line(x->n, x->edges, 2 * (x->n - 1), r->out, ZK_LINE);
 }
 
 static void centred(enum side s, const struct input *x, struct result *r) {
     if (s == PROVED)
-        r->number = zk_centred_code(x->n, x->edges, 2 * (x->n - 1), r->out, SIZE, &r->place);
+        r->answer = zk_centred_code(x->n, x->edges, 2 * (x->n - 1), r->out, ZK_DIGITS);
     else if (s == PLAIN)
-        r->number = c_centred_code(x->n, x->edges, 2 * (x->n - 1), r->out, SIZE, &r->place);
+        r->answer = c_centred_code(x->n, x->edges, 2 * (x->n - 1), r->out, ZK_DIGITS);
 }
 
 static void n_tuple(enum side s, const struct input *x, struct result *r) {
     if (s == PROVED)
-        r->number = zk_n_tuple_code(x->n, x->edges, 2 * (x->n - 1), r->out, SIZE, &r->place);
+        r->answer = zk_n_tuple_code(x->n, x->edges, 2 * (x->n - 1), r->out, ZK_DIGITS);
     else if (s == PLAIN)
-        r->number = c_n_tuple_code(x->n, x->edges, 2 * (x->n - 1), r->out, SIZE, &r->place);
+        r->answer = c_n_tuple_code(x->n, x->edges, 2 * (x->n - 1), r->out, ZK_DIGITS);
 }
 
 static void verdict(enum side s, const struct input *x, struct result *r) {
     if (s == PROVED)
-        r->number = zk_same(x->n, x->edges, 2 * (x->n - 1), x->n, x->other, 2 * (x->n - 1), &r->list, &r->place);
+        r->answer = zk_same_skeleton(x->n, x->edges, 2 * (x->n - 1), x->n, x->other, 2 * (x->n - 1));
     else if (s == PLAIN)
-        r->number = c_same(x->n, x->edges, 2 * (x->n - 1), x->n, x->other, 2 * (x->n - 1), &r->list, &r->place);
+        r->answer = c_same_skeleton(x->n, x->edges, 2 * (x->n - 1), x->n, x->other, 2 * (x->n - 1));
 }
 
 static void packed(enum side s, const struct input *x, struct result *r) {
     if (s == PROVED)
-        r->number = zk_pack(x->n, x->edges, 2 * (x->n - 1), 1, r->out, PACKED, &r->place);
+        r->answer = zk_pack(x->n, x->edges, 2 * (x->n - 1), 1, r->out, ZK_PACKED);
     else if (s == PLAIN)
-        r->number = c_pack(x->n, x->edges, 2 * (x->n - 1), 1, r->out, PACKED, &r->place);
+        r->answer = c_pack(x->n, x->edges, 2 * (x->n - 1), 1, r->out, ZK_PACKED);
 }
 
 static const struct call {
@@ -150,11 +151,11 @@ static void compare(const struct input *x) {
         struct result a = {0}, b = {0};
         calls[c].run(PROVED, x, &a);
         calls[c].run(PLAIN, x, &b);
-        if (a.number != b.number || a.place != b.place || a.list != b.list || memcmp(a.out, b.out, LINE) != 0) {
-            printf("%s: %u at %llu, and %u at %llu in C\n", calls[c].name, a.number, (unsigned long long)a.place, b.number, (unsigned long long)b.place);
+        if (a.answer != b.answer || memcmp(a.out, b.out, ZK_LINE) != 0) {
+            printf("%s: %u, and %u in C, or the outputs differ\n", calls[c].name, a.answer, b.answer);
             exit(1);
         }
-        refused += a.number != 0;
+        refused += zk_refused(a.answer) != 0;
     }
 }
 
@@ -182,7 +183,7 @@ static void measure(const char *name, const char *who) {
         for (int i = 0; i < TREES; i++) {
             struct result r = {0};
             calls[c].run(s, &inputs[i], &r);
-            sum += r.number + r.place + r.out[0];
+            sum += r.answer + r.out[0];
         }
     }
     printf("%llu\n", (unsigned long long)sum);

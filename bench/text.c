@@ -112,7 +112,7 @@ static uint32_t why(const uint8_t *c, size_t n, uint64_t *place) {
     return 13;
 }
 
-uint32_t c_read_line(const uint8_t *t, size_t len, uint8_t *out, size_t out_len, uint64_t *place) {
+static uint32_t read_line(const uint8_t *t, size_t len, uint8_t *out, size_t out_len, uint64_t *place) {
     const uint8_t *feed = memchr(t, 10, len);
     uint8_t c[SIZE];
     size_t at = 1, n, end;
@@ -152,7 +152,7 @@ uint32_t c_read_line(const uint8_t *t, size_t len, uint8_t *out, size_t out_len,
     return 0;
 }
 
-uint32_t c_write_line(uint64_t n, const uint8_t *edges, size_t len, uint8_t *out, size_t out_len, uint64_t *place) {
+static uint32_t write_line(size_t n, const uint8_t *edges, size_t len, uint8_t *out, size_t out_len, uint64_t *place) {
     struct tree t;
     uint8_t code[SIZE];
     uint32_t refused = tree_read(&t, n, edges, len, 1, place);
@@ -170,4 +170,16 @@ uint32_t c_write_line(uint64_t n, const uint8_t *edges, size_t len, uint8_t *out
         *out++ = (uint8_t)('0' + code[i]);
     *out = '\n';
     return 0;
+}
+
+uint32_t c_read_line(const uint8_t *text, size_t len, uint8_t *out, size_t out_len) {
+    uint64_t place;
+    uint32_t number = read_line(text, len, out, out_len, &place);
+    return answered(number, place);
+}
+
+uint32_t c_write_line(size_t n, const uint8_t *edges, size_t len, uint8_t *out, size_t out_len) {
+    uint64_t place;
+    uint32_t number = write_line(n, edges, len, out, out_len, &place);
+    return answered(number, place);
 }

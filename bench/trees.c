@@ -174,49 +174,48 @@ static uint32_t begin(struct tree *t, uint64_t n, const uint8_t *edges, size_t l
     return out_len < need ? 15 : 0;
 }
 
-uint32_t c_centred_code(uint64_t n, const uint8_t *edges, size_t len, uint8_t *out, size_t out_len, uint64_t *place) {
+uint32_t c_centred_code(size_t n, const uint8_t *edges, size_t len, uint8_t *out, size_t out_len) {
     struct tree t;
-    uint32_t refused = begin(&t, n, edges, len, 1, n, out_len, place);
+    uint64_t place;
+    uint32_t refused = begin(&t, n, edges, len, 1, n, out_len, &place);
     if (!refused)
         code_centred(&t, out);
-    return refused;
+    return answered(refused, place);
 }
 
-uint32_t c_n_tuple_code(uint64_t n, const uint8_t *edges, size_t len, uint8_t *out, size_t out_len, uint64_t *place) {
+uint32_t c_n_tuple_code(size_t n, const uint8_t *edges, size_t len, uint8_t *out, size_t out_len) {
     struct tree t;
-    uint32_t refused = begin(&t, n, edges, len, 1, n, out_len, place);
+    uint64_t place;
+    uint32_t refused = begin(&t, n, edges, len, 1, n, out_len, &place);
     if (!refused)
         code_n_tuple(&t, out);
-    return refused;
+    return answered(refused, place);
 }
 
-uint32_t c_same(uint64_t n1, const uint8_t *e1, size_t l1, uint64_t n2, const uint8_t *e2, size_t l2, uint64_t *list, uint64_t *place) {
+uint32_t c_same_skeleton(size_t n1, const uint8_t *e1, size_t l1, size_t n2, const uint8_t *e2, size_t l2) {
     struct tree a, b;
     uint8_t x[SIZE], y[SIZE];
-    uint32_t refused = tree_read(&a, n1, e1, l1, 1, place);
-    *list = 1;
+    uint64_t place;
+    uint32_t refused = tree_read(&a, n1, e1, l1, 1, &place);
     if (refused)
-        return refused;
-    *list = 2;
-    refused = tree_read(&b, n2, e2, l2, 1, place);
+        return answered(refused, place);
+    refused = tree_read(&b, n2, e2, l2, 1, &place);
     if (refused)
-        return refused;
-    *list = 0;
-    *place = 0;
+        return 65536 + answered(refused, place);
     if (n1 != n2)
         return 0;
     code_centred(&a, x);
     code_centred(&b, y);
-    *place = digits_compare(x, y, n1) == 0;
-    return 0;
+    return digits_compare(x, y, n1) == 0;
 }
 
-uint32_t c_pack(uint64_t n, const uint8_t *edges, size_t len, uint64_t root, uint8_t *out, size_t out_len, uint64_t *place) {
+uint32_t c_pack(size_t n, const uint8_t *edges, size_t len, size_t root, uint8_t *out, size_t out_len) {
     struct tree t;
     uint8_t order[SIZE], code[SIZE];
-    uint32_t refused = begin(&t, n, edges, len, root, (2 * n + 6) / 8, out_len, place);
+    uint64_t place;
+    uint32_t refused = begin(&t, n, edges, len, root, (2 * n + 6) / 8, out_len, &place);
     if (refused)
-        return refused;
+        return answered(refused, place);
     code_rooted(&t, (unsigned)root, order, code);
     uint64_t held = 0;
     unsigned bits = 0, at = 0;
@@ -230,5 +229,5 @@ uint32_t c_pack(uint64_t n, const uint8_t *edges, size_t len, uint64_t root, uin
     }
     if (bits)
         out[at] = (uint8_t)(held << (8 - bits));
-    return 0;
+    return answered(0, place);
 }

@@ -31,11 +31,23 @@ need_own_compiler() {
 }
 
 # sets cc, the C compiler for x86-64. What it links is not static: Debian's libm.a for another machine names files that are not there
-need_compiler() {
-    need_emulator
+need_c() {
     cc=gcc headers=/usr/include package='gcc libc6-dev'
     native || { cc=x86_64-linux-gnu-gcc headers=/usr/x86_64-linux-gnu/include package='gcc-x86-64-linux-gnu libc6-dev-amd64-cross'; }
     if ! command -v $cc > /dev/null || [ ! -e $headers/stdio.h ]; then
         install_missing $package
     fi
+}
+
+# sets cc and emulator
+need_compiler() {
+    need_emulator
+    need_c
+}
+
+# sets cxx, the C++ compiler for x86-64
+need_cxx() {
+    cxx=g++ package=g++
+    native || { cxx=x86_64-linux-gnu-g++ package=g++-x86-64-linux-gnu; }
+    command -v $cxx > /dev/null || install_missing $package
 }

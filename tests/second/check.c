@@ -37,7 +37,7 @@ int one_in(unsigned chances)
 
 static void crashed(int signal)
 {
-    struct answer none = {0, 0};
+    struct answer none = {.number = 0};
     char more[60];
     snprintf(more, sizeof more, "the call crashed with signal %d; no answers", signal);
     mismatch(name_now, &input_now, more, none, none);
@@ -101,8 +101,8 @@ _Noreturn void mismatch(const char *name, const struct input *in, const char *mo
     print_head("MISMATCH", name);
     print_input(in);
     printf("  %s\n", more);
-    printf("  ours   %u at %" PRIu64 "\n", ours.number, ours.place);
-    printf("  theirs %u at %" PRIu64 "\n", theirs.number, theirs.place);
+    printf("  ours   %u at %" PRIu64 "%s\n", ours.number, ours.place, ours.second_list ? " of the second list" : "");
+    printf("  theirs %u at %" PRIu64 "%s\n", theirs.number, theirs.place, theirs.second_list ? " of the second list" : "");
     exit(1);
 }
 
@@ -142,7 +142,20 @@ void fill_pattern(void *memory, size_t bytes, uint64_t salt)
 
 static int equal(struct answer a, struct answer b)
 {
-    return a.number == b.number && a.place == b.place;
+    return a.number == b.number && a.place == b.place && a.second_list == b.second_list;
+}
+
+/* The whole number of an answer, from the words: 256 times the number plus the place, and 65,536 more for
+ * the second list. */
+static uint64_t whole_number(struct answer answer)
+{
+    return 256 * (uint64_t)answer.number + answer.place + (answer.second_list ? 65536 : 0);
+}
+
+/* A whole number as the header takes it apart. */
+static struct answer taken_apart(uint32_t whole)
+{
+    return (struct answer){.number = zk_number(whole), .place = zk_place(whole), .second_list = zk_list_of(whole) == 2};
 }
 
 struct lent {
@@ -150,12 +163,15 @@ struct lent {
 };
 
 static void compare(const struct call *call, const struct input *in, size_t room,
-                    struct answer ours, const struct lent *wanted, struct answer theirs, const struct lent *got)
+                    struct answer ours, const struct lent *wanted, uint32_t whole, const struct lent *got)
 {
-    char more[100];
-    snprintf(more, sizeof more, "output lent: %zu bytes", room);
-    if (!equal(ours, theirs))
+    char more[120];
+    struct answer theirs = taken_apart(whole);
+    snprintf(more, sizeof more, "output lent: %zu bytes; the whole number is %" PRIu32, room, whole);
+    if (whole != whole_number(ours) || !equal(ours, theirs))
         mismatch(call->name, in, more, ours, theirs);
+    claim(zk_answer(zk_list_of(whole), zk_number(whole), zk_place(whole)) == whole && zk_refused(whole) == (ours.number != 0),
+          "an answer taken apart and put together again is the same");
     call->met[ours.number]++;
     for (size_t i = 0; i < sizeof wanted->byte; i++)
         if (wanted->byte[i] != got->byte[i]) {
@@ -173,7 +189,7 @@ static struct answer check_value(const struct call *call, const struct input *in
     fill_pattern(&wanted, sizeof wanted, ++salt);
     got = wanted;
     struct answer ours = call->ours(in, wanted.byte + guard, room);
-    struct answer theirs = call->theirs(in, got.byte + guard, room);
+    uint32_t theirs = call->theirs(in, got.byte + guard, room);
     compare(call, in, room, ours, &wanted, theirs, &got);
     return ours;
 }
@@ -189,10 +205,10 @@ static void check_room(const struct call *call, const struct input *in, size_t r
     got = wanted;
     struct answer ours = ample;
     if (ample.number == 0 && room < ample.place)
-        ours = (struct answer){15, ample.place};
+        ours = (struct answer){.number = 15, .place = ample.place};
     else if (ample.number == 0)
         memcpy(wanted.byte + guard, result, ample.place);
-    struct answer theirs = call->theirs(in, got.byte + guard, room);
+    uint32_t theirs = call->theirs(in, got.byte + guard, room);
     compare(call, in, room, ours, &wanted, theirs, &got);
 }
 

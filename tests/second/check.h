@@ -40,19 +40,19 @@ enum output {
     no_output
 };
 
-typedef struct answer calling(const struct input *in, uint8_t *out, size_t room);
-
 enum { numbers = 16 };
 
 struct call {
     const char *name;
     enum output output;
-    calling *ours, *theirs;
+    struct answer (*ours)(const struct input *in, uint8_t *out, size_t room);
+    uint32_t (*theirs)(const struct input *in, uint8_t *out, size_t room); /* the one whole number */
     uint64_t *met; /* how often each number was answered */
 };
 
-/* Makes both answer, with the output lent too short, exactly and too long; ends the program when an
- * answer or any byte of the lent output or around it differs. Returns our answer to an ample output. */
+/* Makes both answer, with the output lent too short, exactly and too long; ends the program when the
+ * whole number, a part of it as the header takes it apart, or any byte of the lent output or around it
+ * differs, or when the parts put together are another number. Returns our answer to an ample output. */
 struct answer check(const struct call *call, struct input in);
 
 /* That the cases met all these numbers, 0 among them, and no other: a piece ends with this for each of its

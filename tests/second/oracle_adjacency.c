@@ -96,7 +96,7 @@ struct answer oracle_cam_by_code(uint64_t n, const uint8_t *edges, size_t len, u
     return deliver_cam(by_code(n, cam_limit, edges, len, &tree), &tree, out, room);
 }
 
-struct answer oracle_0a(uint64_t n, const uint8_t *edges, size_t len, uint64_t *value)
+struct answer oracle_zero_a(uint64_t n, const uint8_t *edges, size_t len, uint64_t *value)
 {
     struct tree tree;
     struct answer refusal = as_given(n, limit_0a, edges, len, true, &tree);
@@ -105,7 +105,7 @@ struct answer oracle_0a(uint64_t n, const uint8_t *edges, size_t len, uint64_t *
     return refusal;
 }
 
-struct answer oracle_0a_by_code(uint64_t n, const uint8_t *edges, size_t len, uint64_t *value)
+struct answer oracle_zero_a_by_code(uint64_t n, const uint8_t *edges, size_t len, uint64_t *value)
 {
     struct tree tree;
     struct answer refusal = by_code(n, limit_0a, edges, len, &tree);
@@ -114,7 +114,7 @@ struct answer oracle_0a_by_code(uint64_t n, const uint8_t *edges, size_t len, ui
     return refusal;
 }
 
-struct answer oracle_a0(uint64_t n, const uint8_t *edges, size_t len, uint64_t *value)
+struct answer oracle_a_zero(uint64_t n, const uint8_t *edges, size_t len, uint64_t *value)
 {
     struct tree tree;
     struct answer refusal = as_given(n, limit_a0, edges, len, false, &tree);
@@ -123,7 +123,7 @@ struct answer oracle_a0(uint64_t n, const uint8_t *edges, size_t len, uint64_t *
     return refusal;
 }
 
-struct answer oracle_a0_by_code(uint64_t n, const uint8_t *edges, size_t len, uint64_t *value)
+struct answer oracle_a_zero_by_code(uint64_t n, const uint8_t *edges, size_t len, uint64_t *value)
 {
     struct tree tree;
     struct answer refusal = by_code(n, limit_a0, edges, len, &tree);
@@ -158,7 +158,7 @@ static size_t edges_of_cam(const uint8_t *cam, size_t len, uint8_t *edges)
     return 2 * count;
 }
 
-struct answer oracle_uncam(uint64_t n, const uint8_t *cam, size_t len, uint8_t *out, size_t room)
+struct answer oracle_decode_cam(uint64_t n, const uint8_t *cam, size_t len, uint8_t *out, size_t room)
 {
     uint8_t edges[2 * most_vertices];
     size_t length = edges_of_cam(cam, len, edges);
@@ -178,7 +178,7 @@ static struct row row_4_0a(uint64_t n, uint64_t value)
     return row_if(4, has_range && value > factorial(n - 1) - 1);
 }
 
-struct answer oracle_un0a(uint64_t n, uint64_t value, uint8_t *out, size_t room)
+struct answer oracle_decode_zero_a(uint64_t n, uint64_t value, uint8_t *out, size_t room)
 {
     uint8_t cam[limit_0a] = {1};
     size_t entries = n >= 1 && n <= limit_0a ? (size_t)n - 1 : 0;
@@ -210,7 +210,7 @@ static unsigned power_a0(unsigned n, unsigned r, unsigned i)
 }
 
 /* An A0 in its range can have up to 55 ones; its edges go by column, rows ascending. */
-struct answer oracle_una0(uint64_t n, uint64_t value, uint8_t *out, size_t room)
+struct answer oracle_decode_a_zero(uint64_t n, uint64_t value, uint8_t *out, size_t room)
 {
     uint8_t edges[2 * 64];
     size_t ones = 0;

@@ -5,7 +5,7 @@
 
 static bool larger(const struct code *a, const struct code *b)
 {
-    return oracle_compare(a->digit, a->length, b->digit, b->length) == 2;
+    return order_of(a->digit, a->length, b->digit, b->length) == 2;
 }
 
 static void append(struct code *code, const struct code *part)
@@ -106,7 +106,7 @@ struct code centred_code(const struct tree *tree)
 
 bool same_digits(const uint8_t *digits, size_t count, const struct code *code)
 {
-    return oracle_compare(digits, count, code->digit, code->length) == 1;
+    return order_of(digits, count, code->digit, code->length) == 1;
 }
 
 struct answer oracle_rooted_code(uint64_t n, const uint8_t *edges, size_t len, uint64_t root,
@@ -164,21 +164,17 @@ struct answer oracle_decode_centred(const uint8_t *code, size_t len, uint8_t *ou
     return decode_as(centred_code, code, len, out, room);
 }
 
-struct answer oracle_same(uint64_t n1, const uint8_t *e1, size_t l1,
-                          uint64_t n2, const uint8_t *e2, size_t l2, uint64_t *list)
+struct answer oracle_same_skeleton(uint64_t n1, const uint8_t *e1, size_t l1,
+                                   uint64_t n2, const uint8_t *e2, size_t l2)
 {
     struct answer first = oracle_check_edges(n1, e1, l1, no_root);
     struct answer second = oracle_check_edges(n2, e2, l2, no_root);
-    if (first.number != 0) {
-        *list = 1;
+    second.second_list = true;
+    if (first.number != 0)
         return first;
-    }
-    if (second.number != 0) {
-        *list = 2;
+    if (second.number != 0)
         return second;
-    }
     struct tree one = tree_of(n1, e1), other = tree_of(n2, e2);
     struct code a = centred_code(&one), b = centred_code(&other);
-    *list = 0;
-    return (struct answer){0, same_digits(a.digit, a.length, &b) ? 1 : 0};
+    return (struct answer){.number = 0, .place = same_digits(a.digit, a.length, &b) ? 1 : 0};
 }

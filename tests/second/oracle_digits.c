@@ -1,7 +1,7 @@
 /* Digit codes: dictionary order, the code's end, rows 3 and 10 to 13, decoding. */
 #include "oracle_parts.h"
 
-unsigned oracle_compare(const uint8_t *a, size_t an, const uint8_t *b, size_t bn)
+unsigned order_of(const uint8_t *a, size_t an, const uint8_t *b, size_t bn)
 {
     size_t i = 0;
     while (i < an && i < bn && a[i] == b[i])
@@ -66,7 +66,7 @@ struct row row_13(const uint8_t *digits, size_t count)
             size_t length = code_end(digits + child, end - child);
             size_t next = child + length;
             size_t next_length = code_end(digits + next, end - next);
-            bool larger = oracle_compare(digits + next, next_length, digits + child, length) == 2;
+            bool larger = order_of(digits + next, next_length, digits + child, length) == 2;
             if (larger && (!found.applies || next + 1 < found.place))
                 found = row_at(13, next + 1);
             child = next;

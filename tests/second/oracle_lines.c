@@ -100,8 +100,8 @@ struct answer oracle_write_line(uint64_t n, const uint8_t *edges, size_t len, ui
 }
 
 void oracle_read_text(const uint8_t *text, size_t len, uint8_t *records, size_t records_len,
-                      uint8_t *numbers, size_t numbers_len, uint64_t *places, size_t places_len,
-                      uint64_t *lines, uint64_t *at)
+                      uint8_t *numbers, size_t numbers_len, size_t *places, size_t places_len,
+                      size_t *lines, size_t *at)
 {
     size_t from = 0, i = 0;
     while (from < len && (i + 1) * record_bytes <= records_len && i + 1 <= numbers_len && i + 1 <= places_len) {
@@ -116,7 +116,7 @@ void oracle_read_text(const uint8_t *text, size_t len, uint8_t *records, size_t 
     *at = from;
 }
 
-void oracle_count(const uint8_t *numbers, size_t len, uint64_t *read, uint64_t *refused)
+void oracle_count(const uint8_t *numbers, size_t len, size_t *read, size_t *refused)
 {
     *read = *refused = 0;
     for (size_t i = 0; i < len; i++)

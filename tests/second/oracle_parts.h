@@ -2,8 +2,6 @@
 #ifndef ORACLE_PARTS_H
 #define ORACLE_PARTS_H
 
-#include <stdbool.h>
-
 #include "oracle.h"
 
 enum { most_vertices = 64, most_neighbours = 4, most_children = 3 };
@@ -26,6 +24,9 @@ struct answer lowest(const struct row *rows, size_t count);
 
 /* The last step of a call with a lent output: the refusal, or 15, or the result written at the front. */
 struct answer deliver(struct answer refusal, const uint8_t *result, size_t length, uint8_t *out, size_t room);
+
+/* Dictionary order: 0 a before b, 1 equal, 2 a after b; a proper prefix stands before. */
+unsigned order_of(const uint8_t *a, size_t an, const uint8_t *b, size_t bn);
 
 /* A digit code that is known to fit. */
 struct code {

@@ -88,22 +88,22 @@ static void adjacency(void)
     const uint8_t cam[] = {1, 2, 2, 3, 1, 6}, by_code[] = {1, 2, 3, 1, 5, 1};
     uint8_t edges[12];
     uint64_t value;
-    IS(oracle_uncam(7, cam, 6, edges, sizeof edges).number, 0);
+    IS(oracle_decode_cam(7, cam, 6, edges, sizeof edges).number, 0);
     struct answer answer = oracle_centred_code(7, edges, 12, out, sizeof out);
     IS(is_printed(out, answer.place, "3110100"), true);
-    IS(oracle_0a(7, edges, 12, &value).number, 0);
+    IS(oracle_zero_a(7, edges, 12, &value).number, 0);
     IS(value, 545);
-    IS(oracle_a0(7, edges, 12, &value).number, 0);
+    IS(oracle_a_zero(7, edges, 12, &value).number, 0);
     IS(value, 1646688);
-    IS(oracle_0a_by_code(7, edges, 12, &value).number, 0);
+    IS(oracle_zero_a_by_code(7, edges, 12, &value).number, 0);
     IS(value, 624);
     REFUSED(oracle_cam_by_code(7, edges, 12, out, sizeof out), 0, 6);
     IS(memcmp(out, by_code, 6), 0);
     REFUSED(oracle_cam(7, edges, 12, out, sizeof out), 0, 6);
     IS(memcmp(out, cam, 6), 0);
-    REFUSED(oracle_un0a(7, 545, out, sizeof out), 0, 12);
+    REFUSED(oracle_decode_zero_a(7, 545, out, sizeof out), 0, 12);
     IS(memcmp(out, edges, 12), 0);
-    REFUSED(oracle_una0(7, 1646688, out, sizeof out), 0, 12);
+    REFUSED(oracle_decode_a_zero(7, 1646688, out, sizeof out), 0, 12);
     IS(memcmp(out, edges, 12), 0);
 }
 
@@ -174,25 +174,25 @@ static void limits(void)
     REFUSED(oracle_check_code(path_code, 0), 3, 0);
     REFUSED(oracle_centred_code(64, edges, path(64, edges), out, sizeof out), 0, 64);
     REFUSED(oracle_centred_code(65, edges, path(65, edges), out, sizeof out), 3, 0);
-    IS(oracle_0a(21, edges, path(21, edges), &value).number, 0);
+    IS(oracle_zero_a(21, edges, path(21, edges), &value).number, 0);
     IS(value, 2432902008176639999u); /* 20! - 1, the largest */
-    REFUSED(oracle_un0a(21, value, out, sizeof out), 0, 40);
-    REFUSED(oracle_un0a(21, value + 1, out, sizeof out), 4, 0);
-    REFUSED(oracle_un0a(22, 0, out, sizeof out), 3, 0);
-    IS(oracle_0a(22, edges, path(22, edges), &value).number, 3);
-    IS(oracle_a0(11, edges, path(11, edges), &value).number, 0);
-    REFUSED(oracle_una0(11, value, out, sizeof out), 0, 20);
-    IS(oracle_a0(12, edges, path(12, edges), &value).number, 3);
-    REFUSED(oracle_una0(12, value, out, sizeof out), 3, 0);
+    REFUSED(oracle_decode_zero_a(21, value, out, sizeof out), 0, 40);
+    REFUSED(oracle_decode_zero_a(21, value + 1, out, sizeof out), 4, 0);
+    REFUSED(oracle_decode_zero_a(22, 0, out, sizeof out), 3, 0);
+    IS(oracle_zero_a(22, edges, path(22, edges), &value).number, 3);
+    IS(oracle_a_zero(11, edges, path(11, edges), &value).number, 0);
+    REFUSED(oracle_decode_a_zero(11, value, out, sizeof out), 0, 20);
+    IS(oracle_a_zero(12, edges, path(12, edges), &value).number, 3);
+    REFUSED(oracle_decode_a_zero(12, value, out, sizeof out), 3, 0);
     IS(oracle_fraction(27, edges, path(27, edges), 1, &x).number, 0);
     REFUSED(oracle_unfraction(x, out, sizeof out), 0, 52);
     IS(oracle_fraction(28, edges, path(28, edges), 1, &x).number, 3);
     IS(oracle_whole(32, edges, path(32, edges), 1, &value).number, 0);
     REFUSED(oracle_unwhole(32, value, out, sizeof out), 0, 62);
     IS(oracle_whole(33, edges, path(33, edges), 1, &value).number, 3);
-    IS(oracle_0a(1, edges, 0, &value).number, 0);
+    IS(oracle_zero_a(1, edges, 0, &value).number, 0);
     IS(value, 0);
-    IS(oracle_0a(2, edges, path(2, edges), &value).number, 0);
+    IS(oracle_zero_a(2, edges, path(2, edges), &value).number, 0);
     IS(value, 0);
     REFUSED(oracle_pack(1, edges, 0, 1, out, sizeof out), 0, 1);
     IS(out[0], 0);
@@ -224,7 +224,7 @@ static void listing(void)
     const char *none = "read 0 refused 0\n", *too_long = "input too long\n";
     static uint8_t longer[65537];
     uint8_t records[64 * 8], numbers[8], listed[200];
-    uint64_t places[8], answered, at;
+    size_t places[8], answered, at;
     IS(oracle_list((const uint8_t *)text, strlen(text), 0, listed, sizeof listed), strlen(wanted));
     IS(memcmp(listed, wanted, strlen(wanted)), 0);
     IS(oracle_list((const uint8_t *)text, 0, 0, listed, sizeof listed), strlen(none));
@@ -257,7 +257,7 @@ static void classes_of(const char *printed, const char *wanted)
     struct code code = code_of(printed);
     uint8_t edges[128];
     struct answer decoded = oracle_decode_code(code.digit, code.length, edges, sizeof edges);
-    REFUSED(oracle_classes(code.length, edges, decoded.place, out, sizeof out), 0, code.length);
+    REFUSED(oracle_equal_vertices(code.length, edges, decoded.place, out, sizeof out), 0, code.length);
     IS(memcmp(out, wanted, code.length), 0);
 }
 

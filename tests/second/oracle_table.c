@@ -20,14 +20,14 @@ struct row row_none(unsigned number)
 
 struct answer lowest(const struct row *rows, size_t count)
 {
-    struct answer best = {0, 0};
+    struct answer best = {.number = 0};
     for (size_t i = 0; i < count; i++) {
         if (!rows[i].applies)
             continue;
         bool lower = best.number == 0 || rows[i].number < best.number;
         bool earlier = rows[i].number == best.number && rows[i].place < best.place;
         if (lower || earlier)
-            best = (struct answer){rows[i].number, rows[i].place};
+            best = (struct answer){.number = rows[i].number, .place = rows[i].place};
     }
     return best;
 }
@@ -37,8 +37,8 @@ struct answer deliver(struct answer refusal, const uint8_t *result, size_t lengt
     if (refusal.number != 0)
         return refusal;
     if (room < length)
-        return (struct answer){15, length};
+        return (struct answer){.number = 15, .place = length};
     if (length > 0)
         memcpy(out, result, length);
-    return (struct answer){0, length};
+    return (struct answer){.number = 0, .place = length};
 }

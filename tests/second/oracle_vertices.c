@@ -5,7 +5,7 @@ static bool equal_parts(const struct code *code, size_t a, size_t b)
 {
     size_t a_length = code_end(code->digit + a, code->length - a);
     size_t b_length = code_end(code->digit + b, code->length - b);
-    return oracle_compare(code->digit + a, a_length, code->digit + b, b_length) == 1;
+    return order_of(code->digit + a, a_length, code->digit + b, b_length) == 1;
 }
 
 /* Every vertex lies at the depth of its parent and one more. */
@@ -18,7 +18,7 @@ static void depths(const struct code *code, unsigned *depth)
         depth[v] = depth[edges[2 * (v - 1)] - 1] + 1;
 }
 
-struct answer oracle_classes(uint64_t n, const uint8_t *edges, size_t len, uint8_t *out, size_t room)
+struct answer oracle_equal_vertices(uint64_t n, const uint8_t *edges, size_t len, uint8_t *out, size_t room)
 {
     struct answer refusal = oracle_check_edges(n, edges, len, no_root);
     if (refusal.number != 0)

@@ -10,4 +10,9 @@ void piece_adjacency(void);
 void piece_lines(void);
 void piece_vertices(void);
 
+/* The wrong answers of mock.c: makes the calls answer wrongly in the way of this name, false where there is
+ * none; and writes, a line for each, the piece that must catch it and its name. */
+int choose_wrong(const char *name);
+void print_wrongs(void);
+
 #endif

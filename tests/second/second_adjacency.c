@@ -5,32 +5,32 @@
 
 CALL_LIST(cam);
 CALL_LIST(cam_by_code);
-CALL_LIST(uncam);
-CALL_VALUE(0a, uint64_t, in->n, in->bytes, in->len);
-CALL_VALUE(0a_by_code, uint64_t, in->n, in->bytes, in->len);
-CALL_NUMBER(un0a);
-CALL_VALUE(a0, uint64_t, in->n, in->bytes, in->len);
-CALL_VALUE(a0_by_code, uint64_t, in->n, in->bytes, in->len);
-CALL_NUMBER(una0);
+CALL_LIST(decode_cam);
+CALL_VALUE(zero_a, uint64_t, in->n, in->bytes, in->len);
+CALL_VALUE(zero_a_by_code, uint64_t, in->n, in->bytes, in->len);
+CALL_NUMBER(decode_zero_a);
+CALL_VALUE(a_zero, uint64_t, in->n, in->bytes, in->len);
+CALL_VALUE(a_zero_by_code, uint64_t, in->n, in->bytes, in->len);
+CALL_NUMBER(decode_a_zero);
 
 static void check_list(const struct list *list)
 {
     struct input in = {.n = list->n, .bytes = list->ends, .len = list->len};
     check(&call_cam, in);
     check(&call_cam_by_code, in);
-    check(&call_0a, in);
-    check(&call_0a_by_code, in);
-    check(&call_a0, in);
-    check(&call_a0_by_code, in);
+    check(&call_zero_a, in);
+    check(&call_zero_a_by_code, in);
+    check(&call_a_zero, in);
+    check(&call_a_zero_by_code, in);
 }
 
 static struct answer check_cam(uint64_t n, const struct bytes *cam)
 {
-    struct answer answer = check(&call_uncam, (struct input){.n = n, .bytes = cam->byte, .len = cam->len});
+    struct answer answer = check(&call_decode_cam, (struct input){.n = n, .bytes = cam->byte, .len = cam->len});
     if (answer.number == 0) {
         struct list list = {.n = n, .len = answer.place};
         struct bytes again;
-        oracle_uncam(n, cam->byte, cam->len, list.ends, sizeof list.ends);
+        oracle_decode_cam(n, cam->byte, cam->len, list.ends, sizeof list.ends);
         check(&call_cam, (struct input){.n = n, .bytes = list.ends, .len = list.len});
         again.len = oracle_cam(n, list.ends, list.len, again.byte, sizeof again.byte).place;
         claim(same_bytes(cam, &again), "a CAM is given again");
@@ -59,12 +59,12 @@ static struct answer check_number(const struct call *reads, reading_number *read
 
 static struct answer check_0a(uint64_t n, uint64_t value)
 {
-    return check_number(&call_un0a, oracle_un0a, &call_0a, oracle_0a, n, value);
+    return check_number(&call_decode_zero_a, oracle_decode_zero_a, &call_zero_a, oracle_zero_a, n, value);
 }
 
 static struct answer check_a0(uint64_t n, uint64_t value)
 {
-    return check_number(&call_una0, oracle_una0, &call_a0, oracle_a0, n, value);
+    return check_number(&call_decode_a_zero, oracle_decode_a_zero, &call_a_zero, oracle_a_zero, n, value);
 }
 
 /* The numbers and the CAM of a right list are read back, then with a little damage. */
@@ -80,12 +80,12 @@ static void there_and_back(const struct list *list)
         damage_bytes(&cam, (unsigned)list->n + 2);
         check_cam(list->n, &cam);
     }
-    if (oracle_0a(list->n, list->ends, list->len, &value).number == 0) {
+    if (oracle_zero_a(list->n, list->ends, list->len, &value).number == 0) {
         claim(check_0a(list->n, value).number == 0, "a 0A is right");
         check_0a(list->n, value + below(9) - 4);
         check_0a(list->n + 1, value);
     }
-    if (oracle_a0(list->n, list->ends, list->len, &value).number == 0) {
+    if (oracle_a_zero(list->n, list->ends, list->len, &value).number == 0) {
         claim(check_a0(list->n, value).number == 0, "an A0 is right");
         check_a0(list->n, value ^ (uint64_t)1 << below(56));
         check_a0(list->n, value ^ (uint64_t)1 << below(56) ^ (uint64_t)1 << below(56));
@@ -246,11 +246,11 @@ void piece_adjacency(void)
     limits();
     CLAIM_MET(cam, 0, 3, 5, 6, 7, 8, 9, 14, 15);
     CLAIM_MET(cam_by_code, 0, 3, 5, 6, 7, 8, 9, 15);
-    CLAIM_MET(uncam, 0, 3, 5, 6, 9, 15);
-    CLAIM_MET(0a, 0, 3, 5, 6, 7, 8, 9, 14);
-    CLAIM_MET(0a_by_code, 0, 3, 5, 6, 7, 8, 9);
-    CLAIM_MET(un0a, 0, 3, 4, 9, 15);
-    CLAIM_MET(a0, 0, 3, 5, 6, 7, 8, 9);
-    CLAIM_MET(a0_by_code, 0, 3, 5, 6, 7, 8, 9);
-    CLAIM_MET(una0, 0, 3, 4, 5, 8, 9, 15);
+    CLAIM_MET(decode_cam, 0, 3, 5, 6, 9, 15);
+    CLAIM_MET(zero_a, 0, 3, 5, 6, 7, 8, 9, 14);
+    CLAIM_MET(zero_a_by_code, 0, 3, 5, 6, 7, 8, 9);
+    CLAIM_MET(decode_zero_a, 0, 3, 4, 9, 15);
+    CLAIM_MET(a_zero, 0, 3, 5, 6, 7, 8, 9);
+    CLAIM_MET(a_zero_by_code, 0, 3, 5, 6, 7, 8, 9);
+    CLAIM_MET(decode_a_zero, 0, 3, 4, 5, 8, 9, 15);
 }

@@ -10,7 +10,7 @@ CALL_BYTES(unpack);
 CALL_VALUE(whole, uint64_t, in->n, in->bytes, in->len, in->root);
 CALL_NUMBER(unwhole);
 CALL_VALUE(fraction, double, in->n, in->bytes, in->len, in->root);
-CALL(unfraction, lent_bytes, oracle_unfraction(in->x, out, room), zk_unfraction(in->x, out, room, &place));
+CALL_BOTH(unfraction, lent_bytes, in->x, out, room);
 
 /* The edges that one of our own readings gives, for coding at vertex 1 again. */
 static struct input at_1(struct list *list, size_t length)

@@ -1,11 +1,9 @@
-/* Piece code: the comparer, checking and decoding of rooted codes. */
+/* Piece code: checking and decoding of rooted codes. */
 #include "calls.h"
 #include "gen.h"
 #include "second.h"
 
-CALL(compare, no_output, ((struct answer){oracle_compare(in->bytes, in->len, in->bytes2, in->len2), 0}),
-     (place = 0, zk_compare(in->bytes, in->len, in->bytes2, in->len2)));
-CALL(check_code, no_output, oracle_check_code(in->bytes, in->len), zk_check_code(in->bytes, in->len, &place));
+CALL_BOTH(check_code, no_output, in->bytes, in->len);
 CALL_BYTES(decode_code);
 
 static struct answer check_both(const struct bytes *code)
@@ -98,25 +96,6 @@ static void lengths(void)
         }
 }
 
-/* Two strings: random ones, prefixes of each other, equal ones, and ones that differ late. */
-static void comparer(void)
-{
-    for (unsigned round = 0; round < 60000; round++) {
-        struct bytes a = {.len = below(one_in(10) ? 300 : 12)};
-        unsigned values = one_in(3) ? 256 : 3;
-        for (size_t i = 0; i < a.len; i++)
-            a.byte[i] = (uint8_t)below(values);
-        struct bytes b = a;
-        if (one_in(3))
-            b.len = below(a.len + 1);
-        else if (!one_in(3) && a.len > 0)
-            b.byte[below(a.len)] = (uint8_t)below(values);
-        struct input in = {.bytes = a.byte, .len = a.len, .bytes2 = b.byte, .len2 = b.len};
-        check(&call_compare, in);
-        check(&call_compare, (struct input){.bytes = b.byte, .len = b.len, .bytes2 = a.byte, .len2 = a.len});
-    }
-}
-
 void piece_code(void)
 {
     short_strings();
@@ -124,8 +103,6 @@ void piece_code(void)
     moved_digits();
     unsorted();
     lengths();
-    comparer();
-    CLAIM_MET(compare, 0, 1, 2);
     CLAIM_MET(check_code, 0, 3, 10, 11, 12, 13);
     CLAIM_MET(decode_code, 0, 3, 10, 11, 12, 13, 15);
 }

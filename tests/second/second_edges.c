@@ -3,8 +3,7 @@
 #include "gen.h"
 #include "second.h"
 
-CALL(check_edges, no_output, oracle_check_edges(in->n, in->bytes, in->len, in->root),
-     zk_check_edges(in->n, in->bytes, in->len, in->root, &place));
+CALL_BOTH(check_edges, no_output, in->n, in->bytes, in->len, in->root);
 CALL_ROOTED(rooted_code);
 
 static struct answer check_both(const struct list *list, uint64_t root)

@@ -7,7 +7,7 @@ CALL_LIST(n_tuple_code);
 CALL_LIST(centred_code);
 CALL_BYTES(decode_n_tuple);
 CALL_BYTES(decode_centred);
-CALL_VALUE(same, uint64_t, in->n, in->bytes, in->len, in->n2, in->bytes2, in->len2);
+CALL_BOTH(same_skeleton, no_output, in->n, in->bytes, in->len, in->n2, in->bytes2, in->len2);
 
 static void check_list(const struct list *list)
 {
@@ -38,8 +38,8 @@ static void check_code(const struct bytes *code)
 
 static struct answer check_same(const struct list *a, const struct list *b)
 {
-    return check(&call_same, (struct input){.n = a->n, .bytes = a->ends, .len = a->len,
-                                       .n2 = b->n, .bytes2 = b->ends, .len2 = b->len});
+    return check(&call_same_skeleton, (struct input){.n = a->n, .bytes = a->ends, .len = a->len,
+                                                     .n2 = b->n, .bytes2 = b->ends, .len2 = b->len});
 }
 
 static void check_roots(const struct list *list)
@@ -173,5 +173,5 @@ void piece_form(void)
     CLAIM_MET(centred_code, 0, 3, 5, 6, 7, 8, 9, 15);
     CLAIM_MET(decode_n_tuple, 0, 3, 10, 11, 12, 13, 14, 15);
     CLAIM_MET(decode_centred, 0, 3, 10, 11, 12, 13, 14, 15);
-    CLAIM_MET(same, 0, 3, 5, 6, 7, 8, 9);
+    CLAIM_MET(same_skeleton, 0, 3, 5, 6, 7, 8, 9);
 }

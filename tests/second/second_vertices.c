@@ -3,11 +3,11 @@
 #include "gen.h"
 #include "second.h"
 
-CALL_LIST(classes);
+CALL_LIST(equal_vertices);
 
 static struct answer check_list(const struct list *list)
 {
-    return check(&call_classes, (struct input){.n = list->n, .bytes = list->ends, .len = list->len});
+    return check(&call_equal_vertices, (struct input){.n = list->n, .bytes = list->ends, .len = list->len});
 }
 
 static void small_skeletons(void)
@@ -45,5 +45,5 @@ void piece_vertices(void)
 {
     small_skeletons();
     larger();
-    CLAIM_MET(classes, 0, 3, 5, 6, 7, 8, 9, 15);
+    CLAIM_MET(equal_vertices, 0, 3, 5, 6, 7, 8, 9, 15);
 }

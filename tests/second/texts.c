@@ -5,7 +5,7 @@
 
 enum { most_listing = 1 << 20 };
 
-static const uint64_t unset = 0xdeadbeefdeadbeefu;
+static const size_t unset = 0xdeadbeefdeadbeefu;
 
 struct room {
     size_t records, numbers, places; /* records in bytes, the others in lines */
@@ -23,27 +23,27 @@ static void fill(struct reading *reading, struct room room, uint64_t salt)
 {
     reading->lines = reading->at = unset;
     fill_pattern(reading->numbers, room.numbers + 1, salt);
-    fill_pattern(reading->places, (room.places + 1) * sizeof(uint64_t), salt);
+    fill_pattern(reading->places, (room.places + 1) * sizeof(size_t), salt);
     fill_pattern(reading->records, room.records + record, salt);
 }
 
 static int same_reading(const struct reading *a, const struct reading *b, struct room room)
 {
     return a->lines == b->lines && a->at == b->at && memcmp(a->numbers, b->numbers, room.numbers + 1) == 0 &&
-           memcmp(a->places, b->places, (room.places + 1) * sizeof(uint64_t)) == 0 &&
+           memcmp(a->places, b->places, (room.places + 1) * sizeof(size_t)) == 0 &&
            memcmp(a->records, b->records, room.records + record) == 0;
 }
 
 void check_count(const uint8_t *numbers, size_t len)
 {
-    uint64_t read, refused, their_read = unset, their_refused = unset;
+    size_t read, refused, their_read = unset, their_refused = unset;
     struct input in = {.bytes = numbers, .len = len};
     begin_case("count", &in);
     oracle_count(numbers, len, &read, &refused);
     zk_count(numbers, len, &their_read, &their_refused);
     if (read != their_read || refused != their_refused)
-        mismatch("count", &in, "below are read and refused", (struct answer){(unsigned)read, refused},
-                 (struct answer){(unsigned)their_read, their_refused});
+        mismatch("count", &in, "below are read and refused", (struct answer){.number = (unsigned)read, .place = refused},
+                 (struct answer){.number = (unsigned)their_read, .place = their_refused});
 }
 
 /* Both read the text into the same room; `theirs` is left for further claims. */
@@ -71,8 +71,8 @@ static void check_room(const struct text *text, struct room room, struct reading
     snprintf(more, sizeof more,
              "lent %zu, %zu, %zu; below are lines and at; numbers or places differ first in line %zu",
              room.records, room.numbers, room.places, line + 1);
-    mismatch("read_text", &in, more,
-             (struct answer){(unsigned)ours.lines, ours.at}, (struct answer){(unsigned)theirs->lines, theirs->at});
+    mismatch("read_text", &in, more, (struct answer){.number = (unsigned)ours.lines, .place = ours.at},
+             (struct answer){.number = (unsigned)theirs->lines, .place = theirs->at});
 }
 
 void check_text(const struct text *text, struct reading *theirs)
@@ -109,7 +109,7 @@ static size_t check_piece(const uint8_t *text, size_t len, size_t from, size_t r
     if (count != their_count || memcmp(ours, theirs, room + record) != 0) {
         char more[120];
         snprintf(more, sizeof more, "%zu bytes in all; from byte %zu on, lent %zu; below are the bytes written", len, from, room);
-        mismatch("list", &in, more, (struct answer){0, count}, (struct answer){0, their_count});
+        mismatch("list", &in, more, (struct answer){.place = count}, (struct answer){.place = their_count});
     }
     return count;
 }

@@ -13,9 +13,9 @@ struct text {
 
 /* What the reader over a text was lent and has answered; a row more than is ever lent, as a guard. */
 struct reading {
-    uint64_t lines, at;
+    size_t lines, at;
     uint8_t numbers[most_lines + 1];
-    uint64_t places[most_lines + 1];
+    size_t places[most_lines + 1];
     uint8_t records[record * (most_lines + 1)];
 };
 

@@ -6,70 +6,76 @@
  * subtracted. Each run is made with two patterns, so a byte that is written with one of them is seen by the other. Calls that take a root are run
  * at every vertex; calls whose form ends below 64 vertices are run at the form's own limit. */
 #define _DEFAULT_SOURCE
-#include "../second/zurkhovel.h"
 #include <pthread.h>
 #include <stdio.h>
 #include <stdlib.h>
 #include <string.h>
 #include <sys/mman.h>
+#include <zurkhovel.h>
 
-enum { SIZE = 64, STACK = 1 << 18, LINE = 68, LINES = 4 };
+enum { STACK = 1 << 18, LINES = 4 };
 
 /* What a call is handed. `lines` is LINES times the line of the skeleton. */
-static uint64_t n, root, whole, zero_a, a_zero;
-static uint8_t edges[2 * SIZE], other[2 * SIZE], code[SIZE], n_tuple[SIZE], centred[SIZE], packed[16], cam[SIZE], lines[LINES * LINE];
-static size_t len, packed_len, lines_len;
+static size_t n, root, len, packed_len, lines_len;
+static uint64_t whole, zero_a, a_zero;
+static uint8_t edges[ZK_EDGES], other[ZK_EDGES], code[ZK_DIGITS], n_tuple[ZK_DIGITS], centred[ZK_DIGITS], packed[ZK_PACKED], cam[ZK_CAM], lines[LINES * ZK_LINE];
 static double fraction;
 
 /* What it answers with. */
-static uint32_t number;
-static uint64_t place, list, value, places[LINES];
-static uint8_t out[2 * SIZE], records[LINES * SIZE], numbers[LINES];
+static uint32_t answer;
+static uint64_t value;
+static size_t one, another, places[LINES];
+static uint8_t out[ZK_EDGES], records[LINES * ZK_RECORD], numbers[LINES];
 static double exact;
 
 /* ---- The calls ---- */
 
-static void none(void) { number = 0; }
+static void none(void) { answer = 0; }
 
 #define CALL(NAME, ...) \
-    static void do_##NAME(void) { number = zk_##NAME(__VA_ARGS__); }
+    static void do_##NAME(void) { answer = zk_##NAME(__VA_ARGS__); }
 
-CALL(check_code, code, n, &place)
-CALL(decode_code, code, n, out, sizeof out, &place)
-CALL(decode_n_tuple, n_tuple, n, out, sizeof out, &place)
-CALL(decode_centred, centred, n, out, sizeof out, &place)
-CALL(check_edges, n, edges, len, root, &place)
-CALL(rooted_code, n, edges, len, root, out, sizeof out, &place)
-CALL(n_tuple_code, n, edges, len, out, sizeof out, &place)
-CALL(centred_code, n, edges, len, out, sizeof out, &place)
-CALL(same, n, edges, len, n, other, len, &list, &place)
-CALL(pack, n, edges, len, root, out, sizeof out, &place)
-CALL(unpack, packed, packed_len, out, sizeof out, &place)
-CALL(whole, n, edges, len, root, &value, &place)
-CALL(unwhole, n, whole, out, sizeof out, &place)
-CALL(fraction, n, edges, len, root, &exact, &place)
-CALL(unfraction, fraction, out, sizeof out, &place)
-CALL(cam, n, edges, len, out, sizeof out, &place)
-CALL(cam_by_code, n, edges, len, out, sizeof out, &place)
-CALL(uncam, n, cam, n - 1, out, sizeof out, &place)
-CALL(0a, n, edges, len, &value, &place)
-CALL(0a_by_code, n, edges, len, &value, &place)
-CALL(un0a, n, zero_a, out, sizeof out, &place)
-CALL(a0, n, edges, len, &value, &place)
-CALL(a0_by_code, n, edges, len, &value, &place)
-CALL(una0, n, a_zero, out, sizeof out, &place)
-CALL(read_line, lines, lines_len, out, sizeof out, &place)
-CALL(write_line, n, edges, len, out, sizeof out, &place)
-CALL(classes, n, edges, len, out, sizeof out, &place)
+CALL(check_code, code, n)
+CALL(decode_code, code, n, out, sizeof out)
+CALL(decode_n_tuple, n_tuple, n, out, sizeof out)
+CALL(decode_centred, centred, n, out, sizeof out)
+CALL(check_edges, n, edges, len, root)
+CALL(rooted_code, n, edges, len, root, out, sizeof out)
+CALL(n_tuple_code, n, edges, len, out, sizeof out)
+CALL(centred_code, n, edges, len, out, sizeof out)
+CALL(same_skeleton, n, edges, len, n, other, len)
+CALL(pack, n, edges, len, root, out, sizeof out)
+CALL(unpack, packed, packed_len, out, sizeof out)
+CALL(whole, n, edges, len, root, &value)
+CALL(unwhole, n, whole, out, sizeof out)
+CALL(fraction, n, edges, len, root, &exact)
+CALL(unfraction, fraction, out, sizeof out)
+CALL(cam, n, edges, len, out, sizeof out)
+CALL(cam_by_code, n, edges, len, out, sizeof out)
+CALL(decode_cam, n, cam, n - 1, out, sizeof out)
+CALL(zero_a, n, edges, len, &value)
+CALL(zero_a_by_code, n, edges, len, &value)
+CALL(decode_zero_a, n, zero_a, out, sizeof out)
+CALL(a_zero, n, edges, len, &value)
+CALL(a_zero_by_code, n, edges, len, &value)
+CALL(decode_a_zero, n, a_zero, out, sizeof out)
+CALL(read_line, lines, lines_len, out, sizeof out)
+CALL(write_line, n, edges, len, out, sizeof out)
+CALL(equal_vertices, n, edges, len, out, sizeof out)
 
 static void do_read_text(void) {
-    number = 0;
-    zk_read_text(lines, lines_len, records, sizeof records, numbers, sizeof numbers, places, LINES, &list, &place);
+    answer = 0;
+    zk_read_text(lines, lines_len, records, sizeof records, numbers, sizeof numbers, places, LINES, &one, &another);
 }
 
 static void do_count(void) {
-    number = 0;
-    zk_count(numbers, sizeof numbers, &list, &place);
+    answer = 0;
+    zk_count(numbers, sizeof numbers, &one, &another);
+}
+
+static void do_list(void) {
+    answer = 0;
+    one = zk_list(lines, lines_len, 0, out, sizeof out);
 }
 
 /* A call, the largest size of its form, and whether it takes a root. */
@@ -79,12 +85,14 @@ static const struct call {
     void (*run)(void);
     unsigned most, rooted;
 } calls[] = {
-    ROW(check_code, 64, 1),  ROW(decode_code, 64, 1), ROW(decode_n_tuple, 64, 0), ROW(decode_centred, 64, 0), ROW(check_edges, 64, 1),
-    ROW(rooted_code, 64, 1), ROW(n_tuple_code, 64, 0), ROW(centred_code, 64, 0),  ROW(same, 64, 0),           ROW(pack, 64, 1),
-    ROW(unpack, 64, 1),      ROW(whole, 32, 1),        ROW(unwhole, 32, 1),       ROW(fraction, 27, 1),       ROW(unfraction, 27, 1),
-    ROW(cam, 64, 0),         ROW(cam_by_code, 64, 0),  ROW(uncam, 64, 0),         ROW(0a, 21, 0),             ROW(0a_by_code, 21, 0),
-    ROW(un0a, 21, 0),        ROW(a0, 11, 0),           ROW(a0_by_code, 11, 0),    ROW(una0, 11, 0),           ROW(read_line, 64, 0),
-    ROW(write_line, 64, 0),  ROW(read_text, 64, 0),    ROW(count, 64, 0),         ROW(classes, 64, 0),
+    ROW(check_code, 64, 1),     ROW(decode_code, 64, 1),    ROW(decode_n_tuple, 64, 0), ROW(decode_centred, 64, 0),
+    ROW(check_edges, 64, 1),    ROW(rooted_code, 64, 1),    ROW(n_tuple_code, 64, 0),   ROW(centred_code, 64, 0),
+    ROW(same_skeleton, 64, 0),  ROW(pack, 64, 1),           ROW(unpack, 64, 1),         ROW(whole, 32, 1),
+    ROW(unwhole, 32, 1),        ROW(fraction, 27, 1),       ROW(unfraction, 27, 1),     ROW(cam, 64, 0),
+    ROW(zero_a, 21, 0),         ROW(a_zero, 11, 0),         ROW(cam_by_code, 64, 0),    ROW(zero_a_by_code, 21, 0),
+    ROW(a_zero_by_code, 11, 0), ROW(decode_cam, 64, 0),     ROW(decode_zero_a, 21, 0),  ROW(decode_a_zero, 11, 0),
+    ROW(equal_vertices, 64, 0), ROW(read_line, 64, 0),      ROW(write_line, 64, 0),     ROW(read_text, 64, 0),
+    ROW(count, 64, 0),          ROW(list, 64, 0),
 };
 
 /* ---- The skeletons ---- */
@@ -101,11 +109,13 @@ static const struct shape {
 
 enum { SHAPES = sizeof shapes / sizeof shapes[0], CALLS = sizeof calls / sizeof calls[0] };
 
-static void must(uint32_t refusal, const char *what) {
-    if (refusal) {
-        printf("stack: %s is refused: %u at %llu\n", what, refusal, (unsigned long long)place);
+/* What a call gives that may not refuse. */
+static uint32_t must(uint32_t given, const char *what) {
+    if (zk_refused(given)) {
+        printf("stack: %s is refused: %u at %u\n", what, zk_number(given), zk_place(given));
         exit(2);
     }
+    return zk_place(given);
 }
 
 /* A skeleton of m vertices, and all that a call may be handed of it but what depends on the root. */
@@ -116,34 +126,32 @@ static void make(const struct shape *shape, unsigned m) {
         edges[2 * i - 2] = other[len - 2 * i + 1] = cam[i - 1] = (uint8_t)shape->below(i);
         edges[2 * i - 1] = other[len - 2 * i] = (uint8_t)(i + 1);
     }
-    must(zk_n_tuple_code(n, edges, len, n_tuple, sizeof n_tuple, &place), "n_tuple_code");
-    must(zk_centred_code(n, edges, len, centred, sizeof centred, &place), "centred_code");
-    must(zk_cam(n, edges, len, out, sizeof out, &place), "cam");
+    must(zk_n_tuple_code(n, edges, len, n_tuple, sizeof n_tuple), "n_tuple_code");
+    must(zk_centred_code(n, edges, len, centred, sizeof centred), "centred_code");
+    must(zk_cam(n, edges, len, out, sizeof out), "cam");
     if (memcmp(out, cam, n - 1)) {
         printf("stack: the numbering of a %s of %u is not physical\n", shape->name, m);
         exit(2);
     }
     if (n <= 21)
-        must(zk_0a(n, edges, len, &zero_a, &place), "0a");
+        must(zk_zero_a(n, edges, len, &zero_a), "zero_a");
     if (n <= 11)
-        must(zk_a0(n, edges, len, &a_zero, &place), "a0");
-    must(zk_write_line(n, edges, len, lines, sizeof lines, &place), "write_line");
-    size_t one = place;
+        must(zk_a_zero(n, edges, len, &a_zero), "a_zero");
+    size_t line = must(zk_write_line(n, edges, len, lines, sizeof lines), "write_line");
     for (unsigned i = 1; i < LINES; i++)
-        memcpy(lines + i * one, lines, one);
-    lines_len = LINES * one;
+        memcpy(lines + i * line, lines, line);
+    lines_len = LINES * line;
 }
 
 /* The same of the code at a vertex. */
 static void turn(unsigned v) {
     root = v;
-    must(zk_rooted_code(n, edges, len, root, code, sizeof code, &place), "rooted_code");
-    must(zk_pack(n, edges, len, root, packed, sizeof packed, &place), "pack");
-    packed_len = place;
+    must(zk_rooted_code(n, edges, len, root, code, sizeof code), "rooted_code");
+    packed_len = must(zk_pack(n, edges, len, root, packed, sizeof packed), "pack");
     if (n <= 32)
-        must(zk_whole(n, edges, len, root, &whole, &place), "whole");
+        must(zk_whole(n, edges, len, root, &whole), "whole");
     if (n <= 27)
-        must(zk_fraction(n, edges, len, root, &fraction, &place), "fraction");
+        must(zk_fraction(n, edges, len, root, &fraction), "fraction");
 }
 
 /* ---- The measurement ---- */
@@ -186,7 +194,7 @@ static size_t most(const struct call *call, const struct shape *shape) {
     for (unsigned v = 1; v <= (call->rooted ? n : 1); v++) {
         turn(v);
         size_t all = touched(call->run), bytes = all > bare ? all - bare : 0;
-        must(number, call->name);
+        must(answer, call->name);
         if (bytes > worst)
             worst = bytes;
     }

@@ -1,288 +1,304 @@
-// The public calls as C functions, for the second program and the benchmark: tests/second/zurkhovel.h declares them. Each hands the call's
-// answer on and does nothing else. It returns the refusal number, 0 where the call is done, and sets the place, or the bytes written.
-// Nothing here keeps a C caller from lending an output that overlaps an input, and the answer can then be wrong with 0: zurkhovel.h forbids it.
-use digit_code::Order;
+// The public calls as C functions: include/zurkhovel.h declares them. Each makes its call and hands the answer on in one whole number: 256 times
+// the refusal number plus the place, or the bytes written. The `ensures` of each is the promise of the call behind it, through `Packing`.
 use fraction::Fraction;
 use refusal::Answer;
 use refusal::Number;
 use zurkhovel::codes::Verdict;
+ghost use mathlib.Core.Path.{_≡_};
+ghost use Prim.Native.Nat.{_+_, _*_, _<_};
+ghost use Rattle.refusal.specs.document.Outcome.{told, numbered};
+ghost use Rattle.refusal.specs.document.Small.{byteValues, Small, SmallOfList, SmallAnswer, SmallRefusal};
+ghost use Rattle.fraction.specs.document.Outcome.{toldFraction};
+ghost use Rattle.form.specs.document.Form.{nTuple, centred};
+ghost use Rattle.zurkhovel.specs.document.Codes.{CheckCode, DecodeCode, DecodeForm, CheckEdges, RootedCode, FormCode};
+ghost use Rattle.zurkhovel.specs.document.Same.{SameSkeleton, said};
+ghost use Rattle.zurkhovel.specs.document.Bits.{Pack, Unpack, Whole, Unwhole, InFraction, Unfraction};
+ghost use Rattle.zurkhovel.specs.document.Matrix.{DecodeCam, DecodeZeroA, DecodeAZero, Cam, ZeroA, AZero, CamByCode, ZeroAByCode, AZeroByCode};
+ghost use Rattle.zurkhovel.specs.document.Alike.{EqualVertices};
+ghost use Rattle.zurkhovel.specs.document.Lines.{ReadLine, WriteLine, ReadText, Counted, ListText};
+ghost use Rattle.exports.specs.document.Packing.{packed, truth, withList, held, PackedAnswer, PackedFinding, PackedValue};
 
-// An answer as C takes it.
-fn handed(answer: Answer, place: &mut u64) -> u32 {
+// The values of a byte.
+const BYTE: u32 = 256;
+
+// A refusal: 256 times the number plus the place.
+fn refused(k: u8, p: usize) -> u32
+    requires { ⌜ p < byteValues ⌝ }
+    ensures { λ r. ⌜ r ≡ byteValues * k + p ⌝ }
+{
+    BYTE * k as u32 + p as u32
+}
+
+// The answer of a call that writes or only checks.
+fn answered(answer: Answer) -> u32
+    requires { ⌜ SmallAnswer (told answer) ⌝ }
+    ensures { λ r. ⌜ r ≡ packed (λ k. k) (λ n. n) (told answer) ⌝ }
+{
     match answer {
-        Answer::Done(n) => {
-            *place = n as u64;
-            0
-        }
-        Answer::Refused(k, p) => {
-            *place = p as u64;
-            k as u32
-        }
+        Answer::Done(n) => n as u32,
+        Answer::Refused(k, p) => refused(k, p),
     }
 }
 
-// A number as C takes it; the value is set only where there is one.
-fn valued(answer: Number, value: &mut u64, place: &mut u64) -> u32 {
+// The verdict. A refusal of the second list adds 256 times 256.
+fn found(verdict: Verdict) -> u32
+    requires { ⌜ Small SmallOfList (λ b. Unit {0}) (said verdict) ⌝ }
+    ensures { λ r. ⌜ r ≡ packed withList truth (said verdict) ⌝ }
+{
+    match verdict {
+        Verdict::Same => 1,
+        Verdict::Different => 0,
+        Verdict::Refused(i, k, p) => BYTE * BYTE * (i as u32 - 1) + refused(k, p),
+    }
+}
+
+// The answer of a call that is asked for a number.
+fn valued(answer: Number, value: &mut u64) -> u32
+    requires { ⌜ SmallRefusal (numbered answer) ⌝ }
+    ensures { λ r. ⌜ (r ≡ packed (λ k. k) (λ a. 0) (numbered answer)) × (now (value .exit) ≡ held (now (value .entry)) (numbered answer)) ⌝ }
+{
     match answer {
         Number::Value(v) => {
             *value = v;
-            *place = 0;
             0
         }
-        Number::Refused(k, p) => {
-            *place = p as u64;
-            k as u32
-        }
+        Number::Refused(k, p) => refused(k, p),
     }
 }
 
-// 0: a stands before b in the dictionary; 1: they are equal; 2: a stands after b.
-#[no_mangle]
-pub extern "C" fn zk_compare(a: &[u8], b: &[u8]) -> u32 {
-    match digit_code::compare(a, b) {
-        Order::Less(_) => 0,
-        Order::Equal(_) => 1,
-        Order::Greater(_) => 2,
-    }
-}
-
-#[no_mangle]
-pub extern "C" fn zk_check_code(code: &[u8], place: &mut u64) -> u32 {
-    handed(zurkhovel::codes::check_code(code), place)
-}
-
-#[no_mangle]
-pub extern "C" fn zk_decode_code(code: &[u8], out: &mut [u8], place: &mut u64) -> u32 {
-    handed(zurkhovel::codes::decode_code(code, out), place)
-}
-
-#[no_mangle]
-pub extern "C" fn zk_pack(n: u64, edges: &[u8], root: u64, out: &mut [u8], place: &mut u64) -> u32 {
-    handed(
-        zurkhovel::bit_tuple::pack(n as usize, edges, root as usize, out),
-        place,
-    )
-}
-
-#[no_mangle]
-pub extern "C" fn zk_unpack(bytes: &[u8], out: &mut [u8], place: &mut u64) -> u32 {
-    handed(zurkhovel::bit_tuple::unpack(bytes, out), place)
-}
-
-#[no_mangle]
-pub extern "C" fn zk_whole(
-    n: u64,
-    edges: &[u8],
-    root: u64,
-    value: &mut u64,
-    place: &mut u64,
-) -> u32 {
-    valued(
-        zurkhovel::bit_tuple::whole(n as usize, edges, root as usize),
-        value,
-        place,
-    )
-}
-
-#[no_mangle]
-pub extern "C" fn zk_unwhole(n: u64, value: u64, out: &mut [u8], place: &mut u64) -> u32 {
-    handed(zurkhovel::bit_tuple::unwhole(n as usize, value, out), place)
-}
-
-#[no_mangle]
-pub extern "C" fn zk_fraction(
-    n: u64,
-    edges: &[u8],
-    root: u64,
-    value: &mut f64,
-    place: &mut u64,
-) -> u32 {
-    match zurkhovel::bit_tuple::fraction(n as usize, edges, root as usize) {
+// The answer of a call that is asked for a fraction.
+fn exact(answer: Fraction, value: &mut f64) -> u32
+    requires { ⌜ SmallRefusal (toldFraction answer) ⌝ }
+    ensures { λ r. ⌜ (r ≡ packed (λ k. k) (λ a. 0) (toldFraction answer)) × (now (value .exit) ≡ held (now (value .entry)) (toldFraction answer)) ⌝ }
+{
+    match answer {
         Fraction::Exact(x) => {
             *value = x;
-            *place = 0;
             0
         }
-        Fraction::Refused(k, p) => {
-            *place = p as u64;
-            k as u32
-        }
+        Fraction::Refused(k, p) => refused(k, p),
     }
 }
 
 #[no_mangle]
-pub extern "C" fn zk_unfraction(x: f64, out: &mut [u8], place: &mut u64) -> u32 {
-    handed(zurkhovel::bit_tuple::unfraction(x, out), place)
+pub extern "C" fn zk_check_code(code: &[u8]) -> u32
+    ensures { λ r. ⌜ PackedAnswer (CheckCode (now (code .entry))) r ⌝ }
+{
+    answered(zurkhovel::codes::check_code(code))
 }
 
 #[no_mangle]
-pub extern "C" fn zk_read_line(text: &[u8], out: &mut [u8], place: &mut u64) -> u32 {
-    handed(zurkhovel::text::read_line(text, out), place)
+pub extern "C" fn zk_decode_code(code: &[u8], out: &mut [u8]) -> u32
+    ensures { λ r. ⌜ PackedAnswer (DecodeCode (now (code .entry)) (now (out .entry)) (now (out .exit))) r ⌝ }
+{
+    answered(zurkhovel::codes::decode_code(code, out))
 }
 
 #[no_mangle]
-pub extern "C" fn zk_write_line(n: u64, edges: &[u8], out: &mut [u8], place: &mut u64) -> u32 {
-    handed(zurkhovel::text::write_line(n as usize, edges, out), place)
+pub extern "C" fn zk_decode_n_tuple(code: &[u8], out: &mut [u8]) -> u32
+    ensures { λ r. ⌜ PackedAnswer (DecodeForm nTuple (now (code .entry)) (now (out .entry)) (now (out .exit))) r ⌝ }
+{
+    answered(zurkhovel::codes::decode_n_tuple(code, out))
 }
 
+#[no_mangle]
+pub extern "C" fn zk_decode_centred(code: &[u8], out: &mut [u8]) -> u32
+    ensures { λ r. ⌜ PackedAnswer (DecodeForm centred (now (code .entry)) (now (out .entry)) (now (out .exit))) r ⌝ }
+{
+    answered(zurkhovel::codes::decode_centred(code, out))
+}
+
+#[no_mangle]
+pub extern "C" fn zk_check_edges(n: usize, edges: &[u8], root: usize) -> u32
+    ensures { λ r. ⌜ PackedAnswer (CheckEdges n (now (edges .entry)) root) r ⌝ }
+{
+    answered(zurkhovel::codes::check_edges(n, edges, root))
+}
+
+#[no_mangle]
+pub extern "C" fn zk_rooted_code(n: usize, edges: &[u8], root: usize, out: &mut [u8]) -> u32
+    ensures { λ r. ⌜ PackedAnswer (RootedCode n (now (edges .entry)) root (now (out .entry)) (now (out .exit))) r ⌝ }
+{
+    answered(zurkhovel::codes::rooted_code(n, edges, root, out))
+}
+
+#[no_mangle]
+pub extern "C" fn zk_n_tuple_code(n: usize, edges: &[u8], out: &mut [u8]) -> u32
+    ensures { λ r. ⌜ PackedAnswer (FormCode nTuple n (now (edges .entry)) (now (out .entry)) (now (out .exit))) r ⌝ }
+{
+    answered(zurkhovel::codes::n_tuple_code(n, edges, out))
+}
+
+#[no_mangle]
+pub extern "C" fn zk_centred_code(n: usize, edges: &[u8], out: &mut [u8]) -> u32
+    ensures { λ r. ⌜ PackedAnswer (FormCode centred n (now (edges .entry)) (now (out .entry)) (now (out .exit))) r ⌝ }
+{
+    answered(zurkhovel::codes::centred_code(n, edges, out))
+}
+
+#[no_mangle]
+pub extern "C" fn zk_same_skeleton(n1: usize, edges1: &[u8], n2: usize, edges2: &[u8]) -> u32
+    ensures { λ r. ⌜ PackedFinding (SameSkeleton n1 (now (edges1 .entry)) n2 (now (edges2 .entry))) r ⌝ }
+{
+    found(zurkhovel::codes::same_skeleton(n1, edges1, n2, edges2))
+}
+
+#[no_mangle]
+pub extern "C" fn zk_pack(n: usize, edges: &[u8], root: usize, out: &mut [u8]) -> u32
+    ensures { λ r. ⌜ PackedAnswer (Pack n (now (edges .entry)) root (now (out .entry)) (now (out .exit))) r ⌝ }
+{
+    answered(zurkhovel::bit_tuple::pack(n, edges, root, out))
+}
+
+#[no_mangle]
+pub extern "C" fn zk_unpack(bytes: &[u8], out: &mut [u8]) -> u32
+    ensures { λ r. ⌜ PackedAnswer (Unpack (now (bytes .entry)) (now (out .entry)) (now (out .exit))) r ⌝ }
+{
+    answered(zurkhovel::bit_tuple::unpack(bytes, out))
+}
+
+#[no_mangle]
+pub extern "C" fn zk_whole(n: usize, edges: &[u8], root: usize, value: &mut u64) -> u32
+    ensures { λ r. ⌜ PackedValue (Whole n (now (edges .entry)) root) (now (value .entry)) (now (value .exit)) r ⌝ }
+{
+    valued(zurkhovel::bit_tuple::whole(n, edges, root), value)
+}
+
+#[no_mangle]
+pub extern "C" fn zk_unwhole(n: usize, value: u64, out: &mut [u8]) -> u32
+    ensures { λ r. ⌜ PackedAnswer (Unwhole n value (now (out .entry)) (now (out .exit))) r ⌝ }
+{
+    answered(zurkhovel::bit_tuple::unwhole(n, value, out))
+}
+
+#[no_mangle]
+pub extern "C" fn zk_fraction(n: usize, edges: &[u8], root: usize, value: &mut f64) -> u32
+    ensures { λ r. ⌜ PackedValue (InFraction n (now (edges .entry)) root) (now (value .entry)) (now (value .exit)) r ⌝ }
+{
+    exact(zurkhovel::bit_tuple::fraction(n, edges, root), value)
+}
+
+#[no_mangle]
+pub extern "C" fn zk_unfraction(x: f64, out: &mut [u8]) -> u32
+    ensures { λ r. ⌜ PackedAnswer (Unfraction x (now (out .entry)) (now (out .exit))) r ⌝ }
+{
+    answered(zurkhovel::bit_tuple::unfraction(x, out))
+}
+
+#[no_mangle]
+pub extern "C" fn zk_cam(n: usize, edges: &[u8], out: &mut [u8]) -> u32
+    ensures { λ r. ⌜ PackedAnswer (Cam n (now (edges .entry)) (now (out .entry)) (now (out .exit))) r ⌝ }
+{
+    answered(zurkhovel::matrix::cam(n, edges, out))
+}
+
+#[no_mangle]
+pub extern "C" fn zk_zero_a(n: usize, edges: &[u8], value: &mut u64) -> u32
+    ensures { λ r. ⌜ PackedValue (ZeroA n (now (edges .entry))) (now (value .entry)) (now (value .exit)) r ⌝ }
+{
+    valued(zurkhovel::matrix::zero_a(n, edges), value)
+}
+
+#[no_mangle]
+pub extern "C" fn zk_a_zero(n: usize, edges: &[u8], value: &mut u64) -> u32
+    ensures { λ r. ⌜ PackedValue (AZero n (now (edges .entry))) (now (value .entry)) (now (value .exit)) r ⌝ }
+{
+    valued(zurkhovel::matrix::a_zero(n, edges), value)
+}
+
+#[no_mangle]
+pub extern "C" fn zk_cam_by_code(n: usize, edges: &[u8], out: &mut [u8]) -> u32
+    ensures { λ r. ⌜ PackedAnswer (CamByCode n (now (edges .entry)) (now (out .entry)) (now (out .exit))) r ⌝ }
+{
+    answered(zurkhovel::matrix::cam_by_code(n, edges, out))
+}
+
+#[no_mangle]
+pub extern "C" fn zk_zero_a_by_code(n: usize, edges: &[u8], value: &mut u64) -> u32
+    ensures { λ r. ⌜ PackedValue (ZeroAByCode n (now (edges .entry))) (now (value .entry)) (now (value .exit)) r ⌝ }
+{
+    valued(zurkhovel::matrix::zero_a_by_code(n, edges), value)
+}
+
+#[no_mangle]
+pub extern "C" fn zk_a_zero_by_code(n: usize, edges: &[u8], value: &mut u64) -> u32
+    ensures { λ r. ⌜ PackedValue (AZeroByCode n (now (edges .entry))) (now (value .entry)) (now (value .exit)) r ⌝ }
+{
+    valued(zurkhovel::matrix::a_zero_by_code(n, edges), value)
+}
+
+#[no_mangle]
+pub extern "C" fn zk_decode_cam(n: usize, cam: &[u8], out: &mut [u8]) -> u32
+    ensures { λ r. ⌜ PackedAnswer (DecodeCam n (now (cam .entry)) (now (out .entry)) (now (out .exit))) r ⌝ }
+{
+    answered(zurkhovel::matrix::decode_cam(n, cam, out))
+}
+
+#[no_mangle]
+pub extern "C" fn zk_decode_zero_a(n: usize, value: u64, out: &mut [u8]) -> u32
+    ensures { λ r. ⌜ PackedAnswer (DecodeZeroA n value (now (out .entry)) (now (out .exit))) r ⌝ }
+{
+    answered(zurkhovel::matrix::decode_zero_a(n, value, out))
+}
+
+#[no_mangle]
+pub extern "C" fn zk_decode_a_zero(n: usize, value: u64, out: &mut [u8]) -> u32
+    ensures { λ r. ⌜ PackedAnswer (DecodeAZero n value (now (out .entry)) (now (out .exit))) r ⌝ }
+{
+    answered(zurkhovel::matrix::decode_a_zero(n, value, out))
+}
+
+#[no_mangle]
+pub extern "C" fn zk_equal_vertices(n: usize, edges: &[u8], out: &mut [u8]) -> u32
+    ensures { λ r. ⌜ PackedAnswer (EqualVertices n (now (edges .entry)) (now (out .entry)) (now (out .exit))) r ⌝ }
+{
+    answered(zurkhovel::alike::equal_vertices(n, edges, out))
+}
+
+#[no_mangle]
+pub extern "C" fn zk_read_line(text: &[u8], out: &mut [u8]) -> u32
+    ensures { λ r. ⌜ PackedAnswer (ReadLine (now (text .entry)) (now (out .entry)) (now (out .exit))) r ⌝ }
+{
+    answered(zurkhovel::text::read_line(text, out))
+}
+
+#[no_mangle]
+pub extern "C" fn zk_write_line(n: usize, edges: &[u8], out: &mut [u8]) -> u32
+    ensures { λ r. ⌜ PackedAnswer (WriteLine n (now (edges .entry)) (now (out .entry)) (now (out .exit))) r ⌝ }
+{
+    answered(zurkhovel::text::write_line(n, edges, out))
+}
+
+// The three that refuse nothing as a whole.
 #[no_mangle]
 pub extern "C" fn zk_read_text(
     text: &[u8],
     records: &mut [u8],
     numbers: &mut [u8],
     places: &mut [usize],
-    lines: &mut u64,
-    at: &mut u64,
-) {
+    lines: &mut usize,
+    at: &mut usize,
+)
+    ensures { λ _. ⌜ ReadText (now (text .entry)) (now (records .entry)) (now (numbers .entry)) (now (places .entry))
+        (now (records .exit)) (now (numbers .exit)) (now (places .exit)) (now (lines .exit)) (now (at .exit)) ⌝ }
+{
     let p = zurkhovel::text::read_text(text, records, numbers, places);
-    *lines = p.lines as u64;
-    *at = p.at as u64;
+    *lines = p.lines;
+    *at = p.at;
 }
 
 #[no_mangle]
-pub extern "C" fn zk_classes(n: u64, edges: &[u8], out: &mut [u8], place: &mut u64) -> u32 {
-    handed(
-        zurkhovel::alike::equal_vertices(n as usize, edges, out),
-        place,
-    )
-}
-
-#[no_mangle]
-pub extern "C" fn zk_decode_n_tuple(code: &[u8], out: &mut [u8], place: &mut u64) -> u32 {
-    handed(zurkhovel::codes::decode_n_tuple(code, out), place)
-}
-
-#[no_mangle]
-pub extern "C" fn zk_decode_centred(code: &[u8], out: &mut [u8], place: &mut u64) -> u32 {
-    handed(zurkhovel::codes::decode_centred(code, out), place)
-}
-
-#[no_mangle]
-pub extern "C" fn zk_check_edges(n: usize, edges: &[u8], root: usize, place: &mut u64) -> u32 {
-    handed(zurkhovel::codes::check_edges(n, edges, root), place)
-}
-
-#[no_mangle]
-pub extern "C" fn zk_rooted_code(
-    n: usize,
-    edges: &[u8],
-    root: usize,
-    out: &mut [u8],
-    place: &mut u64,
-) -> u32 {
-    handed(zurkhovel::codes::rooted_code(n, edges, root, out), place)
-}
-
-#[no_mangle]
-pub extern "C" fn zk_n_tuple_code(n: usize, edges: &[u8], out: &mut [u8], place: &mut u64) -> u32 {
-    handed(zurkhovel::codes::n_tuple_code(n, edges, out), place)
-}
-
-#[no_mangle]
-pub extern "C" fn zk_centred_code(n: usize, edges: &[u8], out: &mut [u8], place: &mut u64) -> u32 {
-    handed(zurkhovel::codes::centred_code(n, edges, out), place)
-}
-
-// Of two edge lists: `list` is 0 where neither is refused, and `place` then 1 for the same skeleton, 0 for another.
-#[no_mangle]
-pub extern "C" fn zk_same(
-    n1: usize,
-    edges1: &[u8],
-    n2: usize,
-    edges2: &[u8],
-    list: &mut u64,
-    place: &mut u64,
-) -> u32 {
-    match zurkhovel::codes::same_skeleton(n1, edges1, n2, edges2) {
-        Verdict::Same => {
-            *list = 0;
-            *place = 1;
-            0
-        }
-        Verdict::Different => {
-            *list = 0;
-            *place = 0;
-            0
-        }
-        Verdict::Refused(i, k, p) => {
-            *list = i as u64;
-            *place = p as u64;
-            k as u32
-        }
-    }
-}
-
-#[no_mangle]
-pub extern "C" fn zk_cam(n: u64, edges: &[u8], out: &mut [u8], place: &mut u64) -> u32 {
-    handed(zurkhovel::matrix::cam(n as usize, edges, out), place)
-}
-
-#[no_mangle]
-pub extern "C" fn zk_count(numbers: &[u8], read: &mut u64, refused: &mut u64) {
+pub extern "C" fn zk_count(numbers: &[u8], read: &mut usize, refused: &mut usize)
+    ensures { λ _. ⌜ Counted (now (numbers .entry)) (now (read .exit)) (now (refused .exit)) ⌝ }
+{
     let t = zurkhovel::text::count(numbers);
-    *read = t.read as u64;
-    *refused = t.refused as u64;
+    *read = t.read;
+    *refused = t.refused;
 }
 
-// How many bytes of the listing are written.
 #[no_mangle]
-pub extern "C" fn zk_list(text: &[u8], from: usize, out: &mut [u8]) -> usize {
+pub extern "C" fn zk_list(text: &[u8], from: usize, out: &mut [u8]) -> usize
+    ensures { λ r. ⌜ ListText (now (text .entry)) (now (out .entry)) (now (out .exit)) from r ⌝ }
+{
     zurkhovel::text::list(text, from, out)
-}
-
-#[no_mangle]
-pub extern "C" fn zk_cam_by_code(n: u64, edges: &[u8], out: &mut [u8], place: &mut u64) -> u32 {
-    handed(
-        zurkhovel::matrix::cam_by_code(n as usize, edges, out),
-        place,
-    )
-}
-
-#[no_mangle]
-pub extern "C" fn zk_uncam(n: u64, cam: &[u8], out: &mut [u8], place: &mut u64) -> u32 {
-    handed(zurkhovel::matrix::decode_cam(n as usize, cam, out), place)
-}
-
-#[no_mangle]
-pub extern "C" fn zk_0a(n: u64, edges: &[u8], value: &mut u64, place: &mut u64) -> u32 {
-    valued(zurkhovel::matrix::zero_a(n as usize, edges), value, place)
-}
-
-#[no_mangle]
-pub extern "C" fn zk_0a_by_code(n: u64, edges: &[u8], value: &mut u64, place: &mut u64) -> u32 {
-    valued(
-        zurkhovel::matrix::zero_a_by_code(n as usize, edges),
-        value,
-        place,
-    )
-}
-
-#[no_mangle]
-pub extern "C" fn zk_un0a(n: u64, value: u64, out: &mut [u8], place: &mut u64) -> u32 {
-    handed(
-        zurkhovel::matrix::decode_zero_a(n as usize, value, out),
-        place,
-    )
-}
-
-#[no_mangle]
-pub extern "C" fn zk_a0(n: u64, edges: &[u8], value: &mut u64, place: &mut u64) -> u32 {
-    valued(zurkhovel::matrix::a_zero(n as usize, edges), value, place)
-}
-
-#[no_mangle]
-pub extern "C" fn zk_a0_by_code(n: u64, edges: &[u8], value: &mut u64, place: &mut u64) -> u32 {
-    valued(
-        zurkhovel::matrix::a_zero_by_code(n as usize, edges),
-        value,
-        place,
-    )
-}
-
-#[no_mangle]
-pub extern "C" fn zk_una0(n: u64, value: u64, out: &mut [u8], place: &mut u64) -> u32 {
-    handed(
-        zurkhovel::matrix::decode_a_zero(n as usize, value, out),
-        place,
-    )
 }

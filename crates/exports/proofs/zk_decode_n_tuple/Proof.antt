@@ -1,0 +1,8 @@
+-- `exports::zk_decode_n_tuple` keeps its promise. Assumes nothing.
+use borrow.Author.Needs.{needs}
+use Rattle.zurkhovel.specs.Places.{places-decode-form}
+use Rattle.exports.proofs.zk_decode_n_tuple.Statement.{statement}
+use Rattle.exports.proofs.zk_decode_n_tuple.Tie as tie
+
+pub zk-decode-n-tuple-spec : {M : Type 1} → statement M
+zk-decode-n-tuple-spec = tie.close (tie.spec (λ c κs. search needs) (λ c κs. search (needs, places-decode-form)) (λ c. search needs) (λ c. search needs))

@@ -1,0 +1,4 @@
+-- The answers of the C functions. Assumes nothing.
+pub mod Unpacked
+pub mod One
+pub mod document

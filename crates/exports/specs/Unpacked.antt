@@ -1,0 +1,78 @@
+-- "A place is always below 256": so number, place and list are read back from the whole number, and two answers never pack alike.
+--
+-- In order: a refusal taken apart; the answer of a call that writes or only checks, the verdict, the answer of a call that is asked for a value;
+-- what a C function promises, of the answer that is read back. Assumes nothing.
+use mathlib.Core.Path.{_≡_, refl, sym, ap, ap₂, subst, _∙_}
+use mathlib.Core.Bool.{Bool, true, false}
+use mathlib.Core.Logic.{ite, ⊎-elim}
+use Prim.Native.Nat.{ℕ, _+_, _*_, _≤_, _<_}
+use native.Mathlib.Omega.{arith}
+use native.Mathlib.Decide.{decLt}
+use lib.Dec.{eqb}
+use Rattle.refusal.specs.document.Table.{Outcome, gives, refuses}
+use Rattle.refusal.specs.document.Small.{byteValues, SmallNumber, SmallOfList, Small, SmallAnswer, SmallRefusal}
+use Rattle.zurkhovel.specs.document.Same.{Finding}
+use Rattle.exports.specs.document.Packing.{packed, truth, withList, held, numberIn, placeIn, listIn, unpacked, unpackedFinding, unpackedValue, PackedAnswer, PackedFinding, PackedValue}
+
+-- ---- a refusal taken apart
+
+number-back : (k p : ℕ) → k < byteValues → p < byteValues → numberIn (byteValues * k + p) ≡ k
+number-back k p a b = omega arith
+
+place-back : (k p : ℕ) → p < byteValues → placeIn (byteValues * k + p) ≡ p
+place-back k p b = omega arith
+
+-- below 256 there is no refusal
+below : {A : Type 0} (x y : A) (r : ℕ) → r < byteValues → ite (decLt r byteValues) x y ≡ x
+below x y r l = step (decLt r byteValues)
+  where
+    step : (d : Dec (r < byteValues)) → ite d x y ≡ x
+    step (yes h) = refl
+    step (no n) = absurd (n l)
+
+-- from 256 on there is
+above : {A : Type 0} (x y : A) (r : ℕ) → byteValues ≤ r → ite (decLt r byteValues) x y ≡ y
+above x y r l = step (decLt r byteValues)
+  where
+    step : (d : Dec (r < byteValues)) → ite d x y ≡ y
+    step (yes h) = let z : ⊥ = omega arith in absurd z
+    step (no n) = refl
+
+-- ---- each kind of answer
+
+pub answer-back : (o : Outcome ℕ) → SmallAnswer o → unpacked (packed (λ k. k) (λ n. n) o) ≡ o
+answer-back (gives n) s = below (gives n) (refuses (numberIn n) (placeIn n)) n s
+answer-back (refuses k p) ((a, b), l) =
+    let r : ℕ = byteValues * k + p in
+    above (gives r) (refuses (numberIn r) (placeIn r)) r (omega arith) ∙ ap₂ refuses (number-back k p b l) (place-back k p l)
+
+pub value-back : {A : Type 0} (o : Outcome A) (old : A) → SmallRefusal o → unpackedValue (packed (λ k. k) (λ a. 0) o) (held old o) ≡ o
+value-back (gives a) old s = below (gives a) (refuses 0 0) 0 (omega arith)
+value-back (refuses k p) old ((a, b), l) =
+    let r : ℕ = byteValues * k + p in
+    above (gives old) (refuses (numberIn r) (placeIn r)) r (omega arith) ∙ ap₂ refuses (number-back k p b l) (place-back k p l)
+
+pub finding-back : (o : Finding) → Small SmallOfList (λ b. Unit {0}) o → unpackedFinding (packed withList truth o) ≡ o
+finding-back (gives true) s = below (gives true) (refuses (1, 0) 1) 1 (omega arith)
+finding-back (gives false) s = below (gives false) (refuses (1, 0) 0) 0 (omega arith)
+finding-back (refuses (i, k) p) ((d, (a, b)), l) =
+    let c : (1 ≤ i) × (i ≤ 2) = ⊎-elim (λ e. (omega arith, omega arith)) (λ e. (omega arith, omega arith)) d in
+    let r : ℕ = byteValues * withList (i, k) + p in
+    let list : listIn r ≡ i = omega (arith, c .0, c .1) in
+    let number : numberIn r ≡ k = omega (arith, c .0, c .1) in
+    let place : placeIn r ≡ p = omega arith in
+    above (gives (eqb r 1)) (refuses (listIn r, numberIn r) (placeIn r)) r (omega arith) ∙ ap₂ refuses (ap₂ (λ (x y : ℕ). (x, y)) list number) place
+
+-- ---- what a C function promises, of the answer that is read back
+
+pub answer-read : {P : Outcome ℕ → Type 0} {r : ℕ} → ((o : Outcome ℕ) → P o → SmallAnswer o) → PackedAnswer P r → P (unpacked r)
+answer-read {P} s (o, x, e) = subst P (sym (ap unpacked e ∙ answer-back o (s o x))) x
+
+pub finding-read :
+    {P : Finding → Type 0} {r : ℕ} → ((o : Finding) → P o → Small SmallOfList (λ b. Unit {0}) o) → PackedFinding P r → P (unpackedFinding r)
+finding-read {P} s (o, x, e) = subst P (sym (ap unpackedFinding e ∙ finding-back o (s o x))) x
+
+pub value-read :
+    {A : Type 0} {P : Outcome A → Type 0} {old new : A} {r : ℕ} → ((o : Outcome A) → P o → SmallRefusal o) → PackedValue P old new r
+    → P (unpackedValue r new)
+value-read {P = P} {old} s (o, x, e, f) = subst P (sym (ap₂ unpackedValue e f ∙ value-back o old (s o x))) x

@@ -1,0 +1,192 @@
+/* Zurkhovel: number codes of acyclic carbon skeletons, for C (from C99 on) and C++, on x86-64 Linux.
+ *
+ * A skeleton is a tree of 1 to 64 vertices, each with at most four neighbours. It is handed in as N, the number of its vertices, and an
+ * edge list: two bytes for each edge, the numbers of its ends, vertices counted from 1. A digit code is one byte of value 0 to 9 for each
+ * digit. docs/CODES.md explains the codes, docs/CALLS.md has an example of each call, docs/PROMISES.md says what of it is proved.
+ *
+ * THE ANSWER of a call is one whole number: 256 times the refusal number plus the place. Below 256 there is no refusal, and the number is
+ * what the call gives: the bytes written at the start of `out`; of zk_same_skeleton 1 (the same) or 0; of a call that only checks, or sets
+ * `*value`, 0. A refusal of the second list of zk_same_skeleton has 65,536 added. zk_refused, zk_number, zk_place and zk_list_of below take
+ * an answer apart, and zk_words says a refusal number in words. Where several refusals apply, the lowest number is given, at its first
+ * place. Three calls refuse nothing and return something else: zk_read_text, zk_count and zk_list, at the end.
+ *
+ * ANY INPUT may be handed in: any numbers, any bytes, any lengths. Each call makes its own checks and ends. A refusal leaves `out` and
+ * `*value` as they were; a success leaves what stands behind its result in `out`. A pointer with its length must be memory of that length;
+ * with length 0 it may be null. `value`, `lines`, `at`, `read` and `refused` must not be null.
+ *
+ * AN OUTPUT MUST NOT OVERLAP an input or another output: a call reads while it writes, and in place it can give a wrong result that looks
+ * like a success.
+ *
+ * THREADS: no call keeps any state, allocates, or writes to anything but what is lent to it, so any number of threads may call at once on
+ * memory that they do not share.
+ *
+ * STACK: no call touches more than 8,192 bytes of it; docs/CALLS.md has what was measured, call by call. */
+#ifndef ZURKHOVEL_H
+#define ZURKHOVEL_H
+
+#include <stddef.h>
+#include <stdint.h>
+
+#define ZK_VERSION "0.3.0"
+
+/* Sizes to lend, in bytes: with so much room no call answers 15, whatever it is handed. */
+#define ZK_DIGITS 64 /* the digits of a code or a line, or the classes of vertices: N */
+#define ZK_EDGES 126 /* an edge list: 2(N-1) */
+#define ZK_LINE 68   /* a line, its line feed included */
+#define ZK_PACKED 16 /* a packed code */
+#define ZK_CAM 63    /* the entries of a CAM: N-1 */
+#define ZK_RECORD 64 /* what zk_read_text takes of `records` for each line */
+
+/* ---- The answer, taken apart and put together ---- */
+
+/* Whether an answer is a refusal. */
+static inline int zk_refused(uint32_t answer)
+{
+    return answer >= 256;
+}
+
+/* The refusal number, 1 to 15; 0 where there is none. */
+static inline uint32_t zk_number(uint32_t answer)
+{
+    return answer >> 8 & 255;
+}
+
+/* Of a refusal its place, counted from 1: the digit, edge, entry or vertex, or for 15 the length needed; 0 where it has none.
+ * Where there is no refusal, what the call gives. */
+static inline uint32_t zk_place(uint32_t answer)
+{
+    return answer & 255;
+}
+
+/* Which list zk_same_skeleton refuses, 1 or 2. Of every other answer 1. */
+static inline uint32_t zk_list_of(uint32_t answer)
+{
+    return (answer >> 16) + 1;
+}
+
+/* The answer that has these parts, each as the functions above give it. */
+static inline uint32_t zk_answer(uint32_t list, uint32_t number, uint32_t place)
+{
+    return (list - 1) << 16 | number << 8 | place;
+}
+
+/* A refusal number in words. */
+static inline const char *zk_words(uint32_t number)
+{
+    static const char *const words[] = {
+        "no refusal",
+        "the line has no line feed",
+        "the line is not: count, one space, one or more digits 0 to 9",
+        "the size, or the length of a code, is 0 or above its limit",
+        "the number or the fraction is outside the range of its form",
+        "edges, entries, ones or digits are not as many as the size asks for",
+        "a vertex number or the root is 0 or above the size, or a CAM entry is 0 or above its own number",
+        "an edge joins a vertex to itself",
+        "the ends of an edge are already joined, directly or through others, by earlier edges",
+        "an end of an edge has four earlier edges",
+        "a digit is above 4 at the root or above 3 elsewhere",
+        "the code has ended and more follows",
+        "the code has not ended where the input does",
+        "a child's code is larger than that of the sibling before it",
+        "a right code, but not of the form asked for, or a numbering that is not physical",
+        "the lent output is too short: the place is the length needed",
+    };
+    return number < sizeof words / sizeof *words ? words[number] : "no such refusal number";
+}
+
+#ifdef __cplusplus
+extern "C" {
+#endif
+
+/* ---- What an exporter's host needs: lines, the verdict, the packed form ---- */
+
+/* The digits, as values, of the first line of a text: N bytes. Nothing behind its line feed is looked at. Refusals 1, 2, 3, 5, 10 to 15. */
+uint32_t zk_read_line(const uint8_t *text, size_t len, uint8_t *out, size_t out_len);
+
+/* The line of a skeleton: N, a space, the digits of its centred code, a line feed. Refusals 3, 5 to 9, 15. */
+uint32_t zk_write_line(size_t n, const uint8_t *edges, size_t len, uint8_t *out, size_t out_len);
+
+/* Whether two edge lists are the same skeleton, possibly under other vertex numbers: 1 or 0. Lists of different sizes are not the same,
+ * which is no refusal. Refusals 3, 5 to 9 of either list, the first list's first. */
+uint32_t zk_same_skeleton(size_t n1, const uint8_t *edges1, size_t len1, size_t n2, const uint8_t *edges2, size_t len2);
+
+/* The packed form of the rooted code at the vertex `root`: 2N-1 bits, filled up with zeros to whole bytes. Refusals 3, 5 to 9, 15. */
+uint32_t zk_pack(size_t n, const uint8_t *edges, size_t len, size_t root, uint8_t *out, size_t out_len);
+
+/* ---- Digit codes and edge lists ---- */
+
+/* Whether digits are a right rooted code: 0. Refusals 3, 10 to 13. */
+uint32_t zk_check_code(const uint8_t *code, size_t len);
+
+/* The edges (parent, child), for child 2 to N, of a rooted, an N-tuple or a centred code: 2(N-1) bytes. Refusals 3, 10 to 13, 15; of the
+ * last two also 14. */
+uint32_t zk_decode_code(const uint8_t *code, size_t len, uint8_t *out, size_t out_len);
+uint32_t zk_decode_n_tuple(const uint8_t *code, size_t len, uint8_t *out, size_t out_len);
+uint32_t zk_decode_centred(const uint8_t *code, size_t len, uint8_t *out, size_t out_len);
+
+/* Whether N, an edge list and a root are a skeleton and one of its vertices: 0. Refusals 3, 5 to 9. */
+uint32_t zk_check_edges(size_t n, const uint8_t *edges, size_t len, size_t root);
+
+/* The code of a skeleton, rooted at a vertex, N-tuple or centred: N digits. Refusals 3, 5 to 9, 15. */
+uint32_t zk_rooted_code(size_t n, const uint8_t *edges, size_t len, size_t root, uint8_t *out, size_t out_len);
+uint32_t zk_n_tuple_code(size_t n, const uint8_t *edges, size_t len, uint8_t *out, size_t out_len);
+uint32_t zk_centred_code(size_t n, const uint8_t *edges, size_t len, uint8_t *out, size_t out_len);
+
+/* The class of each vertex in the centred code's numbering, classes counted from 1 by first appearance: N bytes. Refusals 3, 5 to 9, 15. */
+uint32_t zk_equal_vertices(size_t n, const uint8_t *edges, size_t len, uint8_t *out, size_t out_len);
+
+/* ---- The bit-tuple: packed (zk_pack above), as a whole number (N at most 32), as a fraction (N at most 27) ---- */
+
+/* The edges of the code in a packed code, as zk_decode_code gives them. Refusals 3, 10 to 13, 15. */
+uint32_t zk_unpack(const uint8_t *bytes, size_t len, uint8_t *out, size_t out_len);
+
+/* The whole number, or the fraction, of the rooted code at the vertex `root`, in `*value`; the fraction is exact. Refusals 3, 5 to 9. */
+uint32_t zk_whole(size_t n, const uint8_t *edges, size_t len, size_t root, uint64_t *value);
+uint32_t zk_fraction(size_t n, const uint8_t *edges, size_t len, size_t root, double *value);
+
+/* The edges of the code in a whole number, with N beside it, or in a fraction. Refusals 3 (not of a fraction), 4, 10 to 13, 15. */
+uint32_t zk_unwhole(size_t n, uint64_t value, uint8_t *out, size_t out_len);
+uint32_t zk_unfraction(double x, uint8_t *out, size_t out_len);
+
+/* ---- CAM, 0A (N at most 21) and A0 (N at most 11) ---- */
+
+/* In the caller's numbering, which for a CAM or a 0A has to be physical: N-1 entries, or a number in `*value`.
+ * Refusals 3, 5 to 9; of a CAM or a 0A also 14; of a CAM also 15. */
+uint32_t zk_cam(size_t n, const uint8_t *edges, size_t len, uint8_t *out, size_t out_len);
+uint32_t zk_zero_a(size_t n, const uint8_t *edges, size_t len, uint64_t *value);
+uint32_t zk_a_zero(size_t n, const uint8_t *edges, size_t len, uint64_t *value);
+
+/* The same in the centred code's numbering. Refusals 3, 5 to 9; of a CAM also 15. */
+uint32_t zk_cam_by_code(size_t n, const uint8_t *edges, size_t len, uint8_t *out, size_t out_len);
+uint32_t zk_zero_a_by_code(size_t n, const uint8_t *edges, size_t len, uint64_t *value);
+uint32_t zk_a_zero_by_code(size_t n, const uint8_t *edges, size_t len, uint64_t *value);
+
+/* The edges (lower, higher) of each, by the higher and then the lower: 2(N-1) bytes. Refusals 3, 9, 15; of a CAM also 5, 6; of a 0A also
+ * 4; of an A0 also 4, 5, 8. */
+uint32_t zk_decode_cam(size_t n, const uint8_t *cam, size_t len, uint8_t *out, size_t out_len);
+uint32_t zk_decode_zero_a(size_t n, uint64_t value, uint8_t *out, size_t out_len);
+uint32_t zk_decode_a_zero(size_t n, uint64_t value, uint8_t *out, size_t out_len);
+
+/* ---- A text of lines: these three refuse nothing as a whole ---- */
+
+/* Line after line. For line i, counted from 0, numbers[i] gets its refusal number or 0, and places[i] the place, or for a record the
+ * count of its digits, which are put from records[ZK_RECORD * i] on; all else is left as it was. A line is refused as zk_read_line refuses
+ * it, but never 15. It stops where the text ends, or where `records` has not ZK_RECORD bytes, `numbers` or `places` not one entry for
+ * a line more. `*lines` gets how many lines were answered, `*at` the offset of the first byte not yet read: whoever lent too little goes
+ * on from there. */
+void zk_read_text(const uint8_t *text, size_t len, uint8_t *records, size_t records_len, uint8_t *numbers, size_t numbers_len,
+                  size_t *places, size_t places_len, size_t *lines, size_t *at);
+
+/* How many of the numbers are 0, in `*read`, and how many are not, in `*refused`. */
+void zk_count(const uint8_t *numbers, size_t len, size_t *read, size_t *refused);
+
+/* The listing of a text, as the program `listing` writes it (a text of more than 65,536 bytes has the listing `input too long`): its bytes
+ * from number `from` on, counted from 0, as many as there is room for. Returns how many that is; where there is room for more, the listing
+ * ends with them. */
+size_t zk_list(const uint8_t *text, size_t len, size_t from, uint8_t *out, size_t out_len);
+
+#ifdef __cplusplus
+}
+#endif
+
+#endif
