@@ -31,7 +31,8 @@ more-below [] v b l (suc i) = lit< tt
 more-below (x ∷ s) v b l zero = b zero
 more-below (x ∷ s) v b l (suc i) = more-below s v (λ j. b (suc j)) l i
 
--- the bits bs are in m bytes of `out` and in the c lowest bits of a; behind these bytes `out` is as it was, old
+-- the bits bs are stored: they are in m bytes of `out`, and in the c lowest bits of a
+-- behind these bytes `out` is as it was, old
 pub record Stored (bs : List Bool) (old out : List ℕ) (m c a : ℕ) : Type 0 where
   pub same : bs ≡ bytes (take m out) ++ word c a
   pub count : length (take m out) ≡ m

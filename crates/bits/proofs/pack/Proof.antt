@@ -50,9 +50,10 @@ add-i c = omega arith
 put-out-requires : tie.Need-put-out-requires Inv-loop μ-loop
 put-out-requires c κs =
     let b = c .before in
-    let p = entered (appended b) .pre in
-    (omega (arith, small b, appended b .loop .inv .few),
-    rw (b .before .digit .ensures) (pack-bytes (appended b .loop .inv) (p .0) (p .1) (b .before .before .loop-test .taken)))
+    let p = entered (appended b) .pre in (
+      omega (arith, small b, appended b .loop .inv .few),
+      rw (b .before .digit .ensures) (pack-bytes (appended b .loop .inv) (p .0) (p .1) (b .before .before .loop-test .taken)),
+    )
 
 loop-less : tie.Need-loop-less Inv-loop μ-loop
 loop-less c = omega arith

@@ -1,5 +1,4 @@
 -- `bits::put_out` meets its contract. The loop's invariant is `PuttingOut`. Assumes nothing.
-use mathlib.Core.Path.{_∙_}
 use native.Mathlib.Omega.{arith}
 use lib.Dec.{lit<}
 use native.Mathlib.Nat.{mod-lt}
