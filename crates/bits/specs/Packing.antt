@@ -5,7 +5,7 @@ use mathlib.Core.Path.{_≡_, refl, sym, ap, _∙_}
 use mathlib.Core.Bool.{Bool, false}
 use mathlib.Core.List.{List, [], _∷_, _++_, append-assoc, append-nil}
 use Prim.Native.Nat.{ℕ, zero, suc, _+_, _-_, _*_, _/_, _%_, _^_, _≤_, _<_}
-use native.Mathlib.Nat.{mod-lt, le-refl, lt-of-lt-of-le}
+use native.Mathlib.Nat.{mod-lt, lt-of-lt-of-le}
 use native.Mathlib.Numerals.{add-one}
 use native.Mathlib.Omega.{arith}
 use lib.Dec.{lit<}
@@ -104,35 +104,24 @@ module _ {bs : List Bool} {old out : List ℕ} {m c a : ℕ} (s : Stored bs old 
         are-bytes = o .are-bytes;
       }
 
--- on the way there: `out` has bytes up to n, and `left` bits are left
-pub record PuttingOut (a c m : ℕ) (before out : List ℕ) (n left : ℕ) : Type 0 where
-  pub many : n + left / 8 ≡ m + c / 8
-  pub rest : left % 8 ≡ c % 8
-  pub few : left ≤ c
-  pub size : length out ≡ length before
-  pub stored : (bs : List Bool) (old : List ℕ) → Stored bs old before m c a → Stored bs old out n left a
+-- none is whole, one is, or two are
+module _ (a c m : ℕ) (out : List ℕ) where
+  pub put-none : c < 8 → PutOut a c m out out m
+  put-none g = let z : c ≡ c % 8 = omega arith in record { many = omega arith; stored = λ bs old s. rw (← z) s }
 
-pub putting-none : (a c m : ℕ) (out : List ℕ) → PuttingOut a c m out out m c
-putting-none a c m out = record { many = refl; rest = refl; few = le-refl c; size = refl; stored = λ bs old s. s }
+  module _ (g : 8 ≤ c) (l : m < length out) where
+    -- the first byte is there
+    abbrev first : List ℕ
+    first = set out m (a / 2 ^ (c - 8) % 256)
 
-module _ {a c m : ℕ} {before out : List ℕ} {n left : ℕ} (p : PuttingOut a c m before out n left) where
-  pub putting-room : 8 ≤ left → m + c / 8 ≤ length before → n < length out
-  putting-room g l = omega (arith, p .many, p .size)
+    pub put-one : c - 8 < 8 → PutOut a c m out first (m + 1)
+    put-one h = let z : c - 8 ≡ c % 8 = omega arith in record { many = omega arith; stored = λ bs old s. rw (← z) (stored-byte s g l) }
 
-  pub putting-more : 8 ≤ left → n < length out → PuttingOut a c m before (set out n (a / 2 ^ (left - 8) % 256)) (n + 1) (left - 8)
-  putting-more g l =
-      record {
-        many = omega (arith, p .many);
-        rest = omega (arith, p .rest);
-        few = omega (arith, p .few);
-        size = rw length-set (p .size);
-        stored = λ bs old s. stored-byte (p .stored bs old s) g l;
-      }
-
-  pub putting-done : left < 8 → PutOut a c m before out n
-  putting-done g =
-      let z : left ≡ c % 8 = omega (arith, p .rest) in
-      record { many = omega (arith, p .many); stored = λ bs old s. rw (← z) (p .stored bs old s) }
+    pub put-two : 8 ≤ c - 8 → c < 24 → m + 1 < length out → PutOut a c m out (set first (m + 1) (a / 2 ^ (c - 8 - 8) % 256)) (m + 2)
+    put-two h k b =
+        let z : c - 8 - 8 ≡ c % 8 = omega arith in
+        let y : m + 1 + 1 ≡ m + 2 = omega arith in
+        record { many = omega arith; stored = λ bs old s. rw (← z, ← y) (stored-byte (stored-byte s g l) h (rw length-set b)) }
 
 module _ {d old out : List ℕ} {i m c a : ℕ} (s : Packing d old out i m c a) where
   -- how far the writer is

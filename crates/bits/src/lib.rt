@@ -286,17 +286,19 @@ pub fn number_of(code: &[u8]) -> u64
 
 // Writes the whole bytes of the c lowest bits of a, highest first, from m on; where they end. Fewer than eight bits are then left.
 fn put_out(a: u64, c: u64, m: usize, out: &mut [u8]) -> usize
-    requires { ⌜ (c < 64) × (m + c / 8 ≤ length (now out)) ⌝ }
+    requires { ⌜ (c < 24) × (m + c / 8 ≤ length (now out)) ⌝ }
     ensures { λ r. ⌜ PutOut a c m (now (out .entry)) (now (out .exit)) r ⌝ }
 {
-    let mut left = c;
-    let mut n = m;
-    while 8 <= left {
-        left -= 8;
-        out[n] = ((a >> left) % 256) as u8;
-        n += 1;
+    if c < 8 {
+        return m;
     }
-    n
+    let left = c - 8;
+    out[m] = ((a >> left) % 256) as u8;
+    if left < 8 {
+        return m + 1;
+    }
+    out[m + 1] = ((a >> (left - 8)) % 256) as u8;
+    m + 2
 }
 
 // The packed form of a code, at the start of out; how many bytes it has. The c lowest bits of a are still to be written.

@@ -1,59 +1,71 @@
--- `bits::put_out` meets its contract. The loop's invariant is `PuttingOut`. Assumes nothing.
+-- `bits::put_out` meets its contract: no byte, one, or two. Assumes nothing.
 use native.Mathlib.Omega.{arith}
-use lib.Dec.{lit<}
-use native.Mathlib.Nat.{mod-lt}
-use Rattle.bits.specs.Packing.{PuttingOut, putting-none, putting-room, putting-more, putting-done}
+use lib.ListN.{length-set}
+use Rattle.bits.specs.Packing.{put-none, put-one, put-two}
+use borrow.Author.Needs.{needs}
 use Rattle.bits.proofs.put_out.Statement.{statement}
 use Rattle.bits.proofs.put_out.Tie as tie
 
-abbrev Inv-loop : tie.InvT-loop
-Inv-loop a c m out₀ left₀ n₀ out left n = PuttingOut a c m out₀ out n left
+returns : tie.Need-returns
+returns c = let a = c .before .args in put-none (a .a) (a .c) (a .m) (a .out .now) (c .if1 .taken)
 
-abbrev μ-loop : tie.MeasureT-loop
-μ-loop a c m out₀ left₀ n₀ out left n = left
+shr-out : tie.Need-shr-out
+shr-out c = search needs
 
-abbrev entered : tie.At-loop Inv-loop μ-loop → tie.Start Inv-loop μ-loop
-entered c = c .before
+cast-out : tie.Need-cast-out
+cast-out c = search needs
 
-loop-holds : tie.Need-loop-holds Inv-loop μ-loop
-loop-holds c = let a = c .args in putting-none (a .a) (a .c) (a .m) (a .out .now)
+slice-write-out : tie.Need-slice-write-out
+slice-write-out c = search needs
 
-shr-out : tie.Need-shr-out Inv-loop μ-loop
-shr-out c = omega (arith, entered (c .before) .pre .0, c .before .loop .inv .few)
+add-result : tie.Need-add-result
+add-result c = search needs
 
-cast-out : tie.Need-cast-out Inv-loop μ-loop
-cast-out c = record { fits = mod-lt _ (lit< tt) }
+same-length : tie.Need-same-length
+same-length c = search needs
 
-slice-write-out : tie.Need-slice-write-out Inv-loop μ-loop
-slice-write-out c = putting-room (c .before .loop .inv) (c .loop-test .taken) (entered (c .before) .pre .1)
+returns-2 : tie.Need-returns-2
+returns-2 c = let a = c .before .before .args in put-one (a .a) (a .c) (a .m) (a .out .now) (c .before .if1 .left) (slice-write-out (c .before)) (c .if2 .taken)
 
-add-n : tie.Need-add-n Inv-loop μ-loop
-add-n c = omega (arith, slice-write-out c)
+shr-out-2 : tie.Need-shr-out-2
+shr-out-2 c = search needs
 
-loop-less : tie.Need-loop-less Inv-loop μ-loop
-loop-less c = omega arith
+cast-out-2 : tie.Need-cast-out-2
+cast-out-2 c = search needs
 
-loop-again : tie.Need-loop-again Inv-loop μ-loop
-loop-again c = putting-more (c .before .loop .inv) (c .loop-test .taken) (slice-write-out c)
+add-out : tie.Need-add-out
+add-out c = search needs
 
-same-length : tie.Need-same-length Inv-loop μ-loop
-same-length c = c .before .loop .inv .size
+slice-write-out-2 : tie.Need-slice-write-out-2
+slice-write-out-2 c = rw length-set (omega arith)
 
-returns : tie.Need-returns Inv-loop μ-loop
-returns c = putting-done (c .before .loop .inv) (c .loop-test .left)
+add-result-2 : tie.Need-add-result-2
+add-result-2 c = search needs
+
+same-length-2 : tie.Need-same-length-2
+same-length-2 c = search needs
+
+returns-3 : tie.Need-returns-3
+returns-3 c =
+    let a = c .before .before .args in
+    let p = c .before .before .pre in
+    put-two (a .a) (a .c) (a .m) (a .out .now) (c .before .if1 .left) (slice-write-out (c .before)) (c .if2 .left) (p .0) (omega arith)
 
 pub put-out-spec : {M : Type 1} → statement M
 put-out-spec =
     tie.close
     (tie.spec
-    Inv-loop
-    μ-loop
-    loop-holds
+    returns
     shr-out
     cast-out
     slice-write-out
-    add-n
-    loop-less
-    loop-again
+    add-result
     same-length
-    returns)
+    returns-2
+    shr-out-2
+    cast-out-2
+    add-out
+    slice-write-out-2
+    add-result-2
+    same-length-2
+    returns-3)
