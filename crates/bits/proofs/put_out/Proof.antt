@@ -9,8 +9,8 @@ use Rattle.bits.proofs.put_out.Tie as tie
 returns : tie.Need-returns
 returns c = let a = c .before .args in put-none (a .a) (a .c) (a .m) (a .out .now) (c .if1 .taken)
 
-shr-out : tie.Need-shr-out
-shr-out c = search needs
+shift-first : tie.Need-shr-out
+shift-first c = search needs
 
 cast-out : tie.Need-cast-out
 cast-out c = search needs
@@ -27,8 +27,8 @@ same-length c = search needs
 returns-2 : tie.Need-returns-2
 returns-2 c = let a = c .before .before .args in put-one (a .a) (a .c) (a .m) (a .out .now) (c .before .if1 .left) (slice-write-out (c .before)) (c .if2 .taken)
 
-shr-out-2 : tie.Need-shr-out-2
-shr-out-2 c = search needs
+shift-second : tie.Need-shr-out-2
+shift-second c = search needs
 
 cast-out-2 : tie.Need-cast-out-2
 cast-out-2 c = search needs
@@ -56,13 +56,13 @@ put-out-spec =
     tie.close
     (tie.spec
     returns
-    shr-out
+    shift-first
     cast-out
     slice-write-out
     add-result
     same-length
     returns-2
-    shr-out-2
+    shift-second
     cast-out-2
     add-out
     slice-write-out-2
