@@ -1,5 +1,6 @@
--- Two limits on how many neighbours a vertex may have, R and the wider S: a digit code that is refused for S is refused for R alike, or with 10; one that is right
--- for S is right for R, or R refuses it with 10. What the code says, its digits and the edges that it decodes to, is the same for both.
+-- Two limits on how many neighbours a vertex may have, R and the wider S: a digit code that is refused for S is refused for R alike, or with 10;
+-- one that is right for S is right for R, or R refuses it with 10. What the code says, its digits and the edges that it decodes to, is the same
+-- for both.
 --
 -- In order: a digit above its cap for S is above it for R; whether 10 applies, and where first; the tables of a digit code. Assumes nothing.
 use mathlib.Core.Path.{_≡_}

@@ -1,11 +1,12 @@
--- Two limits on how many neighbours a vertex may have, R and the wider S: what a reader for R answers to a line is what one for S answers, or refusal 10. So of a line that
--- is accepted for S it hands out the same digits, which decode to the same edges, or refuses it with 10; a line that is refused for S it refuses alike, or with 10.
+-- Two limits on how many neighbours a vertex may have, R and the wider S: what a reader for R answers to a line is what one for S answers, or
+-- refusal 10. So of a line that is accepted for S it hands out the same digits, which decode to the same edges, or refuses it with 10; a line that
+-- is refused for S it refuses alike, or with 10.
 --
 -- In order: a line; the lines of a text, one by one; what reading them leaves in what is lent. Assumes nothing.
 use mathlib.Core.Path.{_≡_, refl, ap}
 use mathlib.Core.Logic.{_⊎_, inl, inr, ⊎-elim}
 use mathlib.Core.List.{List, [], _∷_, _++_, map}
-use Prim.Native.Nat.{ℕ, _≤_, _<_}
+use Prim.Native.Nat.{ℕ, _≤_}
 use native.Mathlib.Omega.{arith}
 use lib.ListN.{length, length-drop}
 use Rattle.refusal.specs.document.Table.{Row, Outcome, OutcomeOf, Promise}
@@ -13,7 +14,7 @@ use Rattle.refusal.specs.Stricter.{RefusedBy, relaxed}
 use Rattle.digit_code.specs.document.Code.{plain, row10, row11, row12, row13}
 use Rattle.digit_code.specs.Editions.{above-both}
 use Rattle.form.specs.document.Form.{centred, row14-form}
-use Rattle.lines.specs.document.Line.{Where, DigitRow, digitRow, ofLine, frontRows, lineRows, LineAnswers, TextAnswers, Reply}
+use Rattle.lines.specs.document.Line.{digitRow, ofLine, frontRows, lineRows, LineAnswers, TextAnswers, Reply}
 use Rattle.lines.specs.document.Judged.{digitTable}
 use Rattle.lines.specs.document.Reading.{lineRow15, LineRead, TextRead}
 use Rattle.lines.specs.Answered.{answered-once}

@@ -1,5 +1,5 @@
--- The first lines of a text, as a reader takes them one by one. In order: all of them are `TextAnswers`, both ways; one more; two readings, by the same
--- rows or by others; they are one for each number of lines; what they leave in what is lent, w bytes for each. Assumes nothing.
+-- The first lines of a text, as a reader takes them one by one. In order: all of them are `TextAnswers`, both ways; one more; two readings, by
+-- the same rows or by others; they are one for each number of lines; what they leave in what is lent, w bytes for each. Assumes nothing.
 use mathlib.Core.Path.{_≡_, refl, ap, ap₂, _∙_}
 use mathlib.Core.List.{List, [], _∷_, _++_, append-assoc}
 use Prim.Native.Nat.{ℕ, _+_, _*_, _≤_}

@@ -8,8 +8,8 @@ use mathlib.Core.List.{List, [], _∷_, _++_, append-assoc, append-nil, flatten,
 use Prim.Native.Nat.{ℕ, _+_, _*_, _≤_, _<_}
 use native.Mathlib.Numerals.{add-one}
 use native.Mathlib.Omega.{arith}
-use lib.ListN.{length, getD, set, take, drop, length-append, length-set, take-append-drop, List·getD-append}
-use lib.Seq.{take-at, take-suc-set, length-take-le, getD-take, getD-set-same, getD-set-other}
+use lib.ListN.{length, getD, set, take, drop, length-append, length-set, take-append-drop}
+use lib.Seq.{take-at, take-suc-set, length-take-le, getD-set-same, getD-set-other}
 use Rattle.digit_code.specs.document.Code.{sum}
 use Rattle.digit_code.specs.Counting.{sum-append}
 use Rattle.limits.specs.document.Limits.{size}
