@@ -1,5 +1,5 @@
--- The first lines of a text, as a reader takes them one by one. In order: all of them are `TextAnswers`, both ways; they are one for each number of
--- lines; one more; what they leave in what is lent, w bytes for each. Assumes nothing.
+-- The first lines of a text, as a reader takes them one by one. In order: all of them are `TextAnswers`, both ways; one more; two readings, by
+-- the same rows or by others; they are one for each number of lines; what they leave in what is lent, w bytes for each. Assumes nothing.
 use mathlib.Core.Path.{_≡_, refl, ap, ap₂, _∙_}
 use mathlib.Core.List.{List, [], _∷_, _++_, append-assoc}
 use Prim.Native.Nat.{ℕ, _+_, _*_, _≤_}
@@ -38,27 +38,41 @@ module _ (most : ℕ) (rows : List DigitRow) where
   taken-join (unfinished l f a) k = let e = none-taken k refl in rw (e .0, e .1) (unfinished l f a)
   taken-join (next c a h) k = next c a (taken-join h k)
 
-  -- so many lines are answered in one way, and leave one rest
-  pub taken-once :
-      {t rest more : List ℕ} {os ps : List Reply} → Taken most rows t os rest → Taken most rows t ps more → length os ≡ length ps
-      → (os ≡ ps) × (rest ≡ more)
-  taken-once none none e = (refl, refl)
-  taken-once none (unfinished l f a) e = absurd (omega arith)
-  taken-once none (next c a h) e = absurd (omega arith)
-  taken-once (unfinished l f a) none e = absurd (omega arith)
-  taken-once (unfinished l f a) (unfinished m g b) e = (ap (λ o. o ∷ []) (answered-once most rows a b), refl)
-  taken-once (unfinished l f a) (next {b} {rest} c d h) e = absurd (not-free 10 b rest (rw (c .parts) at f))
-  taken-once (next c a h) none e = absurd (omega arith)
-  taken-once (next {b} {rest} c d h) (unfinished l f a) e = absurd (not-free 10 b rest (rw (c .parts) at f))
-  taken-once (next {t} {b} {rest} c a h) (next {b = b′} {rest = rest′} c′ a′ h′) e =
+-- Q relates the elements of two lists, place by place, and they are as long
+abbrev pub Pairwise : {A : Type 0} → (A → A → Type 0) → List A → List A → Type 0
+Pairwise Q [] [] = Unit {0}
+Pairwise Q [] (y ∷ ys) = ⊥
+Pairwise Q (x ∷ xs) [] = ⊥
+Pairwise Q (x ∷ xs) (y ∷ ys) = Q x y × Pairwise Q xs ys
+
+pairwise-equal : {A : Type 0} (xs ys : List A) → Pairwise _≡_ xs ys → xs ≡ ys
+pairwise-equal [] [] h = refl
+pairwise-equal (x ∷ xs) (y ∷ ys) h = ap₂ _∷_ (h .0) (pairwise-equal xs ys (h .1))
+
+-- where a line ends is the same for any rows that judge its digits
+module _ (most : ℕ) {rows rows′ : List DigitRow} where
+  -- two readings of so many lines leave one rest, and their answers are related as those to one line are
+  pub taken-pairs :
+      (Q : Reply → Reply → Type 0) → ((t : List ℕ) (o u : Reply) → LineAnswers most rows t o → LineAnswers most rows′ t u → Q o u)
+      → {t rest more : List ℕ} {os ps : List Reply} → Taken most rows t os rest → Taken most rows′ t ps more → length os ≡ length ps
+      → Pairwise Q os ps × (rest ≡ more)
+  taken-pairs Q v none none e = (tt, refl)
+  taken-pairs Q v none (unfinished l f a) e = absurd (omega arith)
+  taken-pairs Q v none (next c a h) e = absurd (omega arith)
+  taken-pairs Q v (unfinished l f a) none e = absurd (omega arith)
+  taken-pairs Q v (unfinished {t} {o} l f a) (unfinished {o = u} m g b) e = ((v t o u a b, tt), refl)
+  taken-pairs Q v (unfinished l f a) (next {b} {rest} c d h) e = absurd (not-free 10 b rest (rw (c .parts) at f))
+  taken-pairs Q v (next c a h) none e = absurd (omega arith)
+  taken-pairs Q v (next {b} {rest} c d h) (unfinished l f a) e = absurd (not-free 10 b rest (rw (c .parts) at f))
+  taken-pairs Q v (next {t} {b} {rest} {o = o} c a h) (next {b = b′} {rest = rest′} {o = u} c′ a′ h′) e =
       let q = cut-once 10 t b rest b′ rest′ c c′ .1 in
-      let r = taken-once (rw q at h) h′ (omega arith) in
-      (ap₂ _∷_ (answered-once most rows a a′) (r .0), r .1)
+      let r = taken-pairs Q v (rw q at h) h′ (omega arith) in
+      ((v t o u a a′, r .0), r .1)
 
   -- where nothing is left, no more lines can be taken
   pub taken-most :
-      {t rest more : List ℕ} {os ps : List Reply} → Taken most rows t os rest → rest ≡ [] → Taken most rows t ps more → length ps ≤ length os
-  taken-most none e k = let n = ap length (none-taken k e .0) in omega arith
+      {t rest more : List ℕ} {os ps : List Reply} → Taken most rows t os rest → rest ≡ [] → Taken most rows′ t ps more → length ps ≤ length os
+  taken-most none e k = let n = ap length (none-taken most rows′ k e .0) in omega arith
   taken-most (unfinished l f a) e none = omega arith
   taken-most (unfinished l f a) e (unfinished m g b) = omega arith
   taken-most (unfinished l f a) e (next {b} {rest} c d h) = absurd (not-free 10 b rest (rw (c .parts) at f))
@@ -68,6 +82,12 @@ module _ (most : ℕ) (rows : List DigitRow) where
       let q = cut-once 10 t b rest b′ rest′ c c′ .1 in
       let r = taken-most h e (rw (← q) at h′) in
       omega arith
+
+-- so many lines are answered in one way, and leave one rest
+pub taken-once :
+    (most : ℕ) (rows : List DigitRow) {t rest more : List ℕ} {os ps : List Reply} → Taken most rows t os rest → Taken most rows t ps more
+    → length os ≡ length ps → (os ≡ ps) × (rest ≡ more)
+taken-once most rows {os = os} {ps} g h e = let r = taken-pairs most _≡_ (λ t o u a b. answered-once most rows a b) g h e in (pairwise-equal os ps (r .0), r .1)
 
 -- ---- what is left in what is lent
 

@@ -17,6 +17,7 @@ pub mod Lawful
 pub mod Taking
 pub mod FirstLines
 pub mod Turns
+pub mod Editions
 pub mod Marks
 pub mod Judging
 pub mod document

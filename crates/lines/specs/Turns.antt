@@ -18,37 +18,45 @@ use Rattle.lines.specs.document.Reading.{block, blocks, counted, numberO
 use Rattle.lines.specs.Taking.{unfed, fed-cut}
 use Rattle.lines.specs.FirstLines.{taken-join, taken-once, taken-most, taken-fit, blocks-more, length-blocks}
 
-module _ (most : ℕ) (rows : List DigitRow) {w : ℕ} {t rec num pla : List ℕ} where
-  -- one reading does not stop before another
-  no-sooner :
-      {rec₁ num₁ pla₁ rec₂ num₂ pla₂ : List ℕ} {k at j to : ℕ} → TextRead most rows w t rec num pla rec₁ num₁ pla₁ k at
-      → TextRead most rows w t rec num pla rec₂ num₂ pla₂ j to → k < j → ⊥
-  no-sooner {k = k} {at} {j} {to} g h l = go (decLt at (length t))
-    where
-      more : w * k + w ≤ length rec
-      more = let m = mul-le-mul-left w l in omega (arith, mul-suc w k, h .read .room .0)
+-- one reading does not stop before another, whatever rows judge the digits
+no-sooner :
+    (most : ℕ) {rows rows′ : List DigitRow} {w : ℕ} {t rec num pla rec₁ num₁ pla₁ rec₂ num₂ pla₂ : List ℕ} {k at j to : ℕ}
+    → TextRead most rows w t rec num pla rec₁ num₁ pla₁ k at → TextRead most rows′ w t rec num pla rec₂ num₂ pla₂ j to → k < j → ⊥
+no-sooner most {w = w} {t} {rec} {k = k} {at} {j} {to} g h l = go (decLt at (length t))
+  where
+    more : w * k + w ≤ length rec
+    more = let m = mul-le-mul-left w l in omega (arith, mul-suc w k, h .read .room .0)
 
-      go : Dec (at < length t) → ⊥
-      go (yes a) = g .stops a more (omega (arith, h .read .room .1)) (omega (arith, h .read .room .2))
-      go (no a) =
-          let e = drop-of-length-le t {i = at} (omega arith) in
-          let m = taken-most most rows (g .read .taken) e (h .read .taken) in
-          omega (arith, g .read .count, h .read .count)
+    go : Dec (at < length t) → ⊥
+    go (yes a) = g .stops a more (omega (arith, h .read .room .1)) (omega (arith, h .read .room .2))
+    go (no a) =
+        let e = drop-of-length-le t {i = at} (omega arith) in
+        let m = taken-most most (g .read .taken) e (h .read .taken) in
+        omega (arith, g .read .count, h .read .count)
 
-  -- reading a text has one result
-  pub read-text-once :
-      {rec₁ num₁ pla₁ rec₂ num₂ pla₂ : List ℕ} {k at j to : ℕ} → TextRead most rows w t rec num pla rec₁ num₁ pla₁ k at
-      → TextRead most rows w t rec num pla rec₂ num₂ pla₂ j to → (k ≡ j) × (at ≡ to) × (rec₁ ≡ rec₂) × (num₁ ≡ num₂) × (pla₁ ≡ pla₂)
-  read-text-once {k = k} {at} {j} {to} g h =
-      let a : k < j → ⊥ = no-sooner g h in
-      let b : j < k → ⊥ = no-sooner h g in
-      let r = taken-once most rows (g .read .taken) (h .read .taken) (omega (arith, g .read .count, h .read .count)) in (
-        omega arith,
-        omega (arith, simp length-drop at (ap length (r .1)), g .read .within, h .read .within),
-        g .read .records ∙ ap (λ os. blocks w os rec) (r .0) ∙ sym (h .read .records),
-        g .read .numbers ∙ ap (λ os. laidOver (map (λ o. numberOf (counted o)) os) num) (r .0) ∙ sym (h .read .numbers),
-        g .read .places ∙ ap (λ os. laidOver (map (λ o. placeOf (counted o)) os) pla) (r .0) ∙ sym (h .read .places),
-      )
+-- so both read as many lines
+pub as-many :
+    (most : ℕ) {rows rows′ : List DigitRow} {w : ℕ} {t rec num pla rec₁ num₁ pla₁ rec₂ num₂ pla₂ : List ℕ} {k at j to : ℕ}
+    → TextRead most rows w t rec num pla rec₁ num₁ pla₁ k at → TextRead most rows′ w t rec num pla rec₂ num₂ pla₂ j to → k ≡ j
+as-many most {k = k} {j = j} g h =
+    let a : k < j → ⊥ = no-sooner most g h in
+    let b : j < k → ⊥ = no-sooner most h g in
+    omega arith
+
+-- reading a text has one result
+pub read-text-once :
+    (most : ℕ) (rows : List DigitRow) {w : ℕ} {t rec num pla rec₁ num₁ pla₁ rec₂ num₂ pla₂ : List ℕ} {k at j to : ℕ}
+    → TextRead most rows w t rec num pla rec₁ num₁ pla₁ k at → TextRead most rows w t rec num pla rec₂ num₂ pla₂ j to
+    → (k ≡ j) × (at ≡ to) × (rec₁ ≡ rec₂) × (num₁ ≡ num₂) × (pla₁ ≡ pla₂)
+read-text-once most rows {w} {t} {rec} {num} {pla} {k = k} {at} {j} {to} g h =
+    let n = as-many most g h in
+    let r = taken-once most rows (g .read .taken) (h .read .taken) (omega (arith, g .read .count, h .read .count)) in (
+      n,
+      omega (arith, simp length-drop at (ap length (r .1)), g .read .within, h .read .within),
+      g .read .records ∙ ap (λ os. blocks w os rec) (r .0) ∙ sym (h .read .records),
+      g .read .numbers ∙ ap (λ os. laidOver (map (λ o. numberOf (counted o)) os) num) (r .0) ∙ sym (h .read .numbers),
+      g .read .places ∙ ap (λ os. laidOver (map (λ o. placeOf (counted o)) os) pla) (r .0) ∙ sym (h .read .places),
+    )
 
 -- ---- what is read so far
 
