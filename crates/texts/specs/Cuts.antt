@@ -6,8 +6,8 @@ use Prim.Native.Nat.{ℕ, _≤_}
 use native.Mathlib.Decide.{ℕ-discrete}
 use native.Mathlib.Omega.{arith}
 use lib.ListN.{length, length-append}
-use Rattle.lines.specs.document.Line.{Other, Free, Cut}
-use Rattle.lines.specs.Each.{each-right}
+use Rattle.texts.specs.document.Bytes.{Other, Free, Cut}
+use Rattle.texts.specs.Each.{each-right}
 
 -- what holds k is not free of it
 pub not-free : (k : ℕ) (s t : List ℕ) → Free k (s ++ (k ∷ t)) → ⊥
