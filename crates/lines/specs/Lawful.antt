@@ -10,9 +10,14 @@ use Rattle.digit_code.specs.document.Code.{sum, EndsAt, cap, row10, row11, row1
 use Rattle.digit_code.specs.Ends.{ends-iff, ends-sum}
 use Rattle.refusal.specs.document.Table.{Row, Clear}
 use Rattle.refusal.specs.Laws.{never, others}
-use Rattle.lines.specs.document.Line.{Digit}
-use Rattle.lines.specs.Each.{each-of}
-use Rattle.lines.specs.Damage.{Code}
+use Rattle.texts.specs.document.Numerals.{Digit, Digits}
+use Rattle.texts.specs.Each.{each-of}
+
+-- a code that these rows do not refuse
+pub record Code (c : List ℕ) : Type 0 where
+  pub some : 1 ≤ length c
+  pub digits : Digits c
+  pub total : sum c + 1 ≡ length c
 
 cap-most : (R p : ℕ) → cap R p ≤ R
 cap-most R zero = omega arith

@@ -18,17 +18,6 @@ use Rattle.texts.specs.Answered.{where-is, line-clear, clear-line, carri
 -- ---- areas
 
 module _ {A : Type 0} where
-  -- what follows of each area
-  pub areas-follow :
-      (P Q : (A → List ℕ) → List ℕ → List ℕ → Type 0) → ((v : A → List ℕ) (old new : List ℕ) → P v old new → Q v old new) → (vs : List (A → List ℕ))
-      (olds news : List (List ℕ)) → EachArea P vs olds news → EachArea Q vs olds news
-  areas-follow P Q h [] [] [] a = tt
-  areas-follow P Q h [] [] (n ∷ ns) a = a
-  areas-follow P Q h [] (o ∷ os) ns a = a
-  areas-follow P Q h (v ∷ vs) [] ns a = a
-  areas-follow P Q h (v ∷ vs) (o ∷ os) [] a = a
-  areas-follow P Q h (v ∷ vs) (o ∷ os) (n ∷ ns) a = (h v o n (a .0), areas-follow P Q h vs os ns (a .1))
-
   -- what is one of each area is one of all
   pub areas-once :
       (f : (A → List ℕ) → List ℕ → List ℕ) (vs : List (A → List ℕ)) (olds news news′ : List (List ℕ)) → EachArea (λ v old new. new ≡ f v old) vs olds news

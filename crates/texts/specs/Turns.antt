@@ -16,7 +16,7 @@ use Rattle.texts.specs.document.Text.{Format, LineAnswers}
 use Rattle.texts.specs.document.Lent.{Lent, Has, EachArea, block, blocks, counted, numberOf, placeOf, Taken, none, unfinished, next, ReadSoFar, ReadsText}
 use Rattle.texts.specs.Sound.{Once}
 use Rattle.texts.specs.Ending.{UpTo, Behind, unfed, fed-cut}
-use Rattle.texts.specs.Taking.{areas-follow, areas-once, has-less, has-none, Matched}
+use Rattle.texts.specs.Taking.{areas-once, has-less, has-none, Matched}
 use Rattle.texts.specs.FirstLines.{Fits, taken-join, taken-once, taken-most, taken-fit, blocks-more, length-blocks}
 
 module _ {A F : Type 0} (format : Format A F) (lent : Lent A) (once : Once (format .Formed)) {t : List ℕ} {recs : List (List ℕ)} {num pla : List ℕ} where
