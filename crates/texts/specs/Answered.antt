@@ -8,7 +8,7 @@ use Rattle.refusal.specs.document.Table.{Row, Applies, Clear, FirstRefusal, Out
 use Rattle.refusal.specs.Laws.{one-result, not-both, clear-one, clear-both, first-place, refusal-front, refusal-back, others, RowByRow, Alike, alike-clear, alike-refusal}
 use native.Mathlib.Omega.{arith}
 use Rattle.texts.specs.document.Bytes.{Free, Cut}
-use Rattle.texts.specs.document.Text.{PartRow, Format, Shaped, Where, row1, row2, ofLine, lineRows, LineAnswers}
+use Rattle.texts.specs.document.Text.{PartRow, Format, Shaped, Where, row1, row2, ofLine, lineRows, LineCarries, LineAnswers}
 use Rattle.texts.specs.Judging.{judged}
 use Rattle.texts.specs.Damage.{Accept}
 use Rattle.texts.specs.Sound.{Once, Reads}
@@ -93,22 +93,27 @@ pub data Look {A F : Type 0} (format : Format A F) (b : List ℕ) : Outcome A �
   bad : {k p : ℕ} → ((c : A) → b ≡ format .body c → Accept format c → ⊥) → Look format b (refuses k p)
 
 module _ {A F : Type 0} (format : Format A F) (once : Once (format .Formed)) where
-  -- a line of the form whose parts are accepted
-  pub line-clear : {t : List ℕ} {q : F} → Shaped (format .Formed) t q → Clear (judged (format .rows) q) → Clear (lineRows format t)
-  line-clear {t} {q} s c = clear-both front (alike-clear (parts-alike (format .Formed) once s (format .rows)) .0 c)
+  -- rows 1 and 2 do not apply to a line of the form
+  form-clear : {t : List ℕ} {q : F} → Shaped (format .Formed) t q → Clear (row1 t ∷ row2 (format .Formed) t ∷ [])
+  form-clear {t} {q} s = record { nowhere = no-row }
     where
       no-row : (k p : ℕ) → Applies (row1 t ∷ row2 (format .Formed) t ∷ []) k p → ⊥
       no-row k p (inl e) = shaped-fed (format .Formed) s (e .1 .1)
       no-row k p (inr (inl e)) = e .1 .1 q s
 
-      front : Clear (row1 t ∷ row2 (format .Formed) t ∷ [])
-      front = record { nowhere = no-row }
+  -- a line of the form whose parts are accepted
+  pub line-clear : {t : List ℕ} {q : F} → Shaped (format .Formed) t q → Clear (judged (format .rows) q) → Clear (lineRows format t)
+  line-clear s c = clear-both (form-clear s) (alike-clear (parts-alike (format .Formed) once s (format .rows)) .0 c)
+
+  -- a line of the form is refused as its parts are
+  pub line-refuses : {t : List ℕ} {q : F} {k p : ℕ} → Shaped (format .Formed) t q → FirstRefusal (judged (format .rows) q) k p → FirstRefusal (lineRows format t) k p
+  line-refuses s l = refusal-back (form-clear s) (alike-refusal (parts-alike (format .Formed) once s (format .rows)) l)
 
   pub clear-line : {t : List ℕ} {q : F} → Clear (lineRows format t) → Shaped (format .Formed) t q → Clear (judged (format .rows) q)
   clear-line c s = alike-clear (parts-alike (format .Formed) once s (format .rows)) .1 (others (others c))
 
   -- a line carries one record
-  pub carried-once : {t : List ℕ} {a b : A} → Where (format .Formed) t (λ q. format .carries q ≡ a) → Where (format .Formed) t (λ q. format .carries q ≡ b) → a ≡ b
+  pub carried-once : {t : List ℕ} {a b : A} → LineCarries format t a → LineCarries format t b → a ≡ b
   carried-once v w = sym (v .holds) ∙ ap (format .carries) (shaped-once (format .Formed) once (v .shape) (w .shape)) ∙ w .holds
 
   pub answered-once : {t : List ℕ} {o p : Outcome A} → LineAnswers format t o → LineAnswers format t p → o ≡ p
@@ -124,11 +129,13 @@ module _ {A F : Type 0} (format : Format A F) (reads : Reads format) where
   -- what has the form, of parts that no row refuses, is the line of the record that they carry
   accepts : {b : List ℕ} {q : F} → format .Formed b q → Clear (judged (format .rows) q) → (b ≡ format .body (format .carries q)) × Accept format (format .carries q)
   accepts {b} {q} f k =
-      let r = reads .read b q f k in
-      (r .0, record {
-        formed = subst (λ (x : List ℕ). format .Formed x (format .parts (format .carries q))) (r .0) (subst (λ (x : F). format .Formed b x) (r .1) f);
-        clear = subst (λ (x : F). Clear (judged (format .rows) x)) (r .1) k;
-      })
+      let r = reads .read b q f k in (
+        r .0,
+        record {
+          formed = subst (λ (x : List ℕ). format .Formed x (format .parts (format .carries q))) (r .0) (subst (λ (x : F). format .Formed b x) (r .1) f);
+          clear = subst (λ (x : F). Clear (judged (format .rows) x)) (r .1) k;
+        },
+      )
 
   pub look : {t b rest : List ℕ} {o : Outcome A} → Cut 10 t b rest → LineAnswers format t o → Look format b o
   look {t} {b} {rest} c (kept h r) =

@@ -13,7 +13,7 @@ use lib.ListN.{length, take, drop}
 use Rattle.laws.specs.document.Laid.{laidOver}
 use Rattle.refusal.specs.document.Table.{Row, Outcome, gives, refuses, Promise}
 use Rattle.texts.specs.document.Bytes.{Free, Cut}
-use Rattle.texts.specs.document.Text.{Format, ofLine, lineRows, Carries, LineAnswers}
+use Rattle.texts.specs.document.Text.{Format, ofLine, lineRows, LineCarries, LineAnswers}
 
 -- What is lent for records: `width` bytes for each in every area; the part of a record that each area shows; how many bytes a record takes in
 -- each.
@@ -83,7 +83,7 @@ module _ {A F : Type 0} (format : Format A F) (lent : Lent A) where
   -- the first line of t carries a record of n bytes, and each area shows its part from the start
   pub record Hands (t : List ℕ) (olds : List (List ℕ)) (n : ℕ) (news : List (List ℕ)) : Type 0 where
     pub result : A
-    pub right : Carries format t result
+    pub right : LineCarries format t result
     pub count : n ≡ lent .long result
     pub lies : EachArea (λ v old new. new ≡ laidOver (v result) old) (lent .views) olds news
 

@@ -67,12 +67,12 @@ module _ {A F : Type 0} (format : Format A F) where
   lineRows t = row1 t ∷ row2 (format .Formed) t ∷ map (ofLine (format .Formed) t) (format .rows)
 
   -- the first line of t is of the form, and carries the record a
-  abbrev pub Carries : List ℕ → A → Type 0
-  Carries t a = Where (format .Formed) t (λ q. format .carries q ≡ a)
+  abbrev pub LineCarries : List ℕ → A → Type 0
+  LineCarries t a = Where (format .Formed) t (λ q. format .carries q ≡ a)
 
   -- the answers to the first line of t: its record, or a refusal
   abbrev pub LineAnswers : List ℕ → Outcome A → Type 0
-  LineAnswers t o = Promise (lineRows t) (λ a (u : Unit {0}). Carries t a) tt tt o
+  LineAnswers t o = Promise (lineRows t) (λ a (u : Unit {0}). LineCarries t a) tt tt o
 
   -- the answers to a text, line after line; "bytes after the last line feed, if any, are one unfinished line"
   pub data TextAnswers : List ℕ → List (Outcome A) → Type 0 where
