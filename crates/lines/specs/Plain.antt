@@ -3,7 +3,7 @@
 use mathlib.Core.Path.{_≡_, refl, sym, ap, ap₂, subst, _∙_}
 use mathlib.Core.Logic.{inr, ⊎-elim}
 use mathlib.Core.List.{List, [], _∷_, _++_, map}
-use Prim.Native.Nat.{ℕ, _+_, _*_, _≤_, _<_}
+use Prim.Native.Nat.{ℕ, _+_, _≤_, _<_}
 use native.Mathlib.Decide.{ℕ-discrete}
 use native.Mathlib.Omega.{arith}
 use lib.ListN.{length, length-append}
@@ -17,7 +17,7 @@ use Rattle.texts.specs.Damage.{Accept}
 use Rattle.texts.specs.Sound.{Once, Reads, Sound}
 use Rattle.texts.specs.Numerals.{length-figures, sum-figures, same-figures, decimal-counts, count-decimal, count-short, count-some, one-count, marks-figures, marks-count}
 use Rattle.texts.specs.Spaced.{spaced, Marked, Alike, Tied, same-parts}
-use Rattle.texts.specs.Parted.{Parted, parted-sound}
+use Rattle.texts.specs.Parted.{parted-sound}
 use Rattle.lines.specs.document.Line.{body, line, Front, front, Formed, row3-line, row5-line, DigitRow, plainLines}
 
 pub length-line : (c : List ℕ) → length (line c) ≡ length (decimal (length c)) + length c + 2

@@ -2,7 +2,7 @@
 -- at; `look`: a line is answered with a record exactly where it is that record's line. Assumes nothing.
 use mathlib.Core.Path.{_≡_, refl, sym, ap, subst, _∙_}
 use mathlib.Core.Logic.{inl, inr}
-use mathlib.Core.List.{List, [], _∷_, _++_, map}
+use mathlib.Core.List.{List, [], _∷_, map}
 use Prim.Native.Nat.{ℕ}
 use Rattle.refusal.specs.document.Table.{Row, Applies, Clear, FirstRefusal, Outcome, gives, refuses, kept, left}
 use Rattle.refusal.specs.Laws.{one-result, not-both, clear-one, clear-both, first-place, refusal-front, refusal-back, others, RowByRow, Alike, alike-clear, alike-refusal}

@@ -11,7 +11,7 @@ use borrow.Rule.Slice.PartMut.{midOf, putMid}
 use Rattle.laws.specs.Laid.{laid-length}
 use Rattle.refusal.specs.document.Table.{Clear, Outcome, gives, refuses, kept, left}
 use Rattle.texts.specs.document.Text.{Format, LineAnswers, TextAnswers}
-use Rattle.texts.specs.document.Lent.{Lent, block, blocks, Taken, none, unfinished, next}
+use Rattle.texts.specs.document.Lent.{block, blocks, Taken, none, unfinished, next}
 use Rattle.texts.specs.Judging.{judged}
 use Rattle.texts.specs.Sound.{Once}
 use Rattle.texts.specs.Cuts.{cut-once, cut-some, not-free}

@@ -1,9 +1,8 @@
 -- Numbers of any length, without leading zeros. In order: what such a number is; it says one number; up to 99 it is a count. Assumes nothing.
-use mathlib.Core.Path.{_≡_, refl, sym, ap, _∙_}
+use mathlib.Core.Path.{_≡_, sym, ap, _∙_}
 use mathlib.Core.List.{List, [], _∷_}
-use Prim.Native.Nat.{ℕ, zero, suc, _+_, _*_, _≤_, _<_}
+use Prim.Native.Nat.{ℕ, _+_, _*_, _≤_}
 use native.Mathlib.Omega.{arith}
-use lib.ListN.{length}
 use Rattle.texts.specs.document.Numerals.{figures, decimal, Digits, IsCount, one-digit, two-digits}
 use Rattle.texts.specs.Numerals.{same-figures, decimal-counts, count-decimal, marks-figures}
 use Rattle.texts.specs.Spaced.{Marks}

@@ -3,12 +3,11 @@
 use mathlib.Core.Path.{_≡_, refl, sym, ap, ap₂, subst, _∙_}
 use mathlib.Core.Logic.{inl, inr}
 use mathlib.Core.List.{List, [], _∷_, _++_}
-use Prim.Native.Nat.{ℕ, _≤_, _<_}
+use Prim.Native.Nat.{ℕ, _≤_}
 use native.Mathlib.Omega.{arith}
-use lib.ListN.{length}
 use Rattle.laws.specs.document.Laid.{laidOver}
 use Rattle.refusal.specs.document.Table.{Clear, FirstRefusal, Outcome, gives, refuses, kept, left}
-use Rattle.refusal.specs.Laws.{one-result, clear-one, first-place, clear-left, clear-both, refusal-front, refusal-back, refusal-before}
+use Rattle.refusal.specs.Laws.{one-result, clear-one, first-place, clear-left, clear-both, refusal-back, refusal-before}
 use Rattle.texts.specs.document.Text.{Format, Shaped, lineRows, LineAnswers}
 use Rattle.texts.specs.document.Lent.{Lent, Has, Short, EachArea, block, counted, lineRow15, Hands, ReadsLine}
 use Rattle.texts.specs.Judging.{judged}
