@@ -29,7 +29,7 @@ use Rattle.texts.specs.Theorems as Texts
 use Rattle.texts.specs.Turns.{AllRoom}
 use Rattle.lines.specs.document.Line.{Front, row3-line, row5-line}
 use Rattle.lines.specs.Plain.{same-front}
-use Rattle.named_lines.specs.Named.{Named, Letter, namedBody, Parts, NamedFormed, Matches, row21, carried, partsOf, namedLines, namedLent}
+use Rattle.named_lines.specs.Named.{Named, Letter, namedBody, Parts, NamedFormed, Matches, row21, carried, partsOf, namedLines, namedLent, NamedTextRead}
 
 -- ---- the letters and their counts
 
@@ -295,6 +295,13 @@ module _ (most : ℕ) (rows : List (PartRow Named)) where
         (cs : List Named) (x y z u : List ℕ) (os : List (Outcome Named)) → Accepted (namedLines most rows) cs → textOf namedBody cs ≡ x ++ (10 ∷ y)
         → u ≡ z ++ (10 ∷ y) → TextAnswers (namedLines most rows) u os → Recovers (namedLines most rows) cs y z os
     named-recovers = Texts.recovers (namedLines most rows) named-sound
+
+    -- the first sentence, of a reader of the whole text into the two areas
+    pub named-one-byte-read :
+        (cs : List Named) (u : List ℕ) {rec lets num pla rec′ lets′ num′ pla′ : List ℕ} {k at : ℕ}
+        (g : NamedTextRead most rows most u rec lets num pla rec′ lets′ num′ pla′ k at) → at ≡ length u → Accepted (namedLines most rows) cs
+        → Change (textOf namedBody cs) u → Robust cs (g .read .answers)
+    named-one-byte-read cs u g e a c = Texts.one-byte-read (namedLines most rows) named-sound (namedLent most) cs u g e a c
 
   -- both areas have room for what they show, where each has N bytes for the largest N
   pub named-room : AllRoom (namedLines most rows) most (namedLent most .views)
