@@ -1,2 +1,2 @@
--- The centre by peeling: what the parts of the code promise each other. Assumes nothing.
-pub mod Peeling
+-- What the parts of the centre finder promise each other. Assumes nothing.
+pub mod Walking

@@ -1,20 +1,23 @@
-// The centre of a skeleton: leaves are peeled off a copy of its table, round by round, until one vertex is left, or two.
+// The centre of a skeleton: a longest path is walked, from a vertex that is farthest from vertex 1 to one that is farthest from it, and
+// the centre is its middle.
 //
-// The copy holds what is left. A list of vertices has those that are off, in front, and behind them the leaves of what is left: a round
-// takes off just these, and each vertex that it makes a leaf goes to the end of the list. So no vertex is looked at twice as a leaf.
+// A walk lists the vertices in the order in which it finds them, those near its source first. For each it notes the vertex that it was
+// found from, at the vertex's own number: the source leads to itself, and 0 says that a vertex is not found yet. So the last found is a
+// farthest one, and the notes lead from it to the source.
 use edge_list::wide;
 use limits::SIZE;
 use limits::WIDTH;
 ghost use mathlib.Core.Path.{_≡_};
-ghost use mathlib.Core.List.{List, List·Memᴰ};
-ghost use Prim.Native.Nat.{ℕ, _≤_, _<_};
-ghost use lib.ListN.{length, take};
-ghost use Rattle.limits.specs.document.Limits.{size};
+ghost use mathlib.Core.List.{List, _∷_};
+ghost use Prim.Native.Nat.{ℕ, suc, _≤_, _<_};
 ghost use Rattle.limits.specs.Width.{width};
 ghost use Rattle.skeleton.specs.document.Skeleton.{IsTree};
-ghost use Rattle.longest_path.specs.document.Path.{IsCentre};
-ghost use Rattle.edge_list.specs.Table.{Shaped, IsTable, Held};
-ghost use Rattle.centre.specs.Peeling.{Copy, Round, Peelable, Without, Linked, Unlinked, Pushed, Leaves};
+ghost use Rattle.longest_path.specs.document.Path.{middle₁, middle₂, IsCentre};
+ghost use Rattle.edge_list.specs.Table.{IsTable, Held};
+ghost use Rattle.centre.specs.Walking.{Starts, Ground, Spread, Next, Visit, Reached, Trail, Trailed};
+
+// Places for the notes of a walk, from 0 to the last vertex.
+const NOTES: usize = SIZE + 1;
 
 // The centre: its one vertex twice, or its two.
 pub struct Middles {
@@ -22,118 +25,91 @@ pub struct Middles {
     pub second: usize,
 }
 
-// The row without v, which is one of its first m: the last of these takes its place.
-fn without(row: [u8; WIDTH], m: usize, v: u8) -> [u8; WIDTH]
+// The neighbours of v, the first m of its row, are found from v where they are not found yet; how many are found then.
+fn visit(
+    row: [u8; WIDTH],
+    m: usize,
+    v: u8,
+    o: &mut [u8; SIZE],
+    up: &mut [u8; NOTES],
+    e: usize,
+) -> usize
     requires { ⌜ m ≤ width ⌝ }
-    requires { ⌜ List·Memᴰ v (take m row) ⌝ }
-    ensures { λ r. ⌜ Without row m v r ⌝ }
+    requires { ⌜ Visit row m (now o) (now up) v e ⌝ }
+    ensures { λ r. ⌜ ((N s h : ℕ) (E : List ℕ) (g : Ground N E s) → Next g row m (now (o .entry)) (now (up .entry)) v h e → Spread g (now (o .exit)) (now (up .exit)) (suc h) r) ⌝ }
 {
-    let mut r = row;
+    let mut b = e;
     let mut j: usize = 0;
-    while r[j] != v {
+    while j < m {
+        let w = row[j];
+        let x = wide(w);
         j += 1;
-    }
-    r[j] = r[m - 1];
-    r
-}
-
-// v goes off the row of w.
-fn unlink(t: &mut [[u8; WIDTH]; SIZE], d: &mut [u8; SIZE], w: usize, v: u8)
-    requires { ⌜ Shaped (now t) (now d) ⌝ }
-    requires { ⌜ Linked v w (now t) (now d) ⌝ }
-    ensures { λ _. ⌜ Unlinked v w (now (t .entry)) (now (d .entry)) (now (t .exit)) (now (d .exit)) ⌝ }
-{
-    let i = w - 1;
-    let m = wide(d[i]);
-    let r = without(t[i], m, v);
-    t[i] = r;
-    d[i] -= 1;
-}
-
-// w goes to the end of the list where it has one neighbour left.
-fn push(q: &mut [u8; SIZE], b: usize, w: u8, left: u8) -> usize
-    requires { ⌜ length (now q) ≡ size ⌝ }
-    requires { ⌜ (left ≡ 1 → b < size) ⌝ }
-    ensures { λ r. ⌜ Pushed w left b (now (q .entry)) (now (q .exit)) r ⌝ }
-{
-    if left != 1 {
-        return b;
-    }
-    q[b] = w;
-    b + 1
-}
-
-// The leaves of a table, listed; the number of them.
-fn leaves(d: &[u8; SIZE], n: usize, q: &mut [u8; SIZE]) -> usize
-    requires { ⌜ (length (now d) ≡ size) × (length (now q) ≡ size) × (n ≤ size) ⌝ }
-    ensures { λ r. ⌜ Leaves n (now (d .entry)) (now (q .exit)) r ⌝ }
-{
-    let mut b: usize = 0;
-    let mut i: usize = 0;
-    while i < n {
-        let k = d[i];
-        i += 1;
-        if k < 2 {
-            q[b] = i as u8;
+        if up[x] == 0 {
+            up[x] = v;
+            o[b] = w;
             b += 1;
         }
     }
     b
 }
 
-// The leaves of the list from a to e go off the copy; those that the round makes stand behind them, to the end that is the result.
-fn round(
-    t: &mut [[u8; WIDTH]; SIZE],
-    d: &mut [u8; SIZE],
-    q: &mut [u8; SIZE],
-    a: usize,
-    e: usize,
-) -> usize
-    requires { ⌜ Peelable (now t) (now d) (now q) a e ⌝ }
-    ensures { λ r. ⌜ ((N : ℕ) → Copy N (now (t .entry)) (now (d .entry)) (now (q .entry)) a e → Round N (now (t .entry)) (now (d .entry)) (now (q .entry)) e (now (t .exit)) (now (d .exit)) (now (q .exit)) e r) ⌝ }
+// A vertex that is farthest from s; the notes lead from it to s.
+fn walk(rows: &[[u8; WIDTH]; SIZE], degs: &[u8; SIZE], n: usize, s: u8, up: &mut [u8; NOTES]) -> u8
+    requires { ⌜ Held n (now rows) (now degs) ⌝ }
+    requires { ⌜ Starts n s (now up) ⌝ }
+    ensures { λ r. ⌜ ((E : List ℕ) → IsTree n E → IsTable n E (now (rows .entry)) (now (degs .entry)) → Reached n E s (now (up .exit)) r) ⌝ }
 {
-    let mut b = e;
-    let mut i = a;
-    while i < e {
-        let v = q[i];
-        let near = t[wide(v) - 1];
-        let w = near[0];
-        let x = wide(w);
-        unlink(t, d, x, v);
-        b = push(q, b, w, d[x - 1]);
-        i += 1;
+    let mut o = [0u8; SIZE];
+    o[0] = s;
+    up[wide(s)] = s;
+    let mut e: usize = 1;
+    let mut h: usize = 0;
+    while e < n {
+        let v = o[h];
+        let i = wide(v) - 1;
+        let m = wide(degs[i]);
+        e = visit(rows[i], m, v, &mut o, up, e);
+        h += 1;
     }
-    b
+    o[e - 1]
 }
 
-// The centre of the skeleton whose table this is. Its rows and degrees are copied, and leaves are peeled off the copy.
+// The middle of the path from v along the notes: one goes two steps while another goes one.
+fn middle(up: &[u8; NOTES], v: u8) -> Middles
+    requires { ⌜ Trailed (now up) v ⌝ }
+    ensures { λ r. ⌜ ((p : List ℕ) → Trail (now (up .entry)) v p → (r .first ≡ middle₁ (v ∷ p)) × (r .second ≡ middle₂ (v ∷ p))) ⌝ }
+{
+    let mut slow = wide(v);
+    let mut fast = slow;
+    loop {
+        let a = wide(up[fast]);
+        if a == fast {
+            return Middles {
+                first: slow,
+                second: slow,
+            };
+        }
+        let next = wide(up[slow]);
+        let b = wide(up[a]);
+        if b == a {
+            return Middles {
+                first: slow,
+                second: next,
+            };
+        }
+        slow = next;
+        fast = b;
+    }
+}
+
+// The centre of the skeleton whose table this is.
 pub fn centre(rows: &[[u8; WIDTH]; SIZE], degs: &[u8; SIZE], n: usize) -> Middles
     requires { ⌜ Held n (now rows) (now degs) ⌝ }
     ensures { λ r. ⌜ ((E : List ℕ) → IsTree n E → IsTable n E (now (rows .entry)) (now (degs .entry)) → IsCentre n E (r .first) (r .second)) ⌝ }
 {
-    let mut t = *rows;
-    let mut d = *degs;
-    let mut q = [0u8; SIZE];
-    let mut a: usize = 0;
-    let mut e = leaves(&d, n, &mut q);
-    loop {
-        let v = wide(q[a]);
-        if d[v - 1] == 0 {
-            return Middles {
-                first: v,
-                second: v,
-            };
-        }
-        let near = t[v - 1];
-        let w = wide(near[0]);
-        if d[w - 1] == 1 {
-            return Middles {
-                first: v,
-                second: w,
-            };
-        }
-        let b = round(&mut t, &mut d, &mut q, a, e);
-        a = e;
-        e = b;
-    }
+    let mut up = [0u8; NOTES];
+    let u = walk(rows, degs, n, 1, &mut up);
+    up = [0u8; NOTES];
+    let v = walk(rows, degs, n, u, &mut up);
+    middle(&up, v)
 }

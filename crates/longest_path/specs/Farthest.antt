@@ -47,7 +47,7 @@ past-first : (m x : ℕ) (l : List ℕ) → Once (m ∷ x ∷ l) → NotFirst m 
 past-first m x [] o = tt
 past-first m x (y ∷ l) o = λ e. o .0 (List·Memᴰ·tail (List·Memᴰ·head e))
 
-pub last-in : (v : ℕ) (p : List ℕ) → Last v p → List·Memᴰ v p
+last-in : (v : ℕ) (p : List ℕ) → Last v p → List·Memᴰ v p
 last-in v [] l = absurd l
 last-in v (x ∷ []) l = List·Memᴰ·head (sym l)
 last-in v (x ∷ y ∷ p) l = List·Memᴰ·tail (last-in v (y ∷ p) l)

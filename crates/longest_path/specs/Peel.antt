@@ -89,7 +89,7 @@ module _ (N : ℕ) (E : List ℕ) (t : IsTree N E) (A : ℕ → Type 0) where
           (b, i, rw (reverse-cons, ← e, reverse-reverse) at (path-reverse N E (b ∷ x ∷ r) g))
 
   -- a vertex of a path in A between two others has two neighbours in A
-  pub midst : (x y z : ℕ) (p : List ℕ) → Joined (arcs E) (x ∷ y ∷ z ∷ p) → Once (x ∷ y ∷ z ∷ p) → Within A (x ∷ y ∷ z ∷ p) → Two E A y
+  midst : (x y z : ℕ) (p : List ℕ) → Joined (arcs E) (x ∷ y ∷ z ∷ p) → Once (x ∷ y ∷ z ∷ p) → Within A (x ∷ y ∷ z ∷ p) → Two E A y
   midst x y z p j o a = record {
     one = x;
     other = z;
