@@ -112,28 +112,41 @@ unsigned code_rooted(const struct tree *t, unsigned root, uint8_t *order, uint8_
     return looked;
 }
 
-/* The middle of the longest paths, one vertex twice or two: leaves are taken off, round by round. */
-static void centre(const struct tree *t, unsigned *first, unsigned *second) {
-    uint8_t degree[SIZE + 1], queue[SIZE];
-    unsigned from = 0, to = 0, left = t->n;
-    memcpy(degree, t->degree, sizeof degree);
-    for (unsigned v = 1; v <= t->n; v++)
-        if (degree[v] < 2)
-            queue[to++] = (uint8_t)v;
-    while (left > 2) {
-        unsigned end = to;
-        left -= end - from;
-        for (; from < end; from++) {
-            unsigned v = queue[from];
-            for (unsigned i = 0; i < t->degree[v]; i++) {
-                unsigned w = t->near[v][i];
-                if (--degree[w] == 1)
-                    queue[to++] = (uint8_t)w;
+/* Breadth first from s to the vertex found last, which is a farthest one. `up` gets the vertex that each was found from, s for s itself; in a tree all
+ * neighbours but that one are new. */
+static unsigned farthest(const struct tree *t, unsigned s, uint8_t *up) {
+    uint8_t queue[SIZE];
+    unsigned from = 0, to = 1;
+    queue[0] = up[s] = (uint8_t)s;
+    while (to < t->n) {
+        unsigned v = queue[from++], parent = up[v];
+        for (unsigned i = 0; i < t->degree[v]; i++) {
+            unsigned w = t->near[v][i];
+            if (w != parent) {
+                up[w] = (uint8_t)v;
+                queue[to++] = (uint8_t)w;
             }
         }
     }
-    *first = queue[from];
-    *second = queue[to - 1];
+    return queue[to - 1];
+}
+
+/* The middle of a longest path, one vertex twice or two. A vertex that is farthest from any one ends such a path, and a vertex farthest from that is its other end;
+ * `fast` goes back along it two steps at a time, and `slow` one. */
+static void centre(const struct tree *t, unsigned *first, unsigned *second) {
+    uint8_t up[SIZE + 1];
+    unsigned fast = farthest(t, farthest(t, 1, up), up), slow = fast;
+    while (up[fast] != fast) {
+        fast = up[fast];
+        if (up[fast] == fast) {
+            *first = slow;
+            *second = up[slow];
+            return;
+        }
+        fast = up[fast];
+        slow = up[slow];
+    }
+    *first = *second = slow;
 }
 
 void code_centred(const struct tree *t, uint8_t *out) {

@@ -27,7 +27,7 @@
 #include <stddef.h>
 #include <stdint.h>
 
-#define ZK_VERSION "0.3.0"
+#define ZK_VERSION "0.3.1"
 
 /* Sizes to lend, in bytes: with so much room no call answers 15, whatever it is handed. */
 #define ZK_DIGITS 64 /* the digits of a code or a line, or the classes of vertices: N */
