@@ -46,7 +46,13 @@ fn hand_out(n1: usize, edges1: &[u8], n2: usize, edges2: &[u8], out: &mut [u8]) 
 }
 
 // The renumbering of the first edge list onto the second, where they are the same skeleton; else nothing is written.
-pub fn renumbering(n1: usize, edges1: &[u8], n2: usize, edges2: &[u8], out: &mut [u8]) -> ReportedMapping
+pub fn renumbering(
+    n1: usize,
+    edges1: &[u8],
+    n2: usize,
+    edges2: &[u8],
+    out: &mut [u8],
+) -> ReportedMapping
     ensures { λ r. ⌜ Reporting (HandOut n1 (now (edges1 .entry)) n2 (now (edges2 .entry)) (now (out .entry)) (now (out .exit))) (OfBoth n1 (now (edges1 .entry)) n2 (now (edges2 .entry))) (mapped (r .answer)) (r .pairs) ⌝ }
 {
     if let Check::Refuse(k, p) = edge_list::check(SIZE, VALENCE, n1, edges1, 1) {
