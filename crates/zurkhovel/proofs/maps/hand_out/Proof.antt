@@ -42,6 +42,6 @@ hand-out-spec =
     (λ c. search needs)
     (λ c. search needs)
     (λ c. search needs)
-    (λ c. let d = c .before .before .before .before .before in record { promised = found d (c .before .k .given .1); reported = looked d })
+    (λ c. let d = c .before .before .before .before .before in record { promised = found d (c .before .found .given .1); reported = looked d })
     (λ c. search needs)
-    (λ c. record { promised = found (c .before .before .before .before .before) (c .before .k2 .given .1); reported = refl }))
+    (λ c. record { promised = found (c .before .before .before .before .before) (c .before .found2 .given .1); reported = refl }))
