@@ -43,6 +43,9 @@ held c = let s = start c in record { edges = now (s .args .edges); skeleton = s 
 centre : (c : tie.After-middles) → let s = start (filled c) in IsCentre (s .args .n) (now (s .args .edges)) (c .middles .result .first) (c .middles .result .second)
 centre c = let f = filled c in let s = start f in c .middles .ensures .1 (now (s .args .edges)) (s .pre .0 .tree) (f .fill .ensures)
 
+upward : (c : tie.After-middles) → c .middles .result .first ≤ c .middles .result .second
+upward c = c .middles .ensures .0
+
 abbrev one : tie.After-middles → ℕ
 one c = c .middles .result .first
 
@@ -54,9 +57,6 @@ one-inside c = centre-inside _ _ (start (filled c) .pre .0 .tree) _ _ (centre c)
 
 other-inside : (c : tie.After-middles) → (1 ≤ other c) × (other c ≤ start (filled c) .args .n)
 other-inside c = centre-inside _ _ (start (filled c) .pre .0 .tree) _ _ (centre c) .1
-
-upward : (c : tie.After-middles) → one c ≤ other c
-upward c = c .middles .ensures .0
 
 -- they are two
 two : (c : tie.After-rooted2) → let m = middle (first (differ c)) in one m ≡ other m → ⊥
@@ -135,5 +135,5 @@ numbered-spec =
     let y = c .before .before .before in
     let m = middle y in
     let s = start (filled m) .pre .0 in
-    let e : one m ≡ other m = c .if1 .left in
+    let e : one m ≡ m .middles .result .second = c .if1 .left in
     (y .rooted .ensures .0, (one-middle (s .tree) (centre m) (upward m) _ _ (coded y .0) (coded y .1) e, one-summed s (centre m) (coded y .2) e))))
