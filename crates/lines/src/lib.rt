@@ -1,5 +1,5 @@
-// Lines: the form of a line, found and written; a line and a text, read. What a line is stands in specs/Line.antt, what the functions
-// on its form promise in specs/Form.antt, and what reading promises in specs/Reading.antt.
+// Lines: the form of a line, found and written; a line and a text, read. What a line is stands in specs/document/Line.antt, what the
+// functions on its form promise in specs/Form.antt, and what reading promises in specs/document/Reading.antt.
 use limits::SIZE;
 use refusal::Answer;
 use refusal::Check;
@@ -12,11 +12,14 @@ ghost use Rattle.limits.specs.document.Limits.{size};
 ghost use Rattle.refusal.specs.document.Table.{row3};
 ghost use Rattle.refusal.specs.Checks.{Answers};
 ghost use Rattle.refusal.specs.document.Outcome.{told};
-ghost use Rattle.lines.specs.document.Line.{Digits, figures, decimal, line};
-ghost use Rattle.lines.specs.Judging.{judged};
+ghost use Rattle.texts.specs.document.Numerals.{Digits, figures, decimal};
+ghost use Rattle.texts.specs.document.Lent.{numberOf, placeOf};
+ghost use Rattle.texts.specs.Judging.{judged};
+ghost use Rattle.texts.specs.Ending.{UpTo, Behind};
+ghost use Rattle.lines.specs.document.Line.{line};
 ghost use Rattle.lines.specs.document.Judged.{digitTable};
-ghost use Rattle.lines.specs.document.Reading.{LineRead, numberOf, placeOf, TextRead};
-ghost use Rattle.lines.specs.Form.{Behind, Room, UpTo, Value, values, Figured, Opens, Forms, Located};
+ghost use Rattle.lines.specs.document.Reading.{LineRead, TextRead};
+ghost use Rattle.lines.specs.Form.{Room, Value, values, Figured, Opens, Forms, Located};
 ghost use Rattle.lines.specs.document.Marks.{WrittenDigits};
 
 // How a line begins.

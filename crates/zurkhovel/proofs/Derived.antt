@@ -17,8 +17,7 @@ use Rattle.edge_list.specs.document.Edges.{edgeRows}
 use Rattle.form.specs.document.Form.{centred, ofCentred}
 use Rattle.form.specs.Forms.{centred-form, form-size}
 use Rattle.form.specs.Accepted.{form-accepted}
-use Rattle.lines.specs.Damage.{Code}
-use Rattle.lines.specs.Lawful.{lawful}
+use Rattle.lines.specs.Lawful.{Code, lawful}
 use Rattle.zurkhovel.specs.Accepted.{skeleton-of}
 
 -- what was written is the centred code

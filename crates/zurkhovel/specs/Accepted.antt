@@ -16,8 +16,11 @@ use Rattle.edge_list.specs.Theorems.{accepted}
 use Rattle.form.specs.document.Form.{centred}
 use Rattle.form.specs.Forms.{centred-form, form-size}
 use Rattle.form.specs.Accepted.{form-accepted}
-use Rattle.lines.specs.Damage.{Accept}
+use Rattle.texts.specs.Damage.{Accept}
+use Rattle.texts.specs.Sound.{Sound}
+use Rattle.lines.specs.document.Line.{plainLines}
 use Rattle.lines.specs.document.Judged.{digitTable}
+use Rattle.lines.specs.Judged.{table-sound, table-accept}
 
 pub skeleton-of : {most N r : ℕ} {E : List ℕ} → Clear (edgeRows most valence N E r) → IsSkeleton most valence N E
 skeleton-of {most} {N} {r} {E} k = accepted most valence N E r .0 k .0
@@ -45,7 +48,12 @@ wider h s = record { tree = s .tree; few = omega (arith, s .few); degrees = s .d
 pub plain-rows : {most N : ℕ} {E : List ℕ} → IsSkeleton most valence N E → Clear (edgeRows most valence N E 1)
 plain-rows {most} {N} {E} s = accepted most valence N E 1 .1 (s, (omega arith, omega (arith, s .tree .edges)))
 
+-- lines of centred codes are a sound format
+pub lines-sound : Sound (plainLines size (digitTable valence))
+lines-sound = table-sound valence (omega arith)
+
 -- a skeleton's centred code is one that a line may carry
-pub centred-accepted : {N : ℕ} {E c : List ℕ} → IsSkeleton size valence N E → centred N E c → Accept size (digitTable valence) c
+pub centred-accepted : {N : ℕ} {E c : List ℕ} → IsSkeleton size valence N E → centred N E c → Accept (plainLines size (digitTable valence)) c
 centred-accepted {N} {E} {c} s x =
-    record { few = omega (arith, form-size centred centred-form N E c (s .tree) x, s .few); clear = others (form-accepted centred centred-form size valence c N E s x) }
+    table-accept valence (omega arith) c (omega (arith, form-size centred centred-form N E c (s .tree) x, s .few))
+    (others (form-accepted centred centred-form size valence c N E s x))

@@ -27,9 +27,12 @@ use Rattle.adjacency.specs.document.Adjacency.{row14-physical, camEdges, factor
 use Rattle.adjacency.specs.Made.{made-length, long}
 use Rattle.adjacency.specs.Zero.{zero-length}
 use Rattle.adjacency.specs.Accepted.{aFront, a-long}
-use Rattle.lines.specs.document.Line.{Shaped, Where, frontRows, ofLine, lineRows}
+use Rattle.texts.specs.document.Text.{through, Shaped, Where, ofLine, lineRows}
+use Rattle.texts.specs.document.Lent.{lineRow15}
+use Rattle.lines.specs.document.Line.{Front, Formed, plainLines}
 use Rattle.lines.specs.document.Judged.{digitTable}
-use Rattle.lines.specs.document.Reading.{lineRow15}
+use Rattle.lines.specs.document.Reading.{digitsLent}
+use Rattle.lines.specs.Form.{frontRows}
 use Rattle.zurkhovel.specs.document.Matrix.{physicalRows}
 
 -- ---- edge lists
@@ -150,29 +153,33 @@ physical-bounded {most} h N E =
 
 -- where 1, 2, 3 and 5 do not apply, it has at most 64 digits
 module _ (t : List ℕ) (k : Clear (frontRows size t)) where
-  pub line-digits : (n : ℕ) (ds : List ℕ) → Shaped t n ds → length ds ≤ size
-  line-digits n ds s = step (ℕ-discrete (length ds) n) (decLe n size)
+  pub line-digits : (q : Front) → Shaped Formed t q → length (q .digits) ≤ size
+  line-digits q s = step (ℕ-discrete (length (q .digits)) (q .count)) (decLe (q .count) size)
     where
-      step : Dec (length ds ≡ n) → Dec (n ≤ size) → length ds ≤ size
+      step : Dec (length (q .digits) ≡ q .count) → Dec (q .count ≤ size) → length (q .digits) ≤ size
       step (yes e) (yes l) = omega arith
-      step (yes e) (no m) = absurd (never (others (others k)) 0 (refl, record { count = n; digits = ds; shape = s; holds = inr (omega arith) }))
-      step (no m) d = absurd (never (others (others (others k))) 0 (refl, record { count = n; digits = ds; shape = s; holds = m }))
+      step (yes e) (no m) = absurd (never (others (others k)) 0 (record { parts = q; shape = s; holds = (refl, inr (omega arith)) }))
+      step (no m) d = absurd (never (others (others (others k))) 0 (record { parts = q; shape = s; holds = (refl, m) }))
 
   -- so a row about them applies there too
-  at-digit :
-      {P : ℕ → ℕ → List ℕ → Type 0} → ((p n : ℕ) (ds : List ℕ) → P p n ds → p ≤ length ds) → (p : ℕ) → Where t (P p) → p < byteValues
-  at-digit f p w = omega (arith, f p (w .count) (w .digits) (w .holds), line-digits (w .count) (w .digits) (w .shape))
+  at-digit : {P : ℕ → Front → Type 0} → ((p : ℕ) (q : Front) → P p q → p ≤ length (q .digits)) → (p : ℕ) → Where Formed t (P p) → p < byteValues
+  at-digit f p w = omega (arith, f p (w .parts) (w .holds), line-digits (w .parts) (w .shape))
 
-pub line-bounded : (t : List ℕ) (lent : ℕ) → Bounded (lineRows size (digitTable valence) t ++ (lineRow15 t lent ∷ []))
-line-bounded t lent =
-    bounded-both (frontRows size t) (map (ofLine t) (digitTable valence) ++ (lineRow15 t lent ∷ [])) (bounded-rows refl (at-0, (at-0, (at-0, (at-0, tt))))) (λ k.
+-- the rows of its digits, and 15
+abbrev pub behindFront : List ℕ → List ℕ → List Row
+behindFront t old =
+    map (ofLine Formed t) (map (through (λ q. q .digits)) (digitTable valence)) ++ (lineRow15 (plainLines size (digitTable valence)) (digitsLent size) t (old ∷ []) ∷ [])
+
+pub line-bounded : (t old : List ℕ) → Bounded (lineRows (plainLines size (digitTable valence)) t ++ (lineRow15 (plainLines size (digitTable valence)) (digitsLent size) t (old ∷ []) ∷ []))
+line-bounded t old =
+    bounded-both (frontRows size t) (behindFront t old) (bounded-rows refl (at-0, (at-0, ((λ p w. at-0 p (w .holds)), ((λ p w. at-0 p (w .holds)), tt))))) (λ k.
     bounded-rows refl (
-      at-digit t k (λ p n ds a. a .1),
+      at-digit t k (λ p q a. a .1),
       (
-        at-digit t k (λ p n ds a. a .0),
+        at-digit t k (λ p q a. a .0),
         (
-          at-digit t k (λ p n ds a. omega (arith, a .0)),
-          (at-digit t k (λ p n ds a. larger-within plain ds p a), (at-digit t k (λ p n ds a. omega (arith, a .0)), (at-digit t k (λ p n ds a. omega (arith, a .0)), tt))),
+          at-digit t k (λ p q a. omega (arith, a .0)),
+          (at-digit t k (λ p q a. larger-within plain (q .digits) p a), (at-digit t k (λ p q a. omega (arith, a .0)), (at-digit t k (λ p q a. omega (arith, a .0)), tt))),
         ),
       ),
     ))

@@ -1,4 +1,4 @@
--- The statements of `Demand`, proved: of what a caller sees by `Seen`, of the answers by the theorems of the crate `lines`. Assumes nothing.
+-- The statements of `Demand`, proved: of what a caller sees by `Seen`, of the answers by the theorems of the crate `texts`. Assumes nothing.
 use mathlib.Core.Path.{_≡_, refl, sym, ap, ap₂, subst, _∙_}
 use mathlib.Core.List.{List, [], _∷_, _++_, map, map-append, append-nil}
 use Prim.Native.Nat.{ℕ, zero, suc, _+_, _*_, _≤_, _<_}
@@ -10,25 +10,25 @@ use Rattle.refusal.specs.Giving.{gave, must-give}
 use Rattle.limits.specs.document.Limits.{size, valence}
 use Rattle.form.specs.document.Form.{centred}
 use Rattle.form.specs.Forms.{centred-form, form-size}
-use Rattle.lines.specs.document.Line.{line, written, TextAnswers, Reply}
-use Rattle.lines.specs.Bodies.{line-short}
-use Rattle.lines.specs.Records.{records-given, records-before, records-refusals}
-use Rattle.lines.specs.Damage.{Accepted}
-use Rattle.lines.specs.document.Damage.{records, refusals}
-use Rattle.lines.specs.document.Reading.{counted}
-use Rattle.lines.specs.Judged.{lawful-table}
+use Rattle.texts.specs.document.Text.{textOf, TextAnswers}
+use Rattle.texts.specs.document.Damage.{records, refusals}
+use Rattle.texts.specs.document.Lent.{counted}
+use Rattle.texts.specs.Damage.{Accepted}
+use Rattle.texts.specs.Records.{records-given, records-before, records-refusals}
+use Rattle.texts.specs.Theorems as Texts
+use Rattle.lines.specs.document.Line.{line, written, plainLines, Reply}
 use Rattle.lines.specs.document.Judged.{digitTable}
-use Rattle.lines.specs.Theorems as Lines
+use Rattle.lines.specs.Plain.{line-short, plain-once}
 use Rattle.zurkhovel.specs.document.Lines.{ReadText, zeros, Counted}
-use Rattle.zurkhovel.specs.Accepted.{skeleton-of, centred-accepted}
+use Rattle.zurkhovel.specs.Accepted.{skeleton-of, lines-sound, centred-accepted}
 use Rattle.zurkhovel.specs.document.Demand.{Clean, none, one-more, GivesALine, GivesEachLine, CleanLines, InTurns, ended, turn, handedOut, OneCall, TurnsAgree, CountsAdd, CleanText, OneByteChanged, AnyDamage, linesIn, AnswersEachLine, ReachesTheEnd, GetsOn, TurnsEnd}
 use Rattle.zurkhovel.specs.Seen.{numbersOf, placesOf, Shows, Seen, seen, answered, counts-records, refusal-shows, taken-none-zero, lines-taken, lines-answered, lines-some}
 
 -- ---- the clean text
 
 -- it is the lines of the records written, which are accepted
-clean-written : {t : List ℕ} {cs : List (List ℕ)} → Clean t cs → Accepted size (digitTable valence) cs × (t ≡ written cs)
-unfolding written
+clean-written : {t : List ℕ} {cs : List (List ℕ)} → Clean t cs → Accepted (plainLines size (digitTable valence)) cs × (t ≡ written cs)
+unfolding textOf line
 clean-written none = (tt, refl)
 clean-written (one-more {N} {E = E} {c = c} w x h) =
     let (k, (d, y, e), _) = gave w in
@@ -72,7 +72,7 @@ pub turns-agree : TurnsAgree
 turns-agree u ns ps bs ns′ ps′ bs′ a b =
     let s = seen a in
     let r = seen b in
-    let e = Lines.one-reading size (digitTable valence) u (s .answers) (r .answers) (answered s) (answered r) in
+    let e = Texts.one-reading (plainLines size (digitTable valence)) plain-once u (s .answers) (r .answers) (answered s) (answered r) in
     agree (s .shows) (rw (← e) at (r .shows))
 
 zeros-join : (ns ms : List ℕ) → zeros (ns ++ ms) ≡ zeros ns + zeros ms
@@ -116,7 +116,7 @@ pub clean-text : CleanText
 clean-text t ns ps bs cs h r =
     let s = seen r in
     let (a, f) = clean-written h in
-    let e : s .answers ≡ map gives cs = Lines.read-back size (digitTable valence) (omega arith) (lawful-table valence (omega arith)) cs (s .answers) a (subst (λ u. TextAnswers size (digitTable valence) u (s .answers)) f (answered s)) in
+    let e : s .answers ≡ map gives cs = Texts.read-back (plainLines size (digitTable valence)) lines-sound cs (s .answers) a (subst (λ u. TextAnswers (plainLines size (digitTable valence)) u (s .answers)) f (answered s)) in
     let ns-are : ns ≡ replicate (length cs) 0 = s .shows .numbers ∙ ap numbersOf e ∙ numbers-given cs in
     let hs : handedOut ns ps bs ≡ cs = s .shows .handed ∙ ap records e ∙ records-given cs in
     record {
@@ -134,7 +134,7 @@ pub one-byte-changed : OneByteChanged
 one-byte-changed t u ns ps bs cs h c r =
     let s = seen r in
     let (a, f) = clean-written h in
-    let w = Lines.one-byte size (digitTable valence) (omega arith) (lawful-table valence (omega arith)) cs u (s .answers) a (rw f at c) (answered s) in
+    let w = Texts.one-byte (plainLines size (digitTable valence)) lines-sound cs u (s .answers) a (rw f at c) (answered s) in
     record {
       some-refused = subst (λ (ms : List ℕ). (i : ℕ) × (i < length ms) × (getD ms i 0 ≡ 0 → ⊥)) (sym (s .shows .numbers)) (refusal-shows (s .answers) (taken-none-zero (s .taken)) (w .refuses));
       ordered = rw (s .shows .handed) (w .ordered);
@@ -146,7 +146,7 @@ pub any-damage : AnyDamage
 any-damage x y z ns ps bs cs h r =
     let s = seen r in
     let (a, f) = clean-written h in
-    let w = Lines.recovers size (digitTable valence) (omega arith) (lawful-table valence (omega arith)) cs x y z (z ++ (10 ∷ y)) (s .answers) a (sym f) refl (answered s) in
+    let w = Texts.recovers (plainLines size (digitTable valence)) lines-sound cs x y z (z ++ (10 ∷ y)) (s .answers) a (sym f) refl (answered s) in
     let b = w .behind in
     record {
       earlier = w .earlier;
@@ -166,7 +166,7 @@ any-damage x y z ns ps bs cs h r =
           s .shows .handed ∙ ap records (w .ends) ∙ records-before (w .before) b;
       by-itself = λ ns′ ps′ bs′ q.
           let v = seen q in
-          let e = Lines.one-reading size (digitTable valence) (z ++ (10 ∷ [])) (v .answers) (w .before) (answered v) (w .answered) in
+          let e = Texts.one-reading (plainLines size (digitTable valence)) plain-once (z ++ (10 ∷ [])) (v .answers) (w .before) (answered v) (w .answered) in
           (v .shows .numbers ∙ ap numbersOf e, v .shows .places ∙ ap placesOf e, v .shows .handed ∙ ap records e);
     }
 
@@ -202,7 +202,7 @@ reaches-the-end u rec num pla rec′ num′ pla′ k at g h i j = go (decLt at (
     go (yes l) =
         let n = lines-left g in
         let m = before-end g l in
-        absurd (g .stops l (omega arith) (omega arith) (omega arith))
+        absurd (g .stops l (omega arith, tt) (omega arith) (omega arith))
     go (no l) = (omega (arith, lines-left g, at-end g (omega arith)), omega (arith, g .read .within))
 
 pub gets-on : GetsOn
@@ -212,7 +212,7 @@ gets-on t a l = (some, further (decLt 0 (a .at)))
     n = lines-left (a .read)
 
     stuck : a .k ≡ 0 → Dec (a .at < length t) → ⊥
-    stuck e (yes h) = a .read .stops h (omega (arith, a .room)) (omega (arith, a .room)) (omega (arith, a .room))
+    stuck e (yes h) = a .read .stops h (omega (arith, a .room), tt) (omega (arith, a .room)) (omega (arith, a .room))
     stuck e (no h) = omega (arith, n, at-end (a .read) (omega arith), lines-some t l)
 
     some : 1 ≤ a .k

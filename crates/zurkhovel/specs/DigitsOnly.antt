@@ -6,20 +6,19 @@ use mathlib.Core.Path.{_≡_, refl, sym, ap, subst, _∙_}
 use mathlib.Core.Logic.{inl, inr}
 use mathlib.Core.List.{List, [], _∷_, _++_, map-append, append-assoc}
 use Prim.Native.Nat.{ℕ}
-use native.Mathlib.Omega.{arith}
 use lib.ListN.{length, getD, take, length-map}
 use lib.Seq.{getD-at}
 use Rattle.refusal.specs.document.Table.{Outcome, gives, refuses}
 use Rattle.refusal.specs.Giving.{gave}
 use Rattle.limits.specs.document.Limits.{size, valence}
-use Rattle.lines.specs.document.Line.{line, Each, Cut, TextAnswers, none, Reply}
-use Rattle.lines.specs.Judged.{lawful-table}
+use Rattle.texts.specs.document.Bytes.{Each, Cut}
+use Rattle.texts.specs.document.Text.{TextAnswers, none}
+use Rattle.texts.specs.document.Lent.{counted}
+use Rattle.texts.specs.Texts.{first, halves}
+use Rattle.lines.specs.document.Line.{plainLines, Reply}
 use Rattle.lines.specs.document.Judged.{digitTable}
-use Rattle.lines.specs.document.Reading.{counted}
-use Rattle.lines.specs.Answered.{fits}
-use Rattle.lines.specs.Texts.{first, halves}
-use Rattle.lines.specs.Marks.{line-digits, each-allowed, marked-answer, marked-line}
 use Rattle.lines.specs.document.Marks.{Allowed, DigitsOnly, Mark}
+use Rattle.lines.specs.Marks.{line-digits, each-allowed, marked-answer, marked-line}
 use Rattle.zurkhovel.specs.document.Lines.{ReadLine, WriteLine}
 use Rattle.zurkhovel.specs.Accepted.{skeleton-of, centred-accepted}
 use Rattle.zurkhovel.specs.document.Demand.{InTurns, linesIn}
@@ -30,7 +29,7 @@ use Rattle.zurkhovel.specs.document.DigitsOnly.{WholeLines}
 pub write-line-digits : (N : ℕ) (E old new : List ℕ) (n : ℕ) → WriteLine N E old new (gives n) → DigitsOnly (take n new)
 write-line-digits N E old new n w =
     let (k, (c, x, e), _) = gave w in
-    subst DigitsOnly (sym e) (line-digits c (fits size (digitTable valence) (omega arith) (lawful-table valence (omega arith)) (centred-accepted (skeleton-of k) x)))
+    subst DigitsOnly (sym e) (line-digits c (centred-accepted (skeleton-of k) x .formed))
 
 -- so each byte of it is a digit, the space or the line feed
 pub write-line-bytes : (N : ℕ) (E old new : List ℕ) (n : ℕ) → WriteLine N E old new (gives n) → Each Allowed (take n new)
@@ -47,16 +46,16 @@ record Parted (v y : List ℕ) (os : List Reply) : Type 0 where
   pub before : List Reply
   pub after : List Reply
   pub parts : os ≡ before ++ after
-  pub front : TextAnswers size (digitTable valence) v before
-  pub behind : TextAnswers size (digitTable valence) y after
+  pub front : TextAnswers (plainLines size (digitTable valence)) v before
+  pub behind : TextAnswers (plainLines size (digitTable valence)) y after
 
-parted : {v y : List ℕ} {os : List Reply} → WholeLines v → TextAnswers size (digitTable valence) (v ++ y) os → Parted v y os
+parted : {v y : List ℕ} {os : List Reply} → WholeLines v → TextAnswers (plainLines size (digitTable valence)) (v ++ y) os → Parted v y os
 parted {v} {y} {os} (inl e) h =
-    record { before = []; after = os; parts = refl; front = rw e none; behind = subst (λ (u : List ℕ). TextAnswers size (digitTable valence) (u ++ y) os) e h }
+    record { before = []; after = os; parts = refl; front = rw e none; behind = subst (λ (u : List ℕ). TextAnswers (plainLines size (digitTable valence)) (u ++ y) os) e h }
 parted {v} {y} {os} (inr (w, e)) h =
     let q : v ++ y ≡ w ++ (10 ∷ y) = ap (λ (u : List ℕ). u ++ y) e ∙ append-assoc w (10 ∷ []) y in
-    let r = halves size (digitTable valence) w y h q in
-    record { before = r .before; after = r .after; parts = r .parts; front = subst (λ (u : List ℕ). TextAnswers size (digitTable valence) u (r .before)) (sym e) (r .front); behind = r .behind }
+    let r = halves (plainLines size (digitTable valence)) w y h q in
+    record { before = r .before; after = r .after; parts = r .parts; front = subst (λ (u : List ℕ). TextAnswers (plainLines size (digitTable valence)) u (r .before)) (sym e) (r .front); behind = r .behind }
 
 -- in a text, behind the whole lines v, such a line has the number 2 and the place 0
 pub read-text-marked :
@@ -66,7 +65,7 @@ unfolding counted
 read-text-marked v t x y rest m ns ps bs w c k r =
     let s = seen r in
     let p = parted w (answered s) in
-    let f = first size (digitTable valence) c (p .behind) in
+    let f = first (plainLines size (digitTable valence)) c (p .behind) in
     let a : f .answer ≡ refuses 2 0 = marked-answer c x y m refl k valence (f .line) in
     let e : s .answers ≡ p .before ++ (refuses 2 0 ∷ f .others) =
     p .parts ∙ ap (λ os. p .before ++ os) (f .parts ∙ ap (λ o. o ∷ f .others) a) in

@@ -1,7 +1,7 @@
 -- Read from its promise alone, every call on lines, and the call on equal vertices, has one possible result and one possible state of what it
 -- is lent, as in `One`. Assumes nothing.
 use mathlib.Core.Path.{_≡_, sym, ap₂, subst, _∙_}
-use mathlib.Core.List.{List}
+use mathlib.Core.List.{List, [], _∷_}
 use Prim.Native.Nat.{ℕ}
 use native.Mathlib.Omega.{arith}
 use Rattle.refusal.specs.document.Table.{Clear}
@@ -13,9 +13,12 @@ use Rattle.limits.specs.document.Limits.{size, valence}
 use Rattle.edge_list.specs.document.Edges.{edgeRows}
 use Rattle.form.specs.document.Form.{centred}
 use Rattle.form.specs.Forms.{centred-form}
+use Rattle.texts.specs.Theorems as Texts
+use Rattle.lines.specs.document.Line.{plainLines}
 use Rattle.lines.specs.document.Judged.{digitTable}
+use Rattle.lines.specs.document.Reading.{digitsLent}
 use Rattle.lines.specs.declared.Progress.{Progress}
-use Rattle.lines.specs.Theorems as Lines
+use Rattle.lines.specs.Plain.{plain-once}
 use Rattle.listing_text.specs.Theorems as Answers
 use Rattle.orbits.specs.document.Carried.{ClassesOf}
 use Rattle.orbits.specs.Theorems.{one-classes}
@@ -24,16 +27,22 @@ use Rattle.zurkhovel.specs.document.Lines.{ReadLine, WriteLine, ReadText
 use Rattle.zurkhovel.specs.document.Alike.{EqualVertices}
 use Rattle.zurkhovel.specs.Accepted.{tree-of}
 
+-- one area is one thing
+same-only : {a b : List ℕ} → _≡_ {A = List (List ℕ)} (a ∷ []) (b ∷ []) → a ≡ b
+same-only e = cc
+
 pub one-read-line : (t old new new′ : List ℕ) (r s : Answer) → ReadLine t old new (told r) → ReadLine t old new′ (told s) → (r ≡ s) × (new ≡ new′)
-one-read-line t old new new′ r s a b = told-both r s (Lines.one-line size (digitTable valence) t old new new′ (told r) (told s) a b)
+one-read-line t old new new′ r s a b =
+    let (o, e) = Texts.one-line (plainLines size (digitTable valence)) plain-once (digitsLent size) t (old ∷ []) (new ∷ []) (new′ ∷ []) (told r) (told s) a b in
+    told-both r s (o, same-only e)
 
 pub one-read-text :
     (t rec num pla rec₁ num₁ pla₁ rec₂ num₂ pla₂ : List ℕ) (r s : Progress)
     → ReadText t rec num pla rec₁ num₁ pla₁ (r .lines) (r .at) → ReadText t rec num pla rec₂ num₂ pla₂ (s .lines) (s .at)
     → (r ≡ s) × (rec₁ ≡ rec₂) × (num₁ ≡ num₂) × (pla₁ ≡ pla₂)
 one-read-text t rec num pla rec₁ num₁ pla₁ rec₂ num₂ pla₂ r s a b =
-    let (k, at, e, f, g) = Lines.one-text size (digitTable valence) size t rec num pla rec₁ num₁ pla₁ rec₂ num₂ pla₂ (r .lines) (r .at) (s .lines) (s .at) a b in
-    (ap₂ (λ (i j : ℕ). record { lines = i; at = j }) k at, e, f, g)
+    let (k, at, e, f, g) = Texts.one-text (plainLines size (digitTable valence)) plain-once (digitsLent size) t (rec ∷ []) num pla (rec₁ ∷ []) num₁ pla₁ (rec₂ ∷ []) num₂ pla₂ (r .lines) (r .at) (s .lines) (s .at) a b in
+    (ap₂ (λ (i j : ℕ). record { lines = i; at = j }) k at, same-only e, f, g)
 
 pub one-count : (numbers : List ℕ) (r s : Counts) → Counted numbers (r .read) (r .refused) → Counted numbers (s .read) (s .refused) → r ≡ s
 one-count numbers r s a b =

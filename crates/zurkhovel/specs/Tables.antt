@@ -19,9 +19,11 @@ use Rattle.form.specs.document.Form.{formRows}
 use Rattle.bits.specs.document.Bits.{packedRows, wholeRows}
 use Rattle.fraction.specs.document.Fraction.{fractionRows}
 use Rattle.adjacency.specs.document.Adjacency.{camRows, zeroRows, aRows}
-use Rattle.lines.specs.document.Line.{lineRows}
+use Rattle.texts.specs.document.Text.{lineRows}
+use Rattle.texts.specs.document.Lent.{lineRow15}
+use Rattle.lines.specs.document.Line.{plainLines}
 use Rattle.lines.specs.document.Judged.{digitTable}
-use Rattle.lines.specs.document.Reading.{lineRow15}
+use Rattle.lines.specs.document.Reading.{digitsLent}
 use Rattle.zurkhovel.specs.document.Same.{listRows, bothRows}
 use Rattle.zurkhovel.specs.document.Matrix.{physicalRows}
 
@@ -83,11 +85,11 @@ pub physical-checked : (most N : ℕ) (E : List ℕ) → LowestWins (physicalRow
 physical-checked most N E = lowest-number refl
 
 -- read_line
-pub line-written : (t : List ℕ) (lent : ℕ) → LowestWins (lineRows size (digitTable valence) t ++ (lineRow15 t lent ∷ []))
-line-written t lent = lowest-number refl
+pub line-written : (t old : List ℕ) → LowestWins (lineRows (plainLines size (digitTable valence)) t ++ (lineRow15 (plainLines size (digitTable valence)) (digitsLent size) t (old ∷ []) ∷ []))
+line-written t old = lowest-number refl
 
 -- read_text, of each line
-pub line-checked : (t : List ℕ) → LowestWins (lineRows size (digitTable valence) t)
+pub line-checked : (t : List ℕ) → LowestWins (lineRows (plainLines size (digitTable valence)) t)
 line-checked t = lowest-number refl
 
 -- same_skeleton: list i is refused

@@ -7,8 +7,7 @@ use mir.Val.{Fits}
 use borrow.Author.Count.{falls}
 use borrow.Author.Needs.{needs}
 use Rattle.limits.specs.document.Limits.{size}
-use Rattle.lines.specs.Turns.{read-none}
-use Rattle.lines.proofs.Passing.{Going, lengths, room-now, fits, not-past, at-end, no-room, going-more}
+use Rattle.lines.proofs.Passing.{Going, none-read, lengths, room-now, fits, not-past, at-end, no-room, going-more}
 use Rattle.lines.proofs.read_text.Statement.{statement}
 use Rattle.lines.proofs.read_text.Tie as tie
 
@@ -63,7 +62,7 @@ read-text-spec =
     Inv-loop
     μ-loop
     (λ c κs. search needs)
-    (λ c. record { read = read-none size _; room = c .room .ensures; below = omega arith })
+    (λ c. record { read = none-read _ _ _ _ _; room = c .room .ensures; below = omega arith })
     (λ c. lengths (c .before .before .loop .inv) .0)
     (λ c. lengths (c .before .before .loop .inv) .1)
     (λ c. lengths (c .before .before .loop .inv) .2)

@@ -6,7 +6,7 @@
 -- In order: the clean text, and the records written; what a caller sees of a text that is read in turns; what the clean text is answered;
 -- the first sentence; the second; that a caller reaches the end of a text. A statement is an abbreviation here, as `OneByteChanged`, and is
 -- proved in `Demanded`, there `one-byte-changed`. What one changed byte is (`Change`), and records among others in their order (`Among`), is in
--- `Damage` of the crate `lines`. Assumes nothing.
+-- `Damage` of the crate `texts`. Assumes nothing.
 use mathlib.Core.Path.{_≡_}
 use mathlib.Core.Logic.{ite}
 use mathlib.Core.List.{List, [], _∷_, _++_, map}
@@ -18,8 +18,8 @@ use Rattle.refusal.specs.document.Given.{Given}
 use Rattle.limits.specs.document.Limits.{size, valence}
 use Rattle.edge_list.specs.document.Edges.{edgeRows}
 use Rattle.form.specs.document.Form.{centred}
+use Rattle.texts.specs.document.Damage.{Change, Among}
 use Rattle.lines.specs.document.Line.{line, written}
-use Rattle.lines.specs.document.Damage.{Change, Among}
 use Rattle.zurkhovel.specs.document.Lines.{WriteLine, ReadText, Counted}
 
 -- ---- the clean text

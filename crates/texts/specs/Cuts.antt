@@ -6,8 +6,8 @@ use Prim.Native.Nat.{ℕ, _≤_}
 use native.Mathlib.Decide.{ℕ-discrete}
 use native.Mathlib.Omega.{arith}
 use lib.ListN.{length, length-append}
-use Rattle.lines.specs.document.Line.{Other, Free, Cut}
-use Rattle.lines.specs.Each.{each-right}
+use Rattle.texts.specs.document.Bytes.{Other, Free, Cut}
+use Rattle.texts.specs.Each.{each-right}
 
 -- what holds k is not free of it
 pub not-free : (k : ℕ) (s t : List ℕ) → Free k (s ++ (k ∷ t)) → ⊥
@@ -38,14 +38,6 @@ cut-once k t b rest d more u v = go (meet k b rest d more (v .free) (cc))
     go : Meet k b rest d more → (b ≡ d) × (rest ≡ more)
     go (same p q) = (p, q)
     go (further z p q) = absurd (not-free k d z (rw p at (u .free)))
-
--- a list with one k is cut there alone
-pub cut-only : (k : ℕ) (x y b rest : List ℕ) → Free k b → Free k rest → x ++ (k ∷ y) ≡ b ++ (k ∷ rest) → (x ≡ b) × (y ≡ rest)
-cut-only k x y b rest f g e = go (meet k x y b rest f e)
-  where
-    go : Meet k x y b rest → (x ≡ b) × (y ≡ rest)
-    go (same p q) = (p, q)
-    go (further z p q) = absurd (not-free k z y (rw q at g))
 
 -- a list has no k, or a first one
 pub data Seek (k : ℕ) (t : List ℕ) : Type 0 where

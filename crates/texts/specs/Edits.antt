@@ -6,8 +6,8 @@ use Prim.Native.Nat.{ℕ}
 use native.Mathlib.Omega.{arith}
 use lib.ListN.{length}
 use Rattle.digit_code.specs.document.Code.{sum}
-use Rattle.lines.specs.document.Line.{Free}
-use Rattle.lines.specs.document.Damage.{Change, replaced, lost, put-in}
+use Rattle.texts.specs.document.Bytes.{Free}
+use Rattle.texts.specs.document.Damage.{Change, replaced, lost, put-in}
 
 -- the byte at the head is replaced, lost or put in, or the change is later
 pub data Edit : List ℕ → List ℕ → Type 0 where
