@@ -32,9 +32,13 @@ said (Refused i k p) = refuses (i, k) p
 abbrev pub listRows : ℕ → ℕ → List ℕ → List Row
 listRows e N E = edgeRows size (neighboursIn e) N E 1
 
--- 22 is before all others, and called 0; "the first list's comes first"
+-- 22, which belongs to no list and is called 0
+abbrev pub ofNone : ℕ → List (RowOf (ℕ × ℕ))
+ofNone e = ofList 0 (row22 e ∷ [])
+
+-- 22 is before all others; "the first list's comes first"
 abbrev pub bothRows : ℕ → ℕ → List ℕ → ℕ → List ℕ → List (RowOf (ℕ × ℕ))
-bothRows e N E P F = ofList 0 (row22 e ∷ []) ++ (ofList 1 (listRows e N E) ++ ofList 2 (listRows e P F))
+bothRows e N E P F = ofNone e ++ (ofList 1 (listRows e N E) ++ ofList 2 (listRows e P F))
 
 -- what these refuse with the number k at p, of the list i: 22, called 0, where there is no such edition; else each list's lowest number, the first list's first
 abbrev pub WhichList : ℕ → ℕ → List ℕ → ℕ → List ℕ → ℕ → ℕ → ℕ → Type 0
