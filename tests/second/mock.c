@@ -73,7 +73,7 @@
     X(bits, limit_28)            /* fractions of size 28 */ \
     X(bits, value_on_refusal)    /* the lent place is set to 0 by a refusal */ \
     X(bits, ten_as_nine)         /* a run of ten ones is told as one of nine */ \
-    X(bits, one_byte_a_digit)    /* a digit puts out one byte at most */ \
+    X(bits, second_byte_lost)    /* a digit that fills two bytes puts out one */ \
     X(adjacency, entries_to_n)   /* 0A with i to N-1 */ \
     X(adjacency, limit_22)       /* 0A of size 22 is 4 */ \
     X(adjacency, not_physical_2) /* the place of 14 is always 2 */ \
@@ -420,8 +420,8 @@ uint32_t zk_check_renumbering(size_t edition, size_t n1, const uint8_t *e1, size
     return give(wrong_map(answer));
 }
 
-/* Bits are put out when there are eight, but once for each digit: so it does for digits up to six. */
-static void pack_slowly(const struct code *code, uint8_t *out)
+/* Once for each digit a byte is put out, which is enough for digits up to seven. */
+static void pack_one_byte(const struct code *code, uint8_t *out)
 {
     uint64_t held = 0;
     unsigned bits = 0;
@@ -429,19 +429,20 @@ static void pack_slowly(const struct code *code, uint8_t *out)
         held = held << (code->digit[i] + 1) | ((2u << code->digit[i]) - 2);
         bits += code->digit[i] + 1u;
         if (bits >= 8)
-            *out++ = (uint8_t)(held >> (bits -= 8));
+            *out++ = (uint8_t)(held >> (bits - 8));
+        bits %= 8;
     }
     if (bits > 0)
-        *out = (uint8_t)(held << (8 - bits) % 8);
+        *out = (uint8_t)(held << (8 - bits));
 }
 
 uint32_t zk_pack_edition(size_t edition, size_t n, const uint8_t *edges, size_t len, size_t root, uint8_t *out, size_t out_len)
 {
     struct answer answer = oracle_pack(named(edition), n, edges, len, root, out, out_len);
-    if (wrong == one_byte_a_digit && answer.number == 0) {
+    if (wrong == second_byte_lost && answer.number == 0) {
         struct tree tree = tree_of(n, edges);
         struct code code = rooted_code(&tree, (unsigned)root);
-        pack_slowly(&code, out);
+        pack_one_byte(&code, out);
     }
     return give(answer);
 }
