@@ -7,6 +7,7 @@ pub mod Plain
 pub mod Examples
 pub mod Lawful
 pub mod Taking
+pub mod OfEdition
 pub mod Editions
 pub mod Marks
 pub mod document

@@ -68,7 +68,7 @@ module _ {t b rest : List ℕ} (c : Cut 10 t b rest) (x y : List ℕ) (m : ℕ) 
   marked-answer R h = answered-once (plainLines size (digitTable R)) plain-once h (left (unformed-2 Formed c unformed _) refl)
 
   -- and by itself
-  pub marked-line : (R : ℕ) {old new : List ℕ} {o : Outcome ℕ} → LineRead size (digitTable R) t old new o → (o ≡ refuses 2 0) × (new ≡ old)
+  pub marked-line : (R : ℕ) {old new : List ℕ} {o : Outcome ℕ} → LineRead size (plainLines size (digitTable R)) t old new o → (o ≡ refuses 2 0) × (new ≡ old)
   marked-line R h =
       let r = read-once (plainLines size (digitTable R)) (digitsLent size) plain-once h (left (unformed-2 Formed c unformed _) refl) in
       (r .0, cc)

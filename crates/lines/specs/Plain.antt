@@ -12,7 +12,7 @@ use Rattle.refusal.specs.document.Table.{Row, Clear}
 use Rattle.refusal.specs.Laws.{never, others, clear-one, clear-both}
 use Rattle.texts.specs.document.Numerals.{figures, decimal, Digits, IsCount}
 use Rattle.texts.specs.document.Text.{through}
-use Rattle.texts.specs.Judging.{judged, judged-through}
+use Rattle.texts.specs.Judging.{judged, judged-through, none}
 use Rattle.texts.specs.Damage.{Accept}
 use Rattle.texts.specs.Sound.{Once, Reads, Sound}
 use Rattle.texts.specs.Numerals.{length-figures, sum-figures, same-figures, decimal-counts, count-decimal, count-short, count-some, one-count, marks-figures, marks-count}
@@ -74,6 +74,7 @@ module _ (most : ℕ) (rows : List DigitRow) where
   unfolding body
   plain-reads =
       record {
+        first-clear = none;
         once = plain-once;
         read = λ b q f k.
             let e = parts-clear q k .0 in

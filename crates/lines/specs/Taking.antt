@@ -11,7 +11,7 @@ use Rattle.refusal.specs.document.Table.{Row, Clear, FirstRefusal, gives, refus
 use Rattle.refusal.specs.Laws.{clear-one, others, refusal-front, refusal-back, refusal-behind, alike-refusal}
 use Rattle.texts.specs.document.Text.{through, ofLine}
 use Rattle.texts.specs.document.Lent.{lineRow15}
-use Rattle.texts.specs.Judging.{judged, judged-through}
+use Rattle.texts.specs.Judging.{judged, judged-through, none}
 use Rattle.texts.specs.Answered.{parts-alike, line-clear}
 use Rattle.texts.specs.Taking as Taking
 use Rattle.lines.specs.document.Line.{Front, front, Formed, DigitRow, plainLines}
@@ -29,7 +29,7 @@ stands-length {t = t} {s} {e} h = part-length s e t (h .within)
 module _ (most : ℕ) (rows : List DigitRow) where
   -- a refusal before the digits are judged
   pub read-front :
-      {t old : List ℕ} {k p : ℕ} → FirstRefusal (frontRows most t) k p → LineRead most rows t old old (refuses k p)
+      {t old : List ℕ} {k p : ℕ} → FirstRefusal (frontRows most t) k p → LineRead most (plainLines most rows) t old old (refuses k p)
   read-front {t} {old} l =
       left (refusal-front {xs = frontRows most t} (map (ofLine Formed t) (map (through (λ q. q .digits)) rows) ++ (lineRow15 (plainLines most rows) (digitsLent most) t (old ∷ []) ∷ [])) l) refl
 
@@ -53,7 +53,7 @@ module _ (most : ℕ) (rows : List DigitRow) where
 
     front-clear : Clear (frontRows most t)
     front-clear =
-        line-clear (plainLines most []) plain-once (h .shape) (clear-parts most [] shown as-many (h .some) (h .few) (record { nowhere = λ k p a. a }))
+        line-clear (plainLines most []) plain-once none (h .shape) (clear-parts most [] shown as-many (h .some) (h .few) none)
 
     -- the answer of a check of the digits, which looks at row 3 of digits lent by themselves too
     abbrev pub checked : List Row
@@ -71,19 +71,19 @@ module _ (most : ℕ) (rows : List DigitRow) where
     module _ (old : List ℕ) where
       -- a refusal of the digits
       pub read-digits :
-          {k p : ℕ} → FirstRefusal checked k p → LineRead most rows t old old (refuses k p)
+          {k p : ℕ} → FirstRefusal checked k p → LineRead most (plainLines most rows) t old old (refuses k p)
       read-digits l =
           left (refusal-back front-clear (refusal-front (lineRow15 (plainLines most rows) (digitsLent most) t (old ∷ []) ∷ []) (digits-refused l))) refl
 
       -- what is lent is too short
-      pub read-short : Clear checked → length old < e - s → LineRead most rows t old old (refuses 15 (e - s))
+      pub read-short : Clear checked → length old < e - s → LineRead most (plainLines most rows) t old old (refuses 15 (e - s))
       read-short c l =
-          subst (λ (n : ℕ). LineRead most rows t old old (refuses 15 n)) as-many
-          (Taking.read-short (plainLines most rows) (digitsLent most) plain-once (h .shape) (clear-digits c) (old ∷ []) (inl (rw as-many l)))
+          subst (λ (n : ℕ). LineRead most (plainLines most rows) t old old (refuses 15 n)) as-many
+          (Taking.read-short (plainLines most rows) (digitsLent most) plain-once none (h .shape) (clear-digits c) (old ∷ []) (inl (rw as-many l)))
 
       -- the digits
       pub read-line :
-          {new : List ℕ} → Clear checked → e - s ≤ length old → new ≡ laidOver (values (part s e t)) old → LineRead most rows t old new (gives (e - s))
+          {new : List ℕ} → Clear checked → e - s ≤ length old → new ≡ laidOver (values (part s e t)) old → LineRead most (plainLines most rows) t old new (gives (e - s))
       read-line {new} c l q =
-          subst (λ (n : ℕ). LineRead most rows t old new (gives n)) as-many
-          (Taking.read-record (plainLines most rows) (digitsLent most) plain-once (h .shape) (clear-digits c) (old ∷ []) (rw as-many l, tt) (q, tt))
+          subst (λ (n : ℕ). LineRead most (plainLines most rows) t old new (gives n)) as-many
+          (Taking.read-record (plainLines most rows) (digitsLent most) plain-once none (h .shape) (clear-digits c) (old ∷ []) (rw as-many l, tt) (q, tt))

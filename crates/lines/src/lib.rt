@@ -16,9 +16,9 @@ ghost use Rattle.texts.specs.document.Numerals.{Digits, figures, decimal};
 ghost use Rattle.texts.specs.document.Lent.{numberOf, placeOf};
 ghost use Rattle.texts.specs.Judging.{judged};
 ghost use Rattle.texts.specs.Ending.{UpTo, Behind};
-ghost use Rattle.lines.specs.document.Line.{line};
+ghost use Rattle.lines.specs.document.Line.{line, plainLines};
 ghost use Rattle.lines.specs.document.Judged.{digitTable};
-ghost use Rattle.lines.specs.document.Reading.{LineRead, TextRead};
+ghost use Rattle.lines.specs.document.Reading.{linesOf, LineRead, TextRead};
 ghost use Rattle.lines.specs.Form.{Room, Value, values, Figured, Opens, Forms, Located};
 ghost use Rattle.lines.specs.document.Marks.{WrittenDigits};
 
@@ -242,7 +242,7 @@ fn judge(limit: u8, t: &[u8]) -> Check
 // The first line of a text: its digits as values, to the start of what is lent.
 pub fn read_line(limit: u8, text: &[u8], out: &mut [u8]) -> Answer
     requires { ⌜ 1 ≤ limit ⌝ }
-    ensures { λ r. ⌜ LineRead size (digitTable limit) (now (text .entry)) (now (out .entry)) (now (out .exit)) (told r) ⌝ }
+    ensures { λ r. ⌜ LineRead size (plainLines size (digitTable limit)) (now (text .entry)) (now (out .entry)) (now (out .exit)) (told r) ⌝ }
 {
     match locate(text) {
         Span::Refused(k) => Answer::Refused(k, 0),
@@ -260,6 +260,17 @@ pub fn read_line(limit: u8, text: &[u8], out: &mut [u8]) -> Answer
             }
         }
     }
+}
+
+// The first line of a text, as a line of an edition.
+pub fn read_line_of(edition: usize, text: &[u8], out: &mut [u8]) -> Answer
+    ensures { λ r. ⌜ LineRead size (linesOf edition) (now (text .entry)) (now (out .entry)) (now (out .exit)) (told r) ⌝ }
+{
+    let limit = edition::limit_of(edition);
+    if limit == 0 {
+        return Answer::Refused(22, 0);
+    }
+    read_line(limit, text, out)
 }
 
 // How many lines there is room for: SIZE bytes, a number and a place for each.
@@ -312,14 +323,13 @@ fn note(r: Answer, numbers: &mut [u8], places: &mut [usize], k: usize)
 
 // A text, line after line, as far as there is room.
 pub fn read_text(
-    limit: u8,
+    edition: usize,
     text: &[u8],
     records: &mut [u8],
     numbers: &mut [u8],
     places: &mut [usize],
 ) -> Progress
-    requires { ⌜ 1 ≤ limit ⌝ }
-    ensures { λ r. ⌜ TextRead size (digitTable limit) size
+    ensures { λ r. ⌜ TextRead size (linesOf edition)
         (now (text .entry)) (now (records .entry)) (now (numbers .entry)) (now (places .entry))
         (now (records .exit)) (now (numbers .exit)) (now (places .exit)) (r .lines) (r .at) ⌝ }
 {
@@ -330,7 +340,7 @@ pub fn read_text(
         if at == text.len() {
             return Progress { lines: k, at };
         }
-        let r = read_line(limit, &text[at..], &mut records[SIZE * k..SIZE * k + SIZE]);
+        let r = read_line_of(edition, &text[at..], &mut records[SIZE * k..SIZE * k + SIZE]);
         note(r, numbers, places, k);
         at = behind(text, at);
         k += 1;

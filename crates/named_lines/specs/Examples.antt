@@ -10,7 +10,7 @@ use Rattle.refusal.specs.Laws.{clear-one, clear-both, first-place, refusal-fron
 use Rattle.texts.specs.document.Bytes.{Cut}
 use Rattle.texts.specs.document.Numerals.{figures, decimal, one-digit}
 use Rattle.texts.specs.document.Text.{PartRow, through, lineRows}
-use Rattle.texts.specs.Judging.{judging, judged}
+use Rattle.texts.specs.Judging.{judging, judged, none}
 use Rattle.texts.specs.Answered.{line-refuses}
 use Rattle.texts.specs.Spaced.{spaced, tally}
 use Rattle.texts.specs.Numbers.{says, count-number}
@@ -65,7 +65,7 @@ no-match m = let e : _≡_ {A = ℕ} 1 18446744073709551617 = m .o in omega arit
 -- so it is 21: neither 2, nor 1 wrapped round; whatever rows judge digits and letters
 long-count-refused : (rows : List (PartRow Named)) (t rest : List ℕ) → Cut 10 t longCount rest → FirstRefusal (lineRows (namedLines 64 rows) t) 21 0
 long-count-refused rows t rest cut =
-    line-refuses (namedLines 64 rows) named-once (record { text = longCount; rest = rest; feed = cut; formed = has-form })
+    line-refuses (namedLines 64 rows) named-once none (record { text = longCount; rest = rest; feed = cut; formed = has-form })
     (refusal-back {xs = judged (through (λ q. q .front) (row3-line 64) ∷ through (λ q. q .front) row5-line ∷ []) longParts}
     (clear-both {xs = judged (through (λ q. q .front) (row3-line 64) ∷ []) longParts}
     (clear-one (λ p a. ⊎-elim (λ z. omega (arith, z)) (λ z. omega (arith, z)) (a .1))) (clear-one (λ p a. a .1 refl)))

@@ -93,6 +93,7 @@ partsOf c =
 abbrev pub namedLines : ℕ → List (PartRow Named) → Format Named Parts
 namedLines most rows =
     record {
+      first = [];
       body = namedBody;
       Formed = NamedFormed;
       rows = through (λ q. q .front) (row3-line most) ∷ through (λ q. q .front) row5-line ∷ row21 ∷ map (through carried) rows;

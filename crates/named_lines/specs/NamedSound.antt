@@ -17,7 +17,7 @@ use Rattle.texts.specs.document.Bytes.{Each}
 use Rattle.texts.specs.document.Numerals.{figures, decimal, Digits, IsCount}
 use Rattle.texts.specs.document.Text.{PartRow, through, textOf, TextAnswers}
 use Rattle.texts.specs.document.Damage.{Change}
-use Rattle.texts.specs.Judging.{judged, judged-through}
+use Rattle.texts.specs.Judging.{judged, judged-through, none}
 use Rattle.texts.specs.Damage.{Accept, Accepted, Robust, Recovers}
 use Rattle.texts.specs.Sound.{Once, Reads, Sound}
 use Rattle.texts.specs.Each.{each-follows}
@@ -191,6 +191,7 @@ module _ (most : ℕ) (rows : List (PartRow Named)) where
   pub named-reads : Reads (namedLines most rows)
   named-reads =
       record {
+        first-clear = none;
         once = named-once;
         read = λ b q f k.
             let r = parts-left q k in

@@ -2,10 +2,10 @@
 -- at; `look`: a line is answered with a record exactly where it is that record's line. Assumes nothing.
 use mathlib.Core.Path.{_≡_, refl, sym, ap, subst, _∙_}
 use mathlib.Core.Logic.{inl, inr}
-use mathlib.Core.List.{List, [], _∷_, map}
+use mathlib.Core.List.{List, [], _∷_, _++_, map}
 use Prim.Native.Nat.{ℕ}
 use Rattle.refusal.specs.document.Table.{Row, Applies, Clear, FirstRefusal, Outcome, gives, refuses, kept, left}
-use Rattle.refusal.specs.Laws.{one-result, not-both, clear-one, clear-both, first-place, refusal-front, refusal-back, others, RowByRow, Alike, alike-clear, alike-refusal}
+use Rattle.refusal.specs.Laws.{one-result, not-both, clear-one, clear-both, clear-right, first-place, refusal-front, refusal-back, others, RowByRow, Alike, alike-clear, alike-refusal}
 use native.Mathlib.Omega.{arith}
 use Rattle.texts.specs.document.Bytes.{Free, Cut}
 use Rattle.texts.specs.document.Text.{PartRow, Format, Shaped, Where, row1, row2, ofLine, lineRows, LineCarries, LineAnswers}
@@ -66,10 +66,15 @@ module _ {A F : Type 0} (format : Format A F) where
     part-rows (r ∷ rows) =
         (refl, (λ p. (where-moves (format .Formed) c d {P = λ q. r .applies q p}, where-moves (format .Formed) d c {P = λ q. r .applies q p})), part-rows rows)
 
+    -- the same rows before both
+    rows-behind : (zs xs ys : List Row) → RowByRow (λ k. k) xs ys → RowByRow (λ k. k) (zs ++ xs) (zs ++ ys)
+    rows-behind [] xs ys h = h
+    rows-behind (z ∷ zs) xs ys h = (refl, (λ p. ((λ a. a), (λ a. a))), rows-behind zs xs ys h)
+
     lines-alike : Alike (lineRows format t) (lineRows format u)
     lines-alike =
         record {
-          rows = (
+          rows = rows-behind (format .first) (row1 t ∷ row2 (format .Formed) t ∷ map (ofLine (format .Formed) t) (format .rows)) (row1 u ∷ row2 (format .Formed) u ∷ map (ofLine (format .Formed) u) (format .rows)) (
             refl,
             (λ p. ((λ e. absurd (not-free 10 b rest (rw (c .parts) at (e .1)))), (λ e. absurd (not-free 10 b more (rw (d .parts) at (e .1)))))),
             (
@@ -101,16 +106,16 @@ module _ {A F : Type 0} (format : Format A F) (once : Once (format .Formed)) whe
       no-row k p (inl e) = shaped-fed (format .Formed) s (e .1 .1)
       no-row k p (inr (inl e)) = e .1 .1 q s
 
-  -- a line of the form whose parts are accepted
-  pub line-clear : {t : List ℕ} {q : F} → Shaped (format .Formed) t q → Clear (judged (format .rows) q) → Clear (lineRows format t)
-  line-clear s c = clear-both (form-clear s) (alike-clear (parts-alike (format .Formed) once s (format .rows)) .0 c)
+  -- a line of the form whose parts are accepted, where nothing is refused of every line
+  pub line-clear : {t : List ℕ} {q : F} → Clear (format .first) → Shaped (format .Formed) t q → Clear (judged (format .rows) q) → Clear (lineRows format t)
+  line-clear o s c = clear-both o (clear-both (form-clear s) (alike-clear (parts-alike (format .Formed) once s (format .rows)) .0 c))
 
   -- a line of the form is refused as its parts are
-  pub line-refuses : {t : List ℕ} {q : F} {k p : ℕ} → Shaped (format .Formed) t q → FirstRefusal (judged (format .rows) q) k p → FirstRefusal (lineRows format t) k p
-  line-refuses s l = refusal-back (form-clear s) (alike-refusal (parts-alike (format .Formed) once s (format .rows)) l)
+  pub line-refuses : {t : List ℕ} {q : F} {k p : ℕ} → Clear (format .first) → Shaped (format .Formed) t q → FirstRefusal (judged (format .rows) q) k p → FirstRefusal (lineRows format t) k p
+  line-refuses o s l = refusal-back o (refusal-back (form-clear s) (alike-refusal (parts-alike (format .Formed) once s (format .rows)) l))
 
   pub clear-line : {t : List ℕ} {q : F} → Clear (lineRows format t) → Shaped (format .Formed) t q → Clear (judged (format .rows) q)
-  clear-line c s = alike-clear (parts-alike (format .Formed) once s (format .rows)) .1 (others (others c))
+  clear-line c s = alike-clear (parts-alike (format .Formed) once s (format .rows)) .1 (others (others (clear-right (format .first) _ c)))
 
   -- a line carries one record
   pub carried-once : {t : List ℕ} {a b : A} → LineCarries format t a → LineCarries format t b → a ≡ b
@@ -124,7 +129,7 @@ module _ {A F : Type 0} (format : Format A F) (reads : Reads format) where
   pub gives-record : {c : A} {t rest : List ℕ} → Accept format c → Cut 10 t (format .body c) rest → LineAnswers format t (gives c)
   gives-record {c} {t} {rest} a u =
       let s : Shaped (format .Formed) t (format .parts c) = record { text = format .body c; rest = rest; feed = u; formed = a .formed } in
-      kept (line-clear format (reads .once) s (a .clear)) (record { parts = format .parts c; shape = s; holds = reads .back c })
+      kept (line-clear format (reads .once) (reads .first-clear) s (a .clear)) (record { parts = format .parts c; shape = s; holds = reads .back c })
 
   -- what has the form, of parts that no row refuses, is the line of the record that they carry
   accepts : {b : List ℕ} {q : F} → format .Formed b q → Clear (judged (format .rows) q) → (b ≡ format .body (format .carries q)) × Accept format (format .carries q)
@@ -148,7 +153,7 @@ module _ {A F : Type 0} (format : Format A F) (reads : Reads format) where
       refused : (d : A) → b ≡ format .body d → Accept format d → Clear (lineRows format t)
       refused d q a =
           let f = subst (λ (x : List ℕ). format .Formed x (format .parts d)) (sym q) (a .formed) in
-          line-clear format (reads .once) (record { text = b; rest = rest; feed = c; formed = f }) (a .clear)
+          line-clear format (reads .once) (reads .first-clear) (record { text = b; rest = rest; feed = c; formed = f }) (a .clear)
 
   -- equal lines carry equal records
   pub same-record : {c d : A} → Accept format c → Accept format d → format .body c ≡ format .body d → c ≡ d

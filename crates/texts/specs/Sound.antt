@@ -15,8 +15,9 @@ use Rattle.texts.specs.Edits.{Edit}
 abbrev pub Once : {F : Type 0} → (List ℕ → F → Type 0) → Type 0
 Once {F} Formed = (b : List ℕ) (p q : F) → Formed b p → Formed b q → p ≡ q
 
--- reading undoes writing
+-- nothing is refused of every line, and reading undoes writing
 pub record Reads {A F : Type 0} (format : Format A F) : Type 0 where
+  pub first-clear : Clear (format .first)
   pub once : Once (format .Formed)
   pub read :
       (b : List ℕ) (q : F) → format .Formed b q → Clear (judged (format .rows) q)

@@ -6,7 +6,7 @@ use mathlib.Core.List.{List, [], _∷_, _++_}
 use Prim.Native.Nat.{ℕ, _≤_}
 use native.Mathlib.Omega.{arith}
 use Rattle.laws.specs.document.Laid.{laidOver}
-use Rattle.refusal.specs.document.Table.{Clear, FirstRefusal, Outcome, gives, refuses, kept, left}
+use Rattle.refusal.specs.document.Table.{Clear, Outcome, gives, refuses, kept, left}
 use Rattle.refusal.specs.Laws.{one-result, clear-one, first-place, clear-left, clear-both, refusal-back, refusal-before}
 use Rattle.texts.specs.document.Text.{Format, Shaped, lineRows, LineAnswers}
 use Rattle.texts.specs.document.Lent.{Lent, Has, Short, EachArea, block, counted, lineRow15, Hands, ReadsLine}
@@ -64,7 +64,7 @@ module _ {A F : Type 0} (format : Format A F) (lent : Lent A) (once : Once (form
 
   -- ---- what a reader of one line cites
 
-  module _ {t : List ℕ} {q : F} (s : Shaped (format .Formed) t q) (c : Clear (judged (format .rows) q)) (olds : List (List ℕ)) where
+  module _ (free : Clear (format .first)) {t : List ℕ} {q : F} (s : Shaped (format .Formed) t q) (c : Clear (judged (format .rows) q)) (olds : List (List ℕ)) where
     -- what the record needs
     need :
         (p : ℕ) → lineRow15 format lent t olds .applies p
@@ -75,7 +75,7 @@ module _ {A F : Type 0} (format : Format A F) (lent : Lent A) (once : Once (form
     pub read-short : Short (lent .long (format .carries q)) olds → ReadsLine format lent t olds olds (refuses 15 (lent .long (format .carries q)))
     read-short l =
         left
-        (refusal-back (line-clear format once s c)
+        (refusal-back (line-clear format once free s c)
         (first-place {r = lineRow15 format lent t olds} (record { parts = q; shape = s; holds = (refl, l) })
         (λ p m a. let n = need p a .0 in let z : ⊥ = omega arith in z))) refl
 
@@ -86,7 +86,7 @@ module _ {A F : Type 0} (format : Format A F) (lent : Lent A) (once : Once (form
         → ReadsLine format lent t olds news (gives (lent .long (format .carries q)))
     read-record h l =
         kept
-        (clear-both (line-clear format once s c)
+        (clear-both (line-clear format once free s c)
         (clear-one {r = lineRow15 format lent t olds} (λ p a. not-short (lent .long (format .carries q)) olds h (need p a .1))))
         (record { result = format .carries q; right = record { parts = q; shape = s; holds = refl }; count = refl; lies = l })
 
@@ -111,9 +111,6 @@ module _ {A F : Type 0} (format : Format A F) (lent : Lent A) (once : Once (form
         let l = wide (w .parts) (clear-line format once c (w .shape)) in
         not-short (lent .long (format .carries (w .parts))) olds (has-less (lent .long (format .carries (w .parts))) (lent .width) l olds room) (w .holds .1))
 
-    line-refused : {k p : ℕ} → FirstRefusal (lineRows format t ++ (lineRow15 format lent t olds ∷ [])) k p → FirstRefusal (lineRows format t) k p
-    line-refused l = refusal-before (lineRows format t) (lineRow15 format lent t olds ∷ []) no-15 l
-
     pub line-read : {news : List (List ℕ)} {o : Outcome ℕ} → Matched lent olds → ReadsLine format lent t olds news o → FoundLine t olds news o
     unfolding counted block
     line-read m (kept c w) =
@@ -126,7 +123,7 @@ module _ {A F : Type 0} (format : Format A F) (lent : Lent A) (once : Once (form
     line-read m (left {k} {p} l e) =
         record {
           answer = refuses k p;
-          line = left (line-refused l) refl;
+          line = left (refusal-before (lineRows format t) (lineRow15 format lent t olds ∷ []) no-15 l) refl;
           told = refl;
           lies = subst (EachArea (λ v old new. new ≡ old) (lent .views) olds) (sym e) m;
         }

@@ -1,6 +1,7 @@
 -- The promises of the public calls. Assumes nothing.
 pub mod Tables
 pub mod Bounds
+pub mod Listed
 pub mod Places
 pub mod PlacesBits
 pub mod PlacesMatrix

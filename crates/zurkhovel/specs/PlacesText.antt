@@ -6,9 +6,9 @@ use native.Mathlib.Omega.{arith}
 use lib.ListN.{length}
 use Rattle.refusal.specs.document.Table.{Outcome}
 use Rattle.refusal.specs.document.Small.{SmallAnswer}
-use Rattle.refusal.specs.Laws.{clear-left}
+use Rattle.refusal.specs.Laws.{clear-left, others}
 use Rattle.refusal.specs.Bounded.{small, small-written}
-use Rattle.limits.specs.document.Limits.{size, valence}
+use Rattle.limits.specs.document.Limits.{size}
 use Rattle.form.specs.document.Form.{centred}
 use Rattle.form.specs.Forms.{centred-form}
 use Rattle.lines.specs.Form.{frontRows}
@@ -18,18 +18,19 @@ use Rattle.zurkhovel.specs.document.Alike.{EqualVertices}
 use Rattle.zurkhovel.specs.Bounds.{edges-bounded, line-digits, behindFront, line-bounded}
 use Rattle.zurkhovel.specs.Places.{form-few}
 
-pub places-read-line : (t old new : List ℕ) (o : Outcome ℕ) → ReadLine t old new o → SmallAnswer o
-places-read-line t old new o g =
-    small (line-bounded t old) (λ k n w.
-    let f = clear-left (frontRows size t) (behindFront t old) k in
-    omega (arith, w .count, ap length (w .right .holds), line-digits t f (w .right .parts) (w .right .shape))) g
+module _ (e : ℕ) where
+  pub places-read-line : (t old new : List ℕ) (o : Outcome ℕ) → ReadLine e t old new o → SmallAnswer o
+  places-read-line t old new o g =
+      small (line-bounded e t old) (λ k n w.
+      let f = clear-left (frontRows size t) (behindFront e t old) (others k) in
+      omega (arith, w .count, ap length (w .right .holds), line-digits t f (w .right .parts) (w .right .shape))) g
 
-pub places-write-line : (N : ℕ) (E old new : List ℕ) (o : Outcome ℕ) → WriteLine N E old new o → SmallAnswer o
-places-write-line N E old new o g =
-    small-written (edges-bounded (omega arith) valence N E 1) (λ k l (c, x, e).
-    let h = form-few centred centred-form N E k c x in
-    omega (arith, ap length e, line-short c (omega arith))) g
+  pub places-write-line : (N : ℕ) (E old new : List ℕ) (o : Outcome ℕ) → WriteLine e N E old new o → SmallAnswer o
+  places-write-line N E old new o g =
+      small-written (edges-bounded e (omega arith) N E 1) (λ k l (c, x, q).
+      let h = form-few e centred centred-form N E k c x in
+      omega (arith, ap length q, line-short c (omega arith))) g
 
-pub places-equal-vertices : (N : ℕ) (E old new : List ℕ) (o : Outcome ℕ) → EqualVertices N E old new o → SmallAnswer o
-places-equal-vertices N E old new o g =
-    small-written (edges-bounded (omega arith) valence N E 1) (λ k l (c, x, b). omega (arith, b .count, form-few centred centred-form N E k c x)) g
+  pub places-equal-vertices : (N : ℕ) (E old new : List ℕ) (o : Outcome ℕ) → EqualVertices e N E old new o → SmallAnswer o
+  places-equal-vertices N E old new o g =
+      small-written (edges-bounded e (omega arith) N E 1) (λ k l (c, x, b). omega (arith, b .count, form-few e centred centred-form N E k c x)) g

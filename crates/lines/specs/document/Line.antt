@@ -61,6 +61,7 @@ digitRow r = record { number = r [] .number; applies = λ c. r c .applies }
 abbrev pub plainLines : ℕ → List DigitRow → Format (List ℕ) Front
 plainLines most rows =
     record {
+      first = [];
       body = body;
       Formed = Formed;
       rows = row3-line most ∷ row5-line ∷ map (through (λ q. q .digits)) rows;

@@ -1,7 +1,7 @@
 -- A text of lines. What a line may be is the parameter: a format says how a record is written, which form a line has when it is read, and what is
 -- refused of what stands in it. Document 01's lines, and lines that later requests add, are formats.
 --
--- In order: rows about the parts of a line; a format; a text as it is written; a line that has the form; rows 1 and 2, and those of the parts;
+-- In order: rows about the parts of a line; a format, and rows before it; a text as it is written; a line that has the form; rows 1 and 2, and those of the parts;
 -- the answers that these rows allow to a line, and to a text. What damage can do is in `Damage`. Assumes nothing.
 use mathlib.Core.Path.{_≡_}
 use mathlib.Core.List.{List, [], _∷_, _++_, map}
@@ -19,14 +19,28 @@ pub record PartRow (F : Type 0) : Type 1 where
 abbrev pub through : {F G : Type 0} → (G → F) → PartRow F → PartRow G
 through g r = record { number = r .number; applies = λ q. r .applies (g q) }
 
--- A line format: A is what a line carries, a record; F is what the form of a line shows, its parts. A record is written as its body and a line
--- feed; a line read is of the form, with its parts, or not; rows judge the parts; a line that none of them refuses carries a record.
+-- A line format: A is what a line carries, a record; F is what the form of a line shows, its parts. What `first` refuses is refused of every line,
+-- whatever it holds. A record is written as its body and a line feed; a line read is of the form, with its parts, or not; rows judge the parts; a
+-- line that none of them refuses carries a record.
 pub record Format (A F : Type 0) : Type 1 where
+  pub first : List Row
   pub body : A → List ℕ
   pub Formed : List ℕ → F → Type 0
   pub rows : List (PartRow F)
   pub carries : F → A
   pub parts : A → F
+
+-- the format in which rows stand before all others
+abbrev pub behind : {A F : Type 0} → List Row → Format A F → Format A F
+behind rows format =
+    record {
+      first = rows ++ format .first;
+      body = format .body;
+      Formed = format .Formed;
+      rows = format .rows;
+      carries = format .carries;
+      parts = format .parts;
+    }
 
 -- the text of records, which are written by body: a line for each
 unfoldable pub textOf : {A : Type 0} → (A → List ℕ) → List A → List ℕ
@@ -64,7 +78,7 @@ module _ {F : Type 0} (Formed : List ℕ → F → Type 0) where
 module _ {A F : Type 0} (format : Format A F) where
   -- what is refused of a line
   abbrev pub lineRows : List ℕ → List Row
-  lineRows t = row1 t ∷ row2 (format .Formed) t ∷ map (ofLine (format .Formed) t) (format .rows)
+  lineRows t = format .first ++ (row1 t ∷ row2 (format .Formed) t ∷ map (ofLine (format .Formed) t) (format .rows))
 
   -- the first line of t is of the form, and carries the record a
   abbrev pub LineCarries : List ℕ → A → Type 0
