@@ -16,7 +16,8 @@ int one_in(unsigned chances);
 
 /* ---- Editions ---- */
 
-/* The edition of the cases under way: inputs are made for it, and calls are made in it. A piece goes through both. */
+/* The edition of the cases under way: inputs are made for it, and calls are made in it. A piece goes through both, and first through
+ * what they differ in. */
 extern uint64_t edition;
 #define IN_BOTH_EDITIONS for (edition = 1; edition <= 2; edition++)
 

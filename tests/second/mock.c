@@ -19,7 +19,7 @@
     X(code, place_13_of_sibling) /* the place of the sibling before */ \
     X(code, place_not_added)     /* a refusal is 256 times its number alone */ \
     X(code, bytes_not_given)     /* a success is 0, however many bytes were written */ \
-    X(code, edition_ignored)     /* every call is of edition 1 */ \
+    X(code, edition_ignored)     /* edition 2 is taken as 1 */ \
     X(code, edition_as_byte)     /* the edition is taken modulo 256 */ \
     X(code, edition_by_default)  /* what is no edition is taken as 1 */ \
     X(code, edition_3)           /* is taken as 2 */ \
@@ -138,7 +138,7 @@ static uint32_t give(struct answer answer)
 /* The edition as a call understands it. */
 static uint64_t named(uint64_t edition)
 {
-    if (wrong == edition_ignored || (wrong == edition_by_default && edition != 2))
+    if ((wrong == edition_ignored && edition == 2) || (wrong == edition_by_default && edition != 2))
         return 1;
     if (wrong == edition_3 && edition == 3)
         return 2;
@@ -221,7 +221,7 @@ static bool was_coded(uint32_t answer)
     return !zk_refused(answer) || zk_number(answer) == 15;
 }
 
-static struct answer wrong_code(struct answer answer, const uint8_t *code, size_t len)
+static struct answer wrong_code(struct answer answer, size_t edition, const uint8_t *code, size_t len)
 {
     size_t end = code_end(code, len);
     if (wrong == place_of_12 && answer.number == 12)
@@ -230,14 +230,14 @@ static struct answer wrong_code(struct answer answer, const uint8_t *code, size_
         answer = (struct answer){.number = 11, .place = end + 1};
     if (wrong == place_13_of_sibling && answer.number == 13)
         answer.place--;
-    if (wrong == nine_elsewhere && answer.number == 10 && answer.place > 1 && code[answer.place - 1] == 9)
+    if (wrong == nine_elsewhere && edition == 2 && answer.number == 10 && answer.place > 1 && code[answer.place - 1] == 9)
         answer = LOWEST(row_11_digits(code, len), row_12_digits(code, len), row_13(code, len));
     return answer;
 }
 
 uint32_t zk_check_code(size_t edition, const uint8_t *code, size_t len)
 {
-    return give(wrong_code(oracle_check_code(named(edition), code, len), code, len));
+    return give(wrong_code(oracle_check_code(named(edition), code, len), edition, code, len));
 }
 
 uint32_t zk_decode_code(size_t edition, const uint8_t *code, size_t len, uint8_t *out, size_t out_len)
@@ -247,7 +247,7 @@ uint32_t zk_decode_code(size_t edition, const uint8_t *code, size_t len, uint8_t
         out[0] = 1;
     if (wrong == writes_behind && answer.number == 0 && out_len > answer.place)
         out[answer.place] = 0;
-    return give(wrong_code(answer, code, len));
+    return give(wrong_code(answer, edition, code, len));
 }
 
 uint32_t zk_decode_n_tuple(size_t edition, const uint8_t *code, size_t len, uint8_t *out, size_t out_len)
@@ -272,13 +272,13 @@ static bool doubled(const uint8_t *edges, size_t e)
     return false;
 }
 
-static struct answer wrong_edges(struct answer answer, size_t n, const uint8_t *edges, size_t len, size_t root)
+static struct answer wrong_edges(struct answer answer, size_t edition, size_t n, const uint8_t *edges, size_t len, size_t root)
 {
     if (wrong == twenty_two_last && answer.number == 22) {
         struct answer other = oracle_check_edges(1, n, edges, len, root);
         return other.number != 0 ? other : answer;
     }
-    if (wrong == tenth_neighbour && answer.number == 9)
+    if (wrong == tenth_neighbour && edition == 2 && answer.number == 9)
         return LOWEST(row_9(10, edges, len));
     if (wrong == root_has_place && answer.number == 6 && answer.place == 0)
         answer.place = 1;
@@ -297,7 +297,7 @@ uint32_t zk_check_edges(size_t edition, size_t n, const uint8_t *edges, size_t l
 {
     if (wrong == size_as_byte)
         n %= 256;
-    return give(wrong_edges(oracle_check_edges(named(edition), n, edges, len, root), n, edges, len, root));
+    return give(wrong_edges(oracle_check_edges(named(edition), n, edges, len, root), edition, n, edges, len, root));
 }
 
 uint32_t zk_rooted_code(size_t edition, size_t n, const uint8_t *edges, size_t len, size_t root, uint8_t *out, size_t out_len)

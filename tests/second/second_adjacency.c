@@ -235,13 +235,14 @@ static void limits(void)
 
 void piece_adjacency(void)
 {
+    IN_BOTH_EDITIONS
+        limits();
     IN_BOTH_EDITIONS {
         labelled();
         random_lists();
         numbers_0a();
         numbers_a0();
         cams();
-        limits();
     }
     CLAIM_MET(cam, 0, 3, 5, 6, 7, 8, 9, 14, 15, 22);
     CLAIM_MET(cam_by_code, 0, 3, 5, 6, 7, 8, 9, 15, 22);

@@ -339,6 +339,10 @@ static void stars(void)
 void piece_bits(void)
 {
     IN_BOTH_EDITIONS {
+        stars();
+        runs();
+    }
+    IN_BOTH_EDITIONS {
         short_packed();
         random_packed();
         wholes();
@@ -347,8 +351,6 @@ void piece_bits(void)
         special_fractions();
         unsorted();
         never_ended();
-        runs();
-        stars();
     }
     CLAIM_MET(pack, 0, 3, 5, 6, 7, 8, 9, 15, 22);
     CLAIM_MET(unpack, 0, 3, 10, 11, 12, 13, 15, 22);

@@ -113,9 +113,10 @@ static void lengths(void)
 
 void piece_code(void)
 {
+    IN_BOTH_EDITIONS
+        stars();
     IN_BOTH_EDITIONS {
         short_strings();
-        stars();
         right_and_damaged();
         moved_digits();
         unsorted();

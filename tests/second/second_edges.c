@@ -163,13 +163,14 @@ static void limits(void)
 
 void piece_edges(void)
 {
+    IN_BOTH_EDITIONS
+        stars();
     IN_BOTH_EDITIONS {
         labelled();
         rooted_trees();
         right();
         damaged();
         overfilled();
-        stars();
         any_bytes();
         every_end();
         limits();

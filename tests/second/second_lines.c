@@ -284,8 +284,9 @@ static void counts(void)
 
 void piece_lines(void)
 {
-    IN_BOTH_EDITIONS {
+    IN_BOTH_EDITIONS
         examples();
+    IN_BOTH_EDITIONS {
         short_texts();
         written();
         single_changes();
