@@ -144,7 +144,13 @@ pub extern "C" fn zk_check_edges(edition: usize, n: usize, edges: &[u8], root: u
 }
 
 #[no_mangle]
-pub extern "C" fn zk_rooted_code(edition: usize, n: usize, edges: &[u8], root: usize, out: &mut [u8]) -> u32
+pub extern "C" fn zk_rooted_code(
+    edition: usize,
+    n: usize,
+    edges: &[u8],
+    root: usize,
+    out: &mut [u8],
+) -> u32
     ensures { λ r. ⌜ PackedAnswer (RootedCode edition n (now (edges .entry)) root (now (out .entry)) (now (out .exit))) r ⌝ }
 {
     let r = zurkhovel::codes::rooted_code(edition, n, edges, root, out);
@@ -229,7 +235,13 @@ pub extern "C" fn zk_same_skeleton(n1: usize, edges1: &[u8], n2: usize, edges2: 
 }
 
 #[no_mangle]
-pub extern "C" fn zk_same_skeleton_edition(edition: usize, n1: usize, edges1: &[u8], n2: usize, edges2: &[u8]) -> u32
+pub extern "C" fn zk_same_skeleton_edition(
+    edition: usize,
+    n1: usize,
+    edges1: &[u8],
+    n2: usize,
+    edges2: &[u8],
+) -> u32
     ensures { λ r. ⌜ PackedFinding (SameSkeleton edition n1 (now (edges1 .entry)) n2 (now (edges2 .entry))) r ⌝ }
 {
     let r = zurkhovel::codes::same_skeleton(edition, n1, edges1, n2, edges2);
@@ -312,7 +324,13 @@ pub extern "C" fn zk_pack(n: usize, edges: &[u8], root: usize, out: &mut [u8]) -
 }
 
 #[no_mangle]
-pub extern "C" fn zk_pack_edition(edition: usize, n: usize, edges: &[u8], root: usize, out: &mut [u8]) -> u32
+pub extern "C" fn zk_pack_edition(
+    edition: usize,
+    n: usize,
+    edges: &[u8],
+    root: usize,
+    out: &mut [u8],
+) -> u32
     ensures { λ r. ⌜ PackedAnswer (Pack edition n (now (edges .entry)) root (now (out .entry)) (now (out .exit))) r ⌝ }
 {
     let r = zurkhovel::bit_tuple::pack(edition, n, edges, root, out);
@@ -345,7 +363,13 @@ pub extern "C" fn zk_unpack(edition: usize, bytes: &[u8], out: &mut [u8]) -> u32
 }
 
 #[no_mangle]
-pub extern "C" fn zk_whole(edition: usize, n: usize, edges: &[u8], root: usize, value: &mut u64) -> u32
+pub extern "C" fn zk_whole(
+    edition: usize,
+    n: usize,
+    edges: &[u8],
+    root: usize,
+    value: &mut u64,
+) -> u32
     ensures { λ r. ⌜ PackedValue (Whole edition n (now (edges .entry)) root) (now (value .entry)) (now (value .exit)) r ⌝ }
 {
     let r = zurkhovel::bit_tuple::whole(edition, n, edges, root);
@@ -378,7 +402,13 @@ pub extern "C" fn zk_unwhole(edition: usize, n: usize, value: u64, out: &mut [u8
 }
 
 #[no_mangle]
-pub extern "C" fn zk_fraction(edition: usize, n: usize, edges: &[u8], root: usize, value: &mut f64) -> u32
+pub extern "C" fn zk_fraction(
+    edition: usize,
+    n: usize,
+    edges: &[u8],
+    root: usize,
+    value: &mut f64,
+) -> u32
     ensures { λ r. ⌜ PackedValue (InFraction edition n (now (edges .entry)) root) (now (value .entry)) (now (value .exit)) r ⌝ }
 {
     let r = zurkhovel::bit_tuple::fraction(edition, n, edges, root);
@@ -576,7 +606,12 @@ pub extern "C" fn zk_write_line(n: usize, edges: &[u8], out: &mut [u8]) -> u32
 }
 
 #[no_mangle]
-pub extern "C" fn zk_write_line_edition(edition: usize, n: usize, edges: &[u8], out: &mut [u8]) -> u32
+pub extern "C" fn zk_write_line_edition(
+    edition: usize,
+    n: usize,
+    edges: &[u8],
+    out: &mut [u8],
+) -> u32
     ensures { λ r. ⌜ PackedAnswer (WriteLine edition n (now (edges .entry)) (now (out .entry)) (now (out .exit))) r ⌝ }
 {
     let r = zurkhovel::text::write_line(edition, n, edges, out);

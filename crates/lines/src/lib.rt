@@ -340,7 +340,11 @@ pub fn read_text(
         if at == text.len() {
             return Progress { lines: k, at };
         }
-        let r = read_line_of(edition, &text[at..], &mut records[SIZE * k..SIZE * k + SIZE]);
+        let r = read_line_of(
+            edition,
+            &text[at..],
+            &mut records[SIZE * k..SIZE * k + SIZE],
+        );
         note(r, numbers, places, k);
         at = behind(text, at);
         k += 1;

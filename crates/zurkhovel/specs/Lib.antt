@@ -28,4 +28,5 @@ pub mod Round
 pub mod RoundBits
 pub mod RoundMatrix
 pub mod RoundText
+pub mod Editions
 pub mod document

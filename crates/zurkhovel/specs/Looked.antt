@@ -52,7 +52,6 @@ reported-most B n f (refuses k j) g = omega (arith, g .reported)
 module _ (e : ℕ) where
   -- ---- of an accepted skeleton
 
-
   module _ {most : ℕ} (N : ℕ) (E : List ℕ) where
     pub accepted-rooted : (r : ℕ) → Clear (edgeTable e most N E r) → rootedPairs N E r ≤ mostPairs (neighboursIn e) N
     accepted-rooted r c = let (h, k) = root-of E c in pairs-bound most (neighboursIn e) N E r (skeleton-of c) h k

@@ -20,7 +20,7 @@ use Rattle.renumber.specs.document.Map.{TellsOf, mapRows, HandedOut}
 use Rattle.renumber.specs.Theorems.{map-exactly}
 use Rattle.zurkhovel.specs.document.Codes.{FormCode}
 use Rattle.zurkhovel.specs.document.Same.{SameSkeleton, EqualCodes, SameUnder}
-use Rattle.zurkhovel.specs.document.Maps.{MapOutcome, Hands, HandOut, CheckRenumbering}
+use Rattle.zurkhovel.specs.document.Maps.{MapOutcome, HandsMap, HandOut, CheckRenumbering}
 use Rattle.zurkhovel.specs.Accepted.{tree-of}
 use Rattle.zurkhovel.specs.Theorems.{both-clear, same-exactly}
 use Rattle.zurkhovel.specs.Threes.{three-clear, handed-lists, handed-codes, handed-length}
@@ -109,7 +109,7 @@ module _ (e : ℕ) where
         lists : Clear (edgeTable e size N E 1) × Clear (edgeTable e size P F 1)
         lists = handed-lists (kept {a = n} c h)
 
-        by-cases : Hands N E P F old n new → (n ≡ 0) ↔ (SameUnder N E P F → ⊥)
+        by-cases : HandsMap N E P F old n new → (n ≡ 0) ↔ (SameUnder N E P F → ⊥)
         by-cases (inl w) =
             let (k, l) = lists in
             let (d, x, y) = handed-codes k l (w .right) in

@@ -9,7 +9,7 @@ use Rattle.refusal.specs.Laws.{one-accepted, one-result}
 use Rattle.refusal.specs.Giving.{one-written}
 use Rattle.renumber.specs.document.Map.{HandedOut}
 use Rattle.renumber.specs.Handing.{one-handed}
-use Rattle.zurkhovel.specs.document.Maps.{mapped, Hands, HandOut, CheckRenumbering}
+use Rattle.zurkhovel.specs.document.Maps.{mapped, HandsMap, HandOut, CheckRenumbering}
 use Rattle.zurkhovel.specs.declared.maps.Mapping.{Mapping}
 use Rattle.zurkhovel.specs.declared.maps.Mapping.the-variants.{Done, Refused}
 use Rattle.zurkhovel.specs.Accepted.{tree-of}
@@ -32,7 +32,7 @@ mapped-apart (Refused i k p) (Refused j l q) e =
 module _ (e : ℕ) where
   -- a map is written or not, and it is one
   one-hands :
-      {N P : ℕ} {E F old s t : List ℕ} → Clear (edgeTable e size N E 1) → Clear (edgeTable e size P F 1) → (a b : ℕ) → Hands N E P F old a s → Hands N E P F old b t → (a ≡ b) × (s ≡ t)
+      {N P : ℕ} {E F old s t : List ℕ} → Clear (edgeTable e size N E 1) → Clear (edgeTable e size P F 1) → (a b : ℕ) → HandsMap N E P F old a s → HandsMap N E P F old b t → (a ≡ b) × (s ≡ t)
   one-hands {N} {P} {E} {F} k l a b (inl v) (inl w) = one-written (λ x y. one-handed (tree-of N E 1 k) x y) a b v w
   one-hands k l a b (inl v) (inr (e, f, n)) = let (c, x, y) = handed-codes k l (v .right) in absurd (n c x y)
   one-hands k l a b (inr (e, f, n)) (inl w) = let (c, x, y) = handed-codes k l (w .right) in absurd (n c x y)

@@ -29,7 +29,7 @@ use Rattle.texts.specs.document.Lent.{lineRow15}
 use Rattle.lines.specs.document.Line.{plainLines}
 use Rattle.lines.specs.document.Judged.{digitTable}
 use Rattle.lines.specs.document.Reading.{digitsLent}
-use Rattle.zurkhovel.specs.document.Same.{listRows, bothRows}
+use Rattle.zurkhovel.specs.document.Same.{listRows, bothRows, WhichList}
 
 module _ (R : ℕ) where
   -- the table of a call that writes: 15 stands behind
@@ -118,13 +118,7 @@ module _ (e : ℕ) where
 
   -- same_skeleton: 22 is given, which is called 0, or list i is refused
   module _ (N : ℕ) (E : List ℕ) (P : ℕ) (F : List ℕ) where
-    -- what `bothRows` refuses: 22, or what the lists do
-    abbrev pub Which : ℕ → ℕ → ℕ → Type 0
-    Which i k p =
-        ((i ≡ 0) × FirstRefusal (row22 e ∷ []) k p)
-        ⊎ (IsEdition e × (((i ≡ 1) × Lowest (listRows e N E) k p) ⊎ ((i ≡ 2) × Clear (listRows e N E) × Lowest (listRows e P F) k p)))
-
-    pub which-list : (i k p : ℕ) → FirstRefusal (bothRows e N E P F) (i, k) p ↔ Which i k p
+    pub which-list : (i k p : ℕ) → FirstRefusal (bothRows e N E P F) (i, k) p ↔ WhichList e N E P F i k p
     which-list i k p = (forth, back)
       where
         first : LowestWins (listRows e N E)
@@ -133,19 +127,21 @@ module _ (e : ℕ) where
         second : LowestWins (listRows e P F)
         second = edges-checked (neighboursIn e) size P F 1
 
-        forth : FirstRefusal (bothRows e N E P F) (i, k) p → Which i k p
+        forth : FirstRefusal (bothRows e N E P F) (i, k) p → WhichList e N E P F i k p
         forth l =
             ⊎-elim (λ a. inl (list-told 0 (row22 e ∷ []) a)) (λ (c, a).
-            inr (clear-edition (list-clear 0 (row22 e ∷ []) .1 c),
-            ⊎-elim (λ a. let (q, b) = list-told 1 (listRows e N E) a in inl (q, first k p .0 b))
-            (λ (c, a). let (q, b) = list-told 2 (listRows e P F) a in inr (q, list-clear 1 (listRows e N E) .1 c, second k p .0 b))
-            (refusal-either (ofList 1 (listRows e N E)) (ofList 2 (listRows e P F)) a)))
+            inr (
+              clear-edition (list-clear 0 (row22 e ∷ []) .1 c),
+              ⊎-elim (λ a. let (q, b) = list-told 1 (listRows e N E) a in inl (q, first k p .0 b))
+                  (λ (c, a). let (q, b) = list-told 2 (listRows e P F) a in inr (q, list-clear 1 (listRows e N E) .1 c, second k p .0 b))
+                  (refusal-either (ofList 1 (listRows e N E)) (ofList 2 (listRows e P F)) a),
+            ))
             (refusal-either (ofList 0 (row22 e ∷ [])) (ofList 1 (listRows e N E) ++ ofList 2 (listRows e P F)) l)
 
         behind : IsEdition e → FirstRefusal (ofList 1 (listRows e N E) ++ ofList 2 (listRows e P F)) (i, k) p → FirstRefusal (bothRows e N E P F) (i, k) p
         behind j l = refusal-back (list-clear 0 (row22 e ∷ []) .0 (edition-clear j)) l
 
-        back : Which i k p → FirstRefusal (bothRows e N E P F) (i, k) p
+        back : WhichList e N E P F i k p → FirstRefusal (bothRows e N E P F) (i, k) p
         back (inl (q, l)) = rw q (refusal-front (ofList 1 (listRows e N E) ++ ofList 2 (listRows e P F)) (list-refused 0 (row22 e ∷ []) l))
         back (inr (j, inl (q, l))) = behind j (rw q (refusal-front (ofList 2 (listRows e P F)) (list-refused 1 (listRows e N E) (first k p .1 l))))
         back (inr (j, inr (q, c, l))) = behind j (rw q (refusal-back (list-clear 1 (listRows e N E) .0 c) (list-refused 2 (listRows e P F) (second k p .1 l))))

@@ -24,11 +24,11 @@ module _ {e : ℕ} where
       let one = list-clear 1 (listRows e N E) in
       let two = list-clear 2 (listRows e P F) in (
         (λ c.
-        let z = none .1 (clear-left (ofList 0 (row22 e ∷ [])) (ofList 1 (listRows e N E) ++ ofList 2 (listRows e P F)) c) in
-        let d = clear-right (ofList 0 (row22 e ∷ [])) (ofList 1 (listRows e N E) ++ ofList 2 (listRows e P F)) c in (
-          clear-both z (one .1 (clear-left (ofList 1 (listRows e N E)) (ofList 2 (listRows e P F)) d)),
-          clear-both z (two .1 (clear-right (ofList 1 (listRows e N E)) (ofList 2 (listRows e P F)) d)),
-        )),
+            let z = none .1 (clear-left (ofList 0 (row22 e ∷ [])) (ofList 1 (listRows e N E) ++ ofList 2 (listRows e P F)) c) in
+            let d = clear-right (ofList 0 (row22 e ∷ [])) (ofList 1 (listRows e N E) ++ ofList 2 (listRows e P F)) c in (
+              clear-both z (one .1 (clear-left (ofList 1 (listRows e N E)) (ofList 2 (listRows e P F)) d)),
+              clear-both z (two .1 (clear-right (ofList 1 (listRows e N E)) (ofList 2 (listRows e P F)) d)),
+            )),
         (λ (k, l). clear-both (none .0 (clear-left (row22 e ∷ []) (listRows e N E) k)) (clear-both (one .0 (others k)) (two .0 (others l)))),
       )
 

@@ -15,11 +15,11 @@ use Rattle.form.specs.document.Form.{centred}
 use Rattle.form.specs.Root.{root-centred}
 use Rattle.renumber.specs.document.Map.{HandedOut}
 use Rattle.renumber.specs.Handing.{map-sizes}
-use Rattle.zurkhovel.specs.document.Same.{listRows, bothRows, EqualCodes}
+use Rattle.zurkhovel.specs.document.Same.{listRows, bothRows, WhichList, EqualCodes}
 use Rattle.zurkhovel.specs.document.Maps.{threeRows, HandOut}
 use Rattle.zurkhovel.specs.Accepted.{tree-of}
 use Rattle.zurkhovel.specs.Theorems.{both-clear, both-none, both-first, both-second}
-use Rattle.zurkhovel.specs.Tables.{Which, which-list}
+use Rattle.zurkhovel.specs.Tables.{which-list}
 use Rattle.limits.specs.document.Limits.{size}
 use Rattle.edition.specs.document.Edition.{IsEdition, neighboursIn}
 use Rattle.zurkhovel.specs.document.InEdition.{edgeTable}
@@ -49,7 +49,7 @@ module _ {e : ℕ} where
     -- it is 22 or one of the lists', or both are accepted and it is the map's, with the lowest number of each
     pub which-of-three :
         LowestWins rs → (i k p : ℕ) → FirstRefusal (threeRows e N E P F rs) (i, k) p
-        ↔ (Which e N E P F i k p ⊎ ((i ≡ 3) × Clear (edgeTable e size N E 1) × Clear (edgeTable e size P F 1) × Lowest rs k p))
+        ↔ (WhichList e N E P F i k p ⊎ ((i ≡ 3) × Clear (edgeTable e size N E 1) × Clear (edgeTable e size P F 1) × Lowest rs k p))
     which-of-three w i k p = (
       (λ l. ⊎-elim (λ a. inl (which-list e N E P F i k p .0 a)) (λ (c, a).
           let (q, b) = list-told 3 rs a in

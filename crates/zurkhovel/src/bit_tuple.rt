@@ -23,7 +23,14 @@ ghost use Rattle.zurkhovel.specs.document.Reported.{Reporting, atRoot};
 ghost use Rattle.zurkhovel.specs.document.Bits.{Pack, Unpack, Whole, Unwhole, InFraction, Unfraction};
 
 // The rooted code at a vertex of a skeleton of at most `most` vertices.
-fn rooted(edition: usize, most: usize, n: usize, edges: &[u8], root: usize, code: &mut [u8]) -> Looked
+fn rooted(
+    edition: usize,
+    most: usize,
+    n: usize,
+    edges: &[u8],
+    root: usize,
+    code: &mut [u8],
+) -> Looked
     requires { ⌜ (most ≤ size) × (length (now code) ≡ size) ⌝ }
     ensures { λ r. ⌜ Rooting edition most n (now (edges .entry)) root (now (code .exit)) r ⌝ }
 {

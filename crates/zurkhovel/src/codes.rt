@@ -187,7 +187,13 @@ fn judge(edition: usize, n1: usize, edges1: &[u8], n2: usize, edges2: &[u8]) -> 
 }
 
 // Whether two edge lists are the same skeleton: whether their centred codes are equal.
-pub fn same_skeleton(edition: usize, n1: usize, edges1: &[u8], n2: usize, edges2: &[u8]) -> ReportedVerdict
+pub fn same_skeleton(
+    edition: usize,
+    n1: usize,
+    edges1: &[u8],
+    n2: usize,
+    edges2: &[u8],
+) -> ReportedVerdict
     ensures { λ r. ⌜ Reporting (SameSkeleton edition n1 (now (edges1 .entry)) n2 (now (edges2 .entry))) (OfBoth n1 (now (edges1 .entry)) n2 (now (edges2 .entry))) (said (r .answer)) (r .pairs) ⌝ }
 {
     let limit = limit_of(edition);

@@ -86,14 +86,7 @@ pub fn renumbering(
 }
 
 // Whether a map is a renumbering of one accepted edge list onto another.
-fn judge(
-    edition: usize,
-    n1: usize,
-    edges1: &[u8],
-    n2: usize,
-    edges2: &[u8],
-    map: &[u8],
-) -> Mapping
+fn judge(edition: usize, n1: usize, edges1: &[u8], n2: usize, edges2: &[u8], map: &[u8]) -> Mapping
     requires { ⌜ Clear (edgeTable edition size n1 (now edges1) 1) ⌝ }
     requires { ⌜ Clear (edgeTable edition size n2 (now edges2) 1) ⌝ }
     ensures { λ r. ⌜ CheckRenumbering edition n1 (now (edges1 .entry)) n2 (now (edges2 .entry)) (now (map .entry)) (mapped r) ⌝ }

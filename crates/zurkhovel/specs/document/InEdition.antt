@@ -30,22 +30,26 @@ module _ (e : ℕ) where
   abbrev pub physicalTable : ℕ → ℕ → List ℕ → List Row
   physicalTable most N E = edgeTable most N E 1 ++ (row14-physical N E ∷ [])
 
-  -- packed bytes; a whole number with N beside it; a fraction
+  -- packed bytes
   abbrev pub packedTable : List ℕ → List Row
   packedTable s = inEdition e (λ R. packedRows packedBytes R s)
 
+  -- a whole number v, with N, n, beside it
   abbrev pub wholeTable : ℕ → ℕ → List Row
   wholeTable n v = inEdition e (λ R. wholeRows wholeSize R n v)
 
+  -- a fraction
   abbrev pub fractionTable : Float → List Row
   fractionTable x = inEdition e (λ R. fractionRows R x)
 
-  -- a CAM, a 0A and an A0, each with N beside it
+  -- a CAM, with N beside it
   abbrev pub camTable : ℕ → List ℕ → List Row
   camTable N c = inEdition e (λ R. camRows size R N c)
 
+  -- a 0A
   abbrev pub zeroTable : ℕ → ℕ → List Row
   zeroTable N x = inEdition e (λ R. zeroRows zeroSize R N x)
 
+  -- an A0
   abbrev pub aTable : ℕ → ℕ → List Row
   aTable N x = inEdition e (λ R. aRows aSize R N x)

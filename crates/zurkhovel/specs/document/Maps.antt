@@ -35,12 +35,12 @@ abbrev pub threeRows : ℕ → ℕ → List ℕ → ℕ → List ℕ → List Ro
 threeRows e N E P F rs = bothRows e N E P F ++ ofList 3 rs
 
 -- the renumbering is written; or the lists are not the same, and nothing is
-abbrev pub Hands : ℕ → List ℕ → ℕ → List ℕ → List ℕ → ℕ → List ℕ → Type 0
-Hands N E P F old n new = Writes (HandedOut N E P F) old n new ⊎ ((n ≡ 0) × (new ≡ old) × EqualCodes N E P F false)
+abbrev pub HandsMap : ℕ → List ℕ → ℕ → List ℕ → List ℕ → ℕ → List ℕ → Type 0
+HandsMap N E P F old n new = Writes (HandedOut N E P F) old n new ⊎ ((n ≡ 0) × (new ≡ old) × EqualCodes N E P F false)
 
 -- in the edition e, the renumbering of N vertices with the edges E onto P vertices with the edges F, where they are the same; 15 where it does not fit
 abbrev pub HandOut : ℕ → ℕ → List ℕ → ℕ → List ℕ → List ℕ → List ℕ → MapOutcome → Type 0
-HandOut e N E P F old new o = Promise (threeRows e N E P F (short (HandedOut N E P F) (length old) ∷ [])) (Hands N E P F old) old new o
+HandOut e N E P F old new o = Promise (threeRows e N E P F (short (HandedOut N E P F) (length old) ∷ [])) (HandsMap N E P F old) old new o
 
 -- whether the map w is one; nothing is written
 abbrev pub CheckRenumbering : ℕ → ℕ → List ℕ → ℕ → List ℕ → List ℕ → MapOutcome → Type 0

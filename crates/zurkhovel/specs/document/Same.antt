@@ -5,11 +5,13 @@
 -- allows one verdict is in `One`, and what the verdict is without codes in `Meaning`. Assumes nothing.
 use mathlib.Core.Path.{_≡_}
 use mathlib.Core.Bool.{Bool, true, false}
+use mathlib.Core.Logic.{_⊎_}
 use mathlib.Core.List.{List, [], _∷_, _++_}
 use Prim.Native.Nat.{ℕ}
-use Rattle.refusal.specs.document.Table.{RowOf, Row, ofList, OutcomeOf, gives, refuses, Answered}
+use Rattle.refusal.specs.document.Table.{RowOf, Row, ofList, Clear, FirstRefusal, OutcomeOf, gives, refuses, Answered}
+use Rattle.refusal.specs.document.Lowest.{Lowest}
 use Rattle.limits.specs.document.Limits.{size}
-use Rattle.edition.specs.document.Edition.{neighboursIn, row22}
+use Rattle.edition.specs.document.Edition.{IsEdition, neighboursIn, row22}
 use Rattle.skeleton.specs.document.Skeleton.{Renumbering}
 use Rattle.edge_list.specs.document.Edges.{edgeRows}
 use Rattle.form.specs.document.Form.{centred}
@@ -33,6 +35,12 @@ listRows e N E = edgeRows size (neighboursIn e) N E 1
 -- 22 is before all others, and called 0; "the first list's comes first"
 abbrev pub bothRows : ℕ → ℕ → List ℕ → ℕ → List ℕ → List (RowOf (ℕ × ℕ))
 bothRows e N E P F = ofList 0 (row22 e ∷ []) ++ (ofList 1 (listRows e N E) ++ ofList 2 (listRows e P F))
+
+-- what these refuse with the number k at p, of the list i: 22, called 0, where there is no such edition; else each list's lowest number, the first list's first
+abbrev pub WhichList : ℕ → ℕ → List ℕ → ℕ → List ℕ → ℕ → ℕ → ℕ → Type 0
+WhichList e N E P F i k p =
+    ((i ≡ 0) × FirstRefusal (row22 e ∷ []) k p)
+    ⊎ (IsEdition e × (((i ≡ 1) × Lowest (listRows e N E) k p) ⊎ ((i ≡ 2) × Clear (listRows e N E) × Lowest (listRows e P F) k p)))
 
 -- "Two edge lists are the same when their centred codes are equal."
 abbrev pub EqualCodes : ℕ → List ℕ → ℕ → List ℕ → Bool → Type 0
