@@ -5,11 +5,12 @@ use mathlib.Core.Path.{_≡_, refl, ap, ap₂, sym, _∙_}
 use mathlib.Core.List.{List, [], _∷_, _++_, map, flatten, append-assoc}
 use Prim.Native.Nat.{ℕ, zero, suc, _+_, _-_, _*_, _≤_, _<_}
 use native.Mathlib.Omega.{arith}
-use lib.ListN.{length, getD, length-append, length-map}
+use lib.ListN.{length, getD, take, drop, length-append, length-map}
 use lib.Seq.{getD-at}
 use Rattle.refusal.specs.document.Table.{Clear}
-use Rattle.digit_code.specs.document.Code.{digit, childCodes, decode, digitRows}
+use Rattle.digit_code.specs.document.Code.{plain, digit, codes, childCodes, decode, digitRows}
 use Rattle.digit_code.specs.Ordered.{Ordered}
+use Rattle.digit_code.specs.Two.{map-take, map-drop, codes-digits, digit-at}
 use Rattle.skeleton.specs.document.Skeleton.{Arc, arcs, neighbours, children}
 use Rattle.skeleton.specs.IsRooted.{IsRooted}
 use Rattle.skeleton.specs.Forest.{Forest, none, tree, count}
@@ -71,6 +72,22 @@ module _ (c : List ℕ) (n : ℕ) (y : Found c (decode c) (arcs (decode c)) (suc
   child-is =
       ap (λ l. getD l (2 * (suc (suc n) - 2) + 1) 0) (y .part .edges ∙ sym (append-assoc (y .part .before) (y .up ∷ []) (suc (suc n) ∷ others)))
       ∙ getD-at (y .part .before ++ (y .up ∷ [])) (suc (suc n)) others 0 (2 * (suc (suc n) - 2) + 1) (omega (arith, y .part .passed, length-append (y .part .before) (y .up ∷ [])))
+
+starts-same : (arity : ℕ → ℕ) (j : ℕ) (cs : List (List ℕ)) → starts j (map (map arity) cs) ≡ starts j cs
+unfolding starts
+starts-same arity j [] = refl
+starts-same arity j (c ∷ cs) = ap (λ l. j ∷ l) (ap (λ n. starts (j + n) (map (map arity) cs)) (length-map c arity) ∙ starts-same arity (j + length c) cs)
+
+-- the children's codes of marks begin where those of the digits do
+pub begins-marks : (M : Marks) (c : List ℕ) (i : ℕ) → 1 ≤ i → i ≤ length c → begins (digits M c) i ≡ starts (i + 1) (childCodes (M .arity) c i)
+unfolding begins childCodes digits
+begins-marks M c i a b =
+    let D : List (List ℕ) = codes (M .arity) (drop i c) in
+    let k : ℕ = M .arity (digit c i) in
+    ap₂ (λ n l. starts (i + 1) (take n (codes plain l))) (digit-at (M .arity) c refl (i - 1) (omega arith)) (sym (map-drop (M .arity) i c))
+    ∙ ap (λ l. starts (i + 1) (take k l)) (codes-digits (M .arity) (drop i c))
+    ∙ ap (starts (i + 1)) (sym (map-take (map (M .arity)) k D))
+    ∙ starts-same (M .arity) (i + 1) (take k D)
 
 -- vertex i of the tree that the digits of the marks c decode to, as `IsVertex` says it of a plain code
 pub record IsVertexₗ (M : Marks) (c : List ℕ) (i : ℕ) : Type 0 where
