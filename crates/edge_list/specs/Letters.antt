@@ -13,7 +13,7 @@ use Rattle.refusal.specs.document.Table.{Clear, row3}
 use Rattle.refusal.specs.Laws.{never, others, clear-one, clear-both, clear-left, clear-right}
 use Rattle.skeleton.specs.document.Skeleton.{degree, Degrees, IsSkeleton}
 use Rattle.skeleton.specs.Label.{Valences}
-use Rattle.skeleton.specs.Atoms.{Atom, C, N, O, bonds, atoms}
+use Rattle.skeleton.specs.Atoms.{Atom, C, N, O, bonds, atoms, same-atom}
 use Rattle.edge_list.specs.document.Edges.{row5-edges, row6, row7, row8, row9, edgeRows}
 use Rattle.edge_list.specs.document.Letters.{letter, atomOf, atomAt, row2-letters, row20-edges, row21-letters, row14-atom, letterRows, carbonRows}
 use Rattle.edge_list.specs.Bridge.{small, room-left, is-skeleton, is-clear}
@@ -99,15 +99,10 @@ module _ (most R n : ℕ) (E : List ℕ) (r : ℕ) (s : List ℕ) where
   -- A list of a form that takes carbon only is not refused just where besides every vertex is carbon.
   pub carbon-accepted : Clear (carbonRows most R n E r s) ↔ (Clear (letterRows most R n E r s) × ((v : ℕ) → 1 ≤ v → v ≤ length s → atomAt s v ≡ C))
   carbon-accepted = (
-    λ c. (clear-left (letterRows most R n E r s) (row14-atom s ∷ []) c, λ v a b. only v a b (clear-right (letterRows most R n E r s) (row14-atom s ∷ []) c) (carbon? (atomAt s v))),
+    λ c. (clear-left (letterRows most R n E r s) (row14-atom s ∷ []) c, λ v a b. only v a b (clear-right (letterRows most R n E r s) (row14-atom s ∷ []) c) (same-atom (atomAt s v) C)),
     λ (c, f). clear-both c (clear-one {r = row14-atom s} (λ p (a, b, m). m (f p a b))),
   )
     where
-      carbon? : (a : Atom) → Dec (a ≡ C)
-      carbon? C = yes refl
-      carbon? N = no (λ e. let z : _≡_ {A = ℕ} 0 1 = cc in omega arith)
-      carbon? O = no (λ e. let z : _≡_ {A = ℕ} 0 1 = cc in omega arith)
-
       only : (v : ℕ) → 1 ≤ v → v ≤ length s → Clear (row14-atom s ∷ []) → Dec (atomAt s v ≡ C) → atomAt s v ≡ C
       only v a b c (yes e) = e
       only v a b c (no m) = absurd (never c v (a, b, m))
