@@ -2,19 +2,19 @@
 --
 -- In order: letters and their atoms; row 20 and the bound on neighbours; the tables; an edge list of carbon alone is refused as one without letters.
 -- Assumes nothing.
-use mathlib.Core.Path.{_≡_, refl}
-use mathlib.Core.Logic.{_↔_}
-use mathlib.Core.List.{List, [], _∷_, List·Memᴰ}
-use Prim.Native.Nat.{ℕ, _≤_}
+use mathlib.Core.Path.{_≡_, refl, ap}
+use mathlib.Core.Logic.{_↔_, inl, inr, ⊎-elim}
+use mathlib.Core.List.{List, [], _∷_, _++_, List·Memᴰ, List·Memᴰ·head, List·Memᴰ·tail}
+use Prim.Native.Nat.{ℕ, zero, suc, _-_, _≤_}
 use native.Mathlib.Decide.{ℕ-discrete}
 use native.Mathlib.Omega.{arith}
-use lib.ListN.{length}
-use Rattle.refusal.specs.document.Table.{Clear, row3}
-use Rattle.refusal.specs.Laws.{never, others, clear-one, clear-both, clear-left, clear-right}
-use Rattle.skeleton.specs.document.Skeleton.{degree, Degrees, IsSkeleton}
+use lib.ListN.{length, getD}
+use Rattle.refusal.specs.document.Table.{Row, Clear, FirstRefusal, row3}
+use Rattle.refusal.specs.Laws.{never, others, clear-one, clear-both, clear-left, clear-right, refusal-front, refusal-back, refusal-either, refusal-behind, refusal-before}
+use Rattle.skeleton.specs.document.Skeleton.{degree, IsSkeleton}
 use Rattle.skeleton.specs.Label.{Valences}
 use Rattle.skeleton.specs.Atoms.{Atom, C, N, O, bonds, atoms, same-atom}
-use Rattle.edge_list.specs.document.Edges.{row5-edges, row6, row7, row8, row9, edgeRows}
+use Rattle.edge_list.specs.document.Edges.{firstEnd, secondEnd, row5-edges, row6, row7, row8, row9, edgeRows}
 use Rattle.edge_list.specs.document.Letters.{letter, atomOf, atomAt, row2-letters, row20-edges, row21-letters, row14-atom, letterRows, carbonRows}
 use Rattle.edge_list.specs.Bridge.{small, room-left, is-skeleton, is-clear}
 
@@ -107,12 +107,60 @@ module _ (most R n : ℕ) (E : List ℕ) (r : ℕ) (s : List ℕ) where
       only v a b c (yes e) = e
       only v a b c (no m) = absurd (never c v (a, b, m))
 
-  -- Where every vertex is carbon, and four neighbours are allowed, the letters refuse nothing: the list is refused as one without them.
-  pub carbon-plain : R ≤ 4 → Lettered n s → ((v : ℕ) → 1 ≤ v → v ≤ length s → atomAt s v ≡ C) → Clear (carbonRows most R n E r s) ↔ Clear (edgeRows most R n E r)
-  unfolding Valences Degrees
-  carbon-plain low l f = (
-    λ c. let (k, i, m, d) = letters-accepted .0 (carbon-accepted .0 c .0) in is-clear most R n E r k i,
+-- ---- carbon alone
+
+-- every letter is C
+abbrev pub AllCarbon : List ℕ → Type 0
+AllCarbon s = (b : ℕ) → List·Memᴰ b s → b ≡ letter C
+
+pub carbon-at : (s : List ℕ) → AllCarbon s → (v : ℕ) → atomAt s v ≡ C
+unfolding atomOf ℕ-discrete
+carbon-at s h v = at s h (v - 1)
+  where
+    at : (s : List ℕ) → AllCarbon s → (i : ℕ) → atomOf (getD s i 0) ≡ C
+    at [] h i = refl
+    at (x ∷ s) h zero = ap atomOf (h x (List·Memᴰ·head refl))
+    at (x ∷ s) h (suc i) = at s (λ b m. h b (List·Memᴰ·tail m)) i
+
+-- Letters that are all C refuse nothing where a vertex may have up to four neighbours: the list is refused as one without letters.
+module _ (most R n : ℕ) (E : List ℕ) (r : ℕ) (s : List ℕ) (low : R ≤ 4) (many : length s ≡ n) (h : AllCarbon s) where
+  -- rows 2 and 21; then 20 and 14, which apply nowhere where 9 does not
+  two : Clear (row2-letters s ∷ [])
+  two = clear-one {r = row2-letters s} (λ p (z, (b, m, f)). f C (h b m))
+
+  many-letters : Clear (row21-letters n s ∷ [])
+  many-letters = clear-one {r = row21-letters n s} (λ p (z, f). f many)
+
+  abbrev sizes : List Row
+  sizes = row3 most n ∷ row5-edges n E ∷ []
+
+  abbrev edges : List Row
+  edges = row6 n E r ∷ row7 E ∷ row8 E ∷ row9 R E ∷ []
+
+  abbrev last : List Row
+  last = row20-edges s E ∷ row14-atom s ∷ []
+
+  last-clear : Clear edges → Clear last
+  last-clear c = clear-both (clear-one {r = row20-edges s E} (λ p (e, o). never (others (others (others c))) p (e, ⊎-elim (λ g. inl (at (firstEnd E p) g)) (λ g. inr (at (secondEnd E p) g)) o)))
+      (clear-one {r = row14-atom s} (λ p (a, b, m). m (carbon-at s h p)))
+    where
+      at : (v : ℕ) {d : ℕ} → bonds (atomAt s v) ≤ d → R ≤ d
+      at v g = let e : bonds (atomAt s v) ≡ 4 = ap bonds (carbon-at s h v) in omega arith
+
+  pub carbon-plain : Clear (carbonRows most R n E r s) ↔ Clear (edgeRows most R n E r)
+  carbon-plain = (
     λ c.
-        let (k, i) = is-skeleton most R n E r c in
-        carbon-accepted .1 (letters-accepted .1 (k, i, l, λ v a b. rw (f v a (omega (arith, l .many))) (omega (arith, k .degrees v a b))), f),
+        let d : Clear (sizes ++ (row21-letters n s ∷ (edges ++ last))) = others c in
+        clear-both (clear-left sizes (row21-letters n s ∷ (edges ++ last)) d) (clear-left edges last (others (clear-right sizes (row21-letters n s ∷ (edges ++ last)) d))),
+    λ c. let d : Clear edges = clear-right sizes edges c in clear-both two (clear-both (clear-left sizes edges c) (clear-both many-letters (clear-both d (last-clear d)))),
+  )
+
+  pub carbon-refused : {k p : ℕ} → FirstRefusal (carbonRows most R n E r s) k p ↔ FirstRefusal (edgeRows most R n E r) k p
+  carbon-refused = (
+    λ l. ⊎-elim (refusal-front edges)
+        (λ (c, b). refusal-back c (refusal-before edges last last-clear (refusal-behind (row21-letters n s ∷ []) (edges ++ last) many-letters b)))
+        (refusal-either sizes (row21-letters n s ∷ (edges ++ last)) (refusal-behind (row2-letters s ∷ []) (sizes ++ (row21-letters n s ∷ (edges ++ last))) two l)),
+    λ l. refusal-back two (⊎-elim (refusal-front (row21-letters n s ∷ (edges ++ last)))
+        (λ (c, b). refusal-back c (refusal-back many-letters (refusal-front last b)))
+        (refusal-either sizes edges l)),
   )

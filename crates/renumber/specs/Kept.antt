@@ -10,10 +10,10 @@ use native.Mathlib.Omega.{arith}
 use lib.ListN.{length, getD, take}
 use Rattle.laws.specs.Rising.{lists-back}
 use Rattle.refusal.specs.document.Table.{Clear, Writes}
-use Rattle.refusal.specs.Laws.{never, others, clear-one, clear-both}
+use Rattle.refusal.specs.Laws.{never, others, clear-one, clear-both, Alike, alike-clear}
 use Rattle.skeleton.specs.document.Skeleton.{IsTree, rooted, Renumbering}
 use Rattle.skeleton.specs.Label.{Marks, rootedₗ, Keeps}
-use Rattle.skeleton.specs.Atoms.{atoms, same-atom}
+use Rattle.skeleton.specs.Atoms.{atoms}
 use Rattle.skeleton.specs.Carbon.{carbon, carbonMark, carbon-marks, all-carbon}
 use Rattle.numbering.specs.Numbering.{Orders}
 use Rattle.numbering.specs.Numbers.{markAt, orderₗ, orderₗ-numbers, orders-besideₗ}
@@ -111,8 +111,8 @@ module _ (M : Marks) (l k : ℕ → M .Label) where
 -- ---- carbon
 
 -- where every vertex is carbon a map is refused as one between plain lists
-pub kept-carbon : (N : ℕ) (E : List ℕ) (P : ℕ) (F w : List ℕ) → Clear (keptRows carbon carbon N E P F w) ↔ Clear (mapRows N E P F w)
-kept-carbon N E P F w = (λ c. clear-kept carbon carbon N E P F w same-atom c .0, λ c. kept-clear carbon carbon N E P F w c (λ v a b. refl))
+pub kept-carbon : (N : ℕ) (E : List ℕ) (P : ℕ) (F w : List ℕ) → Alike (keptRows carbon carbon N E P F w) (mapRows N E P F w)
+kept-carbon N E P F w = record { rows = (refl, λ p. (λ h. h, λ h. h), (refl, λ p. (⊎-elim (λ h. h) (λ (e, n). absurd (n refl)), inl), (refl, λ p. (λ h. h, λ h. h), tt))) }
 
 -- and the one that is handed out is the same
 pub handed-carbon : (N : ℕ) (E : List ℕ) (P : ℕ) (F w : List ℕ) → HandedKept atoms carbon carbon N E P F w ↔ HandedOut N E P F w
@@ -124,7 +124,7 @@ handed-carbon N E P F w = (
     rule₂ = root-carbon P F (x .root₂) .0 (x .rule₂);
     codes = lists-back carbonMark (carbon-marks .rising) (rooted N E (x .root)) (rooted P F (x .root₂)) (sym (all-carbon N E (x .root)) ∙ x .codes ∙ all-carbon P F (x .root₂));
     sends = rw (order-carbon N E (x .root), order-carbon P F (x .root₂)) at (x .sends);
-    accepted = kept-carbon N E P F w .0 (x .accepted);
+    accepted = alike-clear (kept-carbon N E P F w) .0 (x .accepted);
   },
   λ x. record {
     root = x .root;
@@ -133,6 +133,6 @@ handed-carbon N E P F w = (
     rule₂ = root-carbon P F (x .root₂) .1 (x .rule₂);
     codes = all-carbon N E (x .root) ∙ ap (map carbonMark) (x .codes) ∙ sym (all-carbon P F (x .root₂));
     sends = rw (order-carbon N E (x .root), order-carbon P F (x .root₂)) (x .sends);
-    accepted = kept-carbon N E P F w .1 (x .accepted);
+    accepted = alike-clear (kept-carbon N E P F w) .1 (x .accepted);
   },
 )
