@@ -8,7 +8,7 @@ use Rattle.digit_code.specs.document.Code.{decode}
 use Rattle.skeleton.specs.document.Skeleton.{rooted, Renumbering}
 use Rattle.numbering.specs.document.Order as numbers
 use Rattle.form.specs.document.Form.{centred}
-use Rattle.form.specs.document.Root.{CentredRoot}
+use Rattle.form.specs.Root.{CentredRoot}
 
 -- c is the centred code of E, the one at root, of equal ones that of the lower number, and o has the vertex of each digit
 pub record Numbered (N : ℕ) (E o c : List ℕ) : Type 0 where
