@@ -2,7 +2,7 @@
 -- forms": "an array of 64 rows of four". Here a row has `width` places, nine, so that more neighbours can be handed in as the limit.
 --
 -- The one representation of a skeleton in the code. The degrees stand beside the rows, and beside these the atoms (`Named`); a plain
--- skeleton is the one whose atoms are all carbon (`carbon`). That a list has one table is in `Theorems`. Assumes nothing.
+-- skeleton is the one whose atoms are all carbon (`carbon-named`). That a list has one table is in `Theorems`. Assumes nothing.
 use mathlib.Core.Path.{_≡_, refl}
 use mathlib.Core.List.{List, []}
 use Prim.Native.Nat.{ℕ, _-_, _≤_, _<_}
@@ -11,7 +11,8 @@ use lib.ListN.{length, getD, replicate, getD-replicate}
 use Rattle.limits.specs.document.Limits.{size}
 use Rattle.limits.specs.Width.{width}
 use Rattle.skeleton.specs.document.Skeleton.{arcs, neighbours, degree, IsSkeleton}
-use Rattle.skeleton.specs.Atoms.{Atom, C, rank}
+use Rattle.skeleton.specs.Atoms.{Atom, rank}
+use Rattle.skeleton.specs.Carbon.{carbon}
 
 -- t has 64 rows of `width` places, and d has 64 numbers
 pub record Shaped (t : List (List ℕ)) (d : List ℕ) : Type 0 where
@@ -54,5 +55,5 @@ pub record Ranked (N : ℕ) (a : List ℕ) : Type 0 where
   pub named : Named N label a
 
 -- zeros are all carbon
-pub carbon : (N : ℕ) → N ≤ size → Named N (λ v. C) (replicate size 0)
-carbon N h = record { long = refl; ranks = λ v i j. getD-replicate {A = ℕ} size (v - 1) 0 0 (omega arith) }
+pub carbon-named : (N : ℕ) → N ≤ size → Named N carbon (replicate size 0)
+carbon-named N h = record { long = refl; ranks = λ v i j. getD-replicate {A = ℕ} size (v - 1) 0 0 (omega arith) }

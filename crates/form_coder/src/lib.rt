@@ -1,7 +1,11 @@
-// The codes of an accepted edge list: rooted at a vertex, N-tuple and centred; its edges in the numbering by code. Each tells how many pairs of
-// digits were looked at to put siblings in order. Whether digits are an N-tuple code.
+// The codes of an accepted edge list: rooted at a vertex, N-tuple and centred; its edges in the numbering by code. Each tells how many pairs were
+// looked at to put siblings in order. Whether digits are an N-tuple code.
+//
+// Marks of digit and atom are compared. `atoms` has the rank of each vertex's atom; a plain code is that of the skeleton whose vertices are all
+// carbon, and its digits are what the marks tell.
 use centre::Middles;
 use digit_code::Order;
+use limits::ATOMS;
 use limits::BYTES;
 use limits::ENDS;
 use limits::SIZE;
@@ -12,6 +16,7 @@ ghost use mathlib.Core.List.{List, [], _∷_};
 ghost use Prim.Native.Nat.{ℕ, _≤_, _<_};
 ghost use lib.ListN.{length, take, set};
 ghost use Rattle.laws.specs.document.Once.{Once};
+ghost use Rattle.laws.specs.document.Laid.{laidOver};
 ghost use Rattle.refusal.specs.document.Table.{Writes};
 ghost use Rattle.refusal.specs.Checks.{Answers};
 ghost use Rattle.limits.specs.document.Limits.{size};
@@ -19,13 +24,51 @@ ghost use Rattle.limits.specs.Width.{width};
 ghost use Rattle.digit_code.specs.document.Code.{decode};
 ghost use Rattle.digit_code.specs.Ends.{Ends};
 ghost use Rattle.skeleton.specs.document.Skeleton as tree;
-ghost use Rattle.edge_list.specs.Table.{IsTable, Held};
+ghost use Rattle.skeleton.specs.Label.{rootedₗ, digits};
+ghost use Rattle.skeleton.specs.Atoms as names;
+ghost use Rattle.skeleton.specs.Atoms.{Atom};
+ghost use Rattle.edge_list.specs.Table.{IsTable, Held, Named, Ranked};
 ghost use Rattle.numbering.specs.document.Pairs.{rootedPairs};
+ghost use Rattle.numbering.specs.Numbers as numbers;
 ghost use Rattle.longest_path.specs.document.Path.{IsCentre};
 ghost use Rattle.form.specs.document.Form.{nTuple, centred, row14-form, formRows};
-ghost use Rattle.form_coder.specs.document.Pairs.{centredPairs, nTuplePairs};
-ghost use Rattle.form_coder.specs.Numbered.{Numbered, Counts, ByPlace};
+ghost use Rattle.form.specs.Labelled.{nTupleₗ, centredₗ};
+ghost use Rattle.form_coder.specs.document.Pairs.{OverMiddles, OverWidest, centredPairs, nTuplePairs};
+ghost use Rattle.form_coder.specs.Numbered.{Numbered, Numberedₗ, Counts, ByPlace};
 ghost use Rattle.form_coder.specs.Raised.{Raised, MaximumDegree};
+
+// The first n marks become their digits.
+fn read_digits(marks: &mut [u8], n: usize)
+    requires { ⌜ n ≤ length (now marks) ⌝ }
+    ensures { λ _. ⌜ now (marks .exit) ≡ laidOver (digits names.atoms (take n (now (marks .entry)))) (now (marks .entry)) ⌝ }
+{
+    let mut i = 0;
+    while i < n {
+        marks[i] /= ATOMS;
+        i += 1;
+    }
+}
+
+// The marks of the rooted code at a vertex.
+pub fn rooted_marks(
+    n: usize,
+    edges: &[u8],
+    atoms: &[u8; SIZE],
+    root: usize,
+    out: &mut [u8],
+) -> usize
+    requires { ⌜ tree.IsSkeleton size width n (now edges) × Ranked n (now atoms) ⌝ }
+    requires { ⌜ (1 ≤ root) × (root ≤ n) × (n ≤ length (now out)) ⌝ }
+    ensures { λ r. ⌜ ((label : ℕ → Atom) → Named n label (now (atoms .entry))
+        → Writes (λ c. c ≡ rootedₗ names.atoms label n (now (edges .entry)) root) (now (out .entry)) n (now (out .exit))
+        × (r ≡ numbers.pairsₗ names.atoms label n (now (edges .entry)) root)) ⌝ }
+{
+    let mut rows = [[0u8; WIDTH]; SIZE];
+    let mut degs = [0u8; SIZE];
+    let mut order = [0u8; SIZE];
+    edge_list::fill(n, edges, &mut rows, &mut degs);
+    rooted_coder::rooted(&rows, &degs, atoms, n, root, &mut order, out)
+}
 
 // The rooted code at a vertex.
 pub fn rooted(n: usize, edges: &[u8], root: usize, out: &mut [u8]) -> usize
@@ -34,14 +77,13 @@ pub fn rooted(n: usize, edges: &[u8], root: usize, out: &mut [u8]) -> usize
     ensures { λ _. ⌜ Writes (λ c. c ≡ tree.rooted n (now (edges .entry)) root) (now (out .entry)) n (now (out .exit)) ⌝ }
     ensures { λ r. ⌜ r ≡ rootedPairs n (now (edges .entry)) root ⌝ }
 {
-    let mut rows = [[0u8; WIDTH]; SIZE];
-    let mut degs = [0u8; SIZE];
-    let mut order = [0u8; SIZE];
-    edge_list::fill(n, edges, &mut rows, &mut degs);
-    rooted_coder::rooted(&rows, &degs, n, root, &mut order, out)
+    let carbon = [0u8; SIZE];
+    let looked = rooted_marks(n, edges, &carbon, root, out);
+    read_digits(out, n);
+    looked
 }
 
-// The larger of the first n digits of two codes is left in the first. Whether it is the second's.
+// The larger of the first n marks of two codes is left in the first. Whether it is the second's.
 fn raise(best: &mut [u8], other: &[u8], n: usize) -> bool
     requires { ⌜ (n ≤ length (now best)) × (n ≤ length (now other)) ⌝ }
     ensures { λ r. ⌜ Raised n (now (best .entry)) (now (other .entry)) (now (best .exit)) r ⌝ }
@@ -74,13 +116,20 @@ fn middles(rows: &[[u8; WIDTH]; SIZE], degs: &[u8; SIZE], n: usize) -> Middles
     }
 }
 
-// The centred code, and the vertex of each digit. Of two middle vertices with equal codes the one of the lower number is the root.
-pub fn numbered(n: usize, edges: &[u8], order: &mut [u8; SIZE], out: &mut [u8]) -> usize
-    requires { ⌜ tree.IsSkeleton size width n (now edges) ⌝ }
+// The marks of the centred code, and the vertex of each. Of two middle vertices with equal codes the one of the lower number is the root.
+pub fn numbered_marks(
+    n: usize,
+    edges: &[u8],
+    atoms: &[u8; SIZE],
+    order: &mut [u8; SIZE],
+    out: &mut [u8],
+) -> usize
+    requires { ⌜ tree.IsSkeleton size width n (now edges) × Ranked n (now atoms) ⌝ }
     requires { ⌜ (length (now order) ≡ size) × (n ≤ length (now out)) ⌝ }
     ensures { λ _. ⌜ length (now (order .exit)) ≡ size ⌝ }
-    ensures { λ _. ⌜ Writes (Numbered n (now (edges .entry)) (take n (now (order .exit)))) (now (out .entry)) n (now (out .exit)) ⌝ }
-    ensures { λ r. ⌜ centredPairs n (now (edges .entry)) r ⌝ }
+    ensures { λ r. ⌜ ((label : ℕ → Atom) → Named n label (now (atoms .entry))
+        → Writes (Numberedₗ label n (now (edges .entry)) (take n (now (order .exit)))) (now (out .entry)) n (now (out .exit))
+        × OverMiddles n (now (edges .entry)) (numbers.pairsₗ names.atoms label n (now (edges .entry))) r) ⌝ }
 {
     let mut rows = [[0u8; WIDTH]; SIZE];
     let mut degs = [0u8; SIZE];
@@ -88,15 +137,29 @@ pub fn numbered(n: usize, edges: &[u8], order: &mut [u8; SIZE], out: &mut [u8]) 
     let m = middles(&rows, &degs, n);
     let u = m.first;
     let v = m.second;
-    let mut looked = rooted_coder::rooted(&rows, &degs, n, u, order, out);
+    let mut looked = rooted_coder::rooted(&rows, &degs, atoms, n, u, order, out);
     if u != v {
         let mut its = [0u8; SIZE];
         let mut other = [0u8; SIZE];
-        looked += rooted_coder::rooted(&rows, &degs, n, v, &mut its, &mut other);
+        looked += rooted_coder::rooted(&rows, &degs, atoms, n, v, &mut its, &mut other);
         if raise(out, &other, n) {
             bytes::copy(&its, order);
         }
     }
+    looked
+}
+
+// The centred code, and the vertex of each digit.
+pub fn numbered(n: usize, edges: &[u8], order: &mut [u8; SIZE], out: &mut [u8]) -> usize
+    requires { ⌜ tree.IsSkeleton size width n (now edges) ⌝ }
+    requires { ⌜ (length (now order) ≡ size) × (n ≤ length (now out)) ⌝ }
+    ensures { λ _. ⌜ length (now (order .exit)) ≡ size ⌝ }
+    ensures { λ _. ⌜ Writes (Numbered n (now (edges .entry)) (take n (now (order .exit)))) (now (out .entry)) n (now (out .exit)) ⌝ }
+    ensures { λ r. ⌜ centredPairs n (now (edges .entry)) r ⌝ }
+{
+    let carbon = [0u8; SIZE];
+    let looked = numbered_marks(n, edges, &carbon, order, out);
+    read_digits(out, n);
     looked
 }
 
@@ -165,12 +228,13 @@ fn widest(degs: &[u8; SIZE], n: usize) -> u8
     d
 }
 
-// The N-tuple code.
-pub fn n_tuple(n: usize, edges: &[u8], out: &mut [u8]) -> usize
-    requires { ⌜ tree.IsSkeleton size width n (now edges) ⌝ }
+// The marks of the N-tuple code.
+pub fn n_tuple_marks(n: usize, edges: &[u8], atoms: &[u8; SIZE], out: &mut [u8]) -> usize
+    requires { ⌜ tree.IsSkeleton size width n (now edges) × Ranked n (now atoms) ⌝ }
     requires { ⌜ n ≤ length (now out) ⌝ }
-    ensures { λ _. ⌜ Writes (nTuple n (now (edges .entry))) (now (out .entry)) n (now (out .exit)) ⌝ }
-    ensures { λ r. ⌜ nTuplePairs n (now (edges .entry)) r ⌝ }
+    ensures { λ r. ⌜ ((label : ℕ → Atom) → Named n label (now (atoms .entry))
+        → Writes (nTupleₗ names.atoms n (now (edges .entry)) label) (now (out .entry)) n (now (out .exit))
+        × OverWidest n (now (edges .entry)) (numbers.pairsₗ names.atoms label n (now (edges .entry))) r) ⌝ }
 {
     let mut rows = [[0u8; WIDTH]; SIZE];
     let mut degs = [0u8; SIZE];
@@ -185,11 +249,24 @@ pub fn n_tuple(n: usize, edges: &[u8], out: &mut [u8]) -> usize
         let k = degs[v];
         v += 1;
         if k == d {
-            looked += rooted_coder::rooted(&rows, &degs, n, v, &mut order, &mut other);
+            looked += rooted_coder::rooted(&rows, &degs, atoms, n, v, &mut order, &mut other);
             raise(&mut best, &other, n);
         }
     }
     bytes::copy(&best[..n], out);
+    looked
+}
+
+// The N-tuple code.
+pub fn n_tuple(n: usize, edges: &[u8], out: &mut [u8]) -> usize
+    requires { ⌜ tree.IsSkeleton size width n (now edges) ⌝ }
+    requires { ⌜ n ≤ length (now out) ⌝ }
+    ensures { λ _. ⌜ Writes (nTuple n (now (edges .entry))) (now (out .entry)) n (now (out .exit)) ⌝ }
+    ensures { λ r. ⌜ nTuplePairs n (now (edges .entry)) r ⌝ }
+{
+    let carbon = [0u8; SIZE];
+    let looked = n_tuple_marks(n, edges, &carbon, out);
+    read_digits(out, n);
     looked
 }
 
