@@ -7,5 +7,6 @@ pub mod Count
 pub mod Joins
 pub mod Bridge
 pub mod Tables
+pub mod Letters
 pub mod Theorems
 pub mod document

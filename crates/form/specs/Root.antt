@@ -1,6 +1,6 @@
 -- The root of the centred code's numbering (`document.Root`): it is one, its code is the centred code, and how it is found among the two of a centre,
 -- the lower number first. Assumes nothing.
-use mathlib.Core.Path.{_≡_, refl, sym, subst}
+use mathlib.Core.Path.{_≡_, sym, subst}
 use mathlib.Core.Logic.{_⊎_, inl, inr, ⊎-elim}
 use mathlib.Core.List.{List}
 use Prim.Native.Nat.{ℕ, _≤_}

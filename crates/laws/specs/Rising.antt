@@ -1,8 +1,8 @@
 -- Numbers written by other numbers in the same order (`Rising`): lists of them stand in the dictionary as before, and are sorted as before.
 --
 -- In order: one number; two lists; sorting. Assumes nothing.
-use mathlib.Core.Path.{_≡_, refl, ap, ap₂, sym, _∙_}
-use mathlib.Core.Logic.{_↔_, _⊎_, inl, inr, ite}
+use mathlib.Core.Path.{_≡_, refl, ap, ap₂, _∙_}
+use mathlib.Core.Logic.{_↔_, inl, inr, ite}
 use mathlib.Core.List.{List, [], _∷_, map, cons≢nil, nil≢cons, head-eq-of-cons-eq, tail-eq-of-cons-eq}
 use Prim.Native.Nat.{ℕ, _<_}
 use native.Mathlib.Decide.{decLt}
