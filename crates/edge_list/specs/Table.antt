@@ -41,13 +41,13 @@ pub record Held (N : ℕ) (t : List (List ℕ)) (d : List ℕ) : Type 0 where
 -- ---- atoms
 
 -- the rank of v's atom, by the table
-abbrev pub atomAt : List ℕ → ℕ → ℕ
-atomAt a v = getD a (v - 1) 0
+abbrev pub rankAt : List ℕ → ℕ → ℕ
+rankAt a v = getD a (v - 1) 0
 
 -- a has the rank of each vertex's atom
 pub record Named (N : ℕ) (label : ℕ → Atom) (a : List ℕ) : Type 0 where
   pub long : length a ≡ size
-  pub ranks : (v : ℕ) → 1 ≤ v → v ≤ N → atomAt a v ≡ rank (label v)
+  pub ranks : (v : ℕ) → 1 ≤ v → v ≤ N → rankAt a v ≡ rank (label v)
 
 -- a has atoms for N vertices
 pub record Ranked (N : ℕ) (a : List ℕ) : Type 0 where

@@ -12,9 +12,9 @@ use limits::SIZE;
 use limits::WIDTH;
 use refusal::Check;
 ghost use mathlib.Core.Path.{_≡_};
-ghost use mathlib.Core.List.{List, [], _∷_};
+ghost use mathlib.Core.List.{List, [], _∷_, map};
 ghost use Prim.Native.Nat.{ℕ, _≤_, _<_};
-ghost use lib.ListN.{length, take, set};
+ghost use lib.ListN.{length, getD, take, set};
 ghost use Rattle.laws.specs.document.Once.{Once};
 ghost use Rattle.laws.specs.document.Laid.{laidOver};
 ghost use Rattle.refusal.specs.document.Table.{Writes};
@@ -24,15 +24,16 @@ ghost use Rattle.limits.specs.Width.{width};
 ghost use Rattle.digit_code.specs.document.Code.{decode};
 ghost use Rattle.digit_code.specs.Ends.{Ends};
 ghost use Rattle.skeleton.specs.document.Skeleton as tree;
-ghost use Rattle.skeleton.specs.Label.{rootedₗ, digits};
+ghost use Rattle.skeleton.specs.Label.{rootedₗ, digits, labels};
 ghost use Rattle.skeleton.specs.Atoms as names;
 ghost use Rattle.skeleton.specs.Atoms.{Atom};
+ghost use Rattle.skeleton.specs.Carbon.{carbonMark};
 ghost use Rattle.edge_list.specs.Table.{IsTable, Held, Named, Ranked};
 ghost use Rattle.numbering.specs.document.Pairs.{rootedPairs};
 ghost use Rattle.numbering.specs.Numbers as numbers;
 ghost use Rattle.longest_path.specs.document.Path.{IsCentre};
 ghost use Rattle.form.specs.document.Form.{nTuple, centred, row14-form, formRows};
-ghost use Rattle.form.specs.Labelled.{nTupleₗ, centredₗ};
+ghost use Rattle.form.specs.Labelled.{nTupleₗ, row14ₗ};
 ghost use Rattle.form_coder.specs.document.Pairs.{OverMiddles, OverWidest, centredPairs, nTuplePairs};
 ghost use Rattle.form_coder.specs.Numbered.{Numbered, Numberedₗ, Counts, ByPlace};
 ghost use Rattle.form_coder.specs.Raised.{Raised, MaximumDegree};
@@ -270,22 +271,61 @@ pub fn n_tuple(n: usize, edges: &[u8], out: &mut [u8]) -> usize
     looked
 }
 
-// 14: a rooted code that is not the N-tuple code of what it decodes to.
-fn judged(code: &[u8]) -> Check
-    requires { ⌜ Ends 1 (now code) ⌝ }
-    requires { ⌜ tree.IsSkeleton size width (length (now code)) (decode (now code)) ⌝ }
-    ensures { λ r. ⌜ Answers (row14-form nTuple (now (code .entry)) ∷ []) r ⌝ }
+// The atoms that marks tell.
+fn read_atoms(code: &[u8], atoms: &mut [u8; SIZE])
+    requires { ⌜ (length (now code) ≤ size) × (length (now atoms) ≡ size) ⌝ }
+    ensures { λ _. ⌜ Named (length (now (code .entry))) (labels names.atoms (now (code .entry))) (now (atoms .exit)) ⌝ }
+{
+    let mut i = 0;
+    while i < code.len() {
+        atoms[i] = code[i] % ATOMS;
+        i += 1;
+    }
+}
+
+// 14: a rooted code that is not the N-tuple code of what it tells. `ds` are the digits of the marks `code`.
+pub fn n_tuple_judged(ds: &[u8], code: &[u8]) -> Check
+    requires { ⌜ now ds ≡ digits names.atoms (now code) ⌝ }
+    requires { ⌜ Ends 1 (now ds) × tree.IsSkeleton size width (length (now code)) (decode (now ds)) ⌝ }
+    ensures { λ r. ⌜ Answers (row14ₗ names.atoms (nTupleₗ names.atoms) (now (code .entry)) ∷ []) r ⌝ }
 {
     let n = code.len();
     let mut edges = [0u8; ENDS];
+    let mut atoms = [0u8; SIZE];
     let mut own = [0u8; SIZE];
-    let m = digit_code::write_edges(code, &mut edges);
-    n_tuple(n, &edges[..m], &mut own);
+    let m = digit_code::write_edges(ds, &mut edges);
+    read_atoms(code, &mut atoms);
+    n_tuple_marks(n, &edges[..m], &atoms, &mut own);
     match digit_code::compare(code, &own[..n]) {
         Order::Less(_) => Check::Refuse(14, 0),
         Order::Equal(_) => Check::Passed,
         Order::Greater(_) => Check::Refuse(14, 0),
     }
+}
+
+// The marks of digits, where every vertex is carbon.
+fn write_marks(ds: &[u8], marks: &mut [u8; SIZE])
+    requires { ⌜ (length (now ds) ≤ size) × (length (now marks) ≡ size) ⌝ }
+    requires { ⌜ ((i : ℕ) → i < length (now ds) → getD (now ds) i 0 ≤ width) ⌝ }
+    ensures { λ _. ⌜ now (marks .exit) ≡ laidOver (map carbonMark (now (ds .entry))) (now (marks .entry)) ⌝ }
+{
+    let mut i = 0;
+    while i < ds.len() {
+        marks[i] = ATOMS * ds[i];
+        i += 1;
+    }
+}
+
+// The same of digits alone.
+fn judged(code: &[u8]) -> Check
+    requires { ⌜ Ends 1 (now code) × tree.IsSkeleton size width (length (now code)) (decode (now code)) ⌝ }
+    requires { ⌜ ((i : ℕ) → i < length (now code) → getD (now code) i 0 ≤ width) ⌝ }
+    ensures { λ r. ⌜ Answers (row14-form nTuple (now (code .entry)) ∷ []) r ⌝ }
+{
+    let n = code.len();
+    let mut marks = [0u8; SIZE];
+    write_marks(code, &mut marks);
+    n_tuple_judged(code, &marks[..n])
 }
 
 // Digits lent by themselves that are to be an N-tuple code: 3, 10 to 13, and 14.

@@ -15,7 +15,7 @@ use Rattle.skeleton.specs.document.Skeleton.{arcs, neighbours, degree, Degrees,
 use Rattle.skeleton.specs.Label.{Marks}
 use Rattle.skeleton.specs.Atoms.{Atom, atoms, rank-under}
 use Rattle.skeleton.specs.Grow.{rooted-tree}
-use Rattle.edge_list.specs.Table.{IsTable, Held, deg, atomAt, Named, Ranked}
+use Rattle.edge_list.specs.Table.{IsTable, Held, deg, rankAt, Named, Ranked}
 use Rattle.numbering.specs.Numbering.{Reads, Orders, tree-numbering}
 use Rattle.numbering.specs.Numbers.{orderₗ, pairsₗ, markAt, reads-tree}
 use Rattle.numbering.specs.Same.{Same, one-order}
@@ -151,7 +151,7 @@ module _ {N : ℕ} {t : List (List ℕ)} {d a : List ℕ} (s : Held N t d) (z : 
   small i h =
       let e : suc i - 1 ≡ i = omega arith in
       let x : deg d (suc i) ≤ width = omega (arith, s .table .degs (suc i) (omega arith) (omega arith), s .skeleton .degrees (suc i) (omega arith) (omega arith)) in
-      let y : atomAt a (suc i) < 3 = omega (arith, z .named .ranks (suc i) (omega arith) (omega arith), rank-under (z .label (suc i))) in
+      let y : rankAt a (suc i) < 3 = omega (arith, z .named .ranks (suc i) (omega arith) (omega arith), rank-under (z .label (suc i))) in
       (rw e at x, rw e at y)
 
   module _ {r : ℕ} (h : 1 ≤ r) (k : r ≤ N) where

@@ -17,7 +17,7 @@ use Rattle.limits.specs.document.Limits.{size}
 use Rattle.limits.specs.Width.{width}
 use Rattle.skeleton.specs.document.Skeleton as tree
 use Rattle.skeleton.specs.Label.{Marks, rootedₗ}
-use Rattle.edge_list.specs.Table.{deg, atomAt}
+use Rattle.edge_list.specs.Table.{deg, rankAt}
 use Rattle.numbering.specs.Numbers as numbers
 use Rattle.numbering.specs.document.Order.{sortBy, orderBy}
 use Rattle.numbering.specs.Order.{place, pairs, pairsBy}
@@ -176,7 +176,7 @@ pub record Placed (M : Marks) (label : ℕ → M .Label) (N : ℕ) (E : List ℕ
 
 -- x is the mark of v where r is the root: three times its digit, and its atom
 abbrev pub IsMark : List ℕ → List ℕ → ℕ → ℕ → ℕ → Type 0
-IsMark d a r v x = (v ≡ r → x ≡ 3 * deg d v + atomAt a v) × ((v ≡ r → ⊥) → x ≡ 3 * (deg d v - 1) + atomAt a v)
+IsMark d a r v x = (v ≡ r → x ≡ 3 * deg d v + rankAt a v) × ((v ≡ r → ⊥) → x ≡ 3 * (deg d v - 1) + rankAt a v)
 
 -- s has the mark of each of the vertices up to n
 abbrev pub Fills : List ℕ → List ℕ → ℕ → ℕ → List ℕ → Type 0

@@ -7,7 +7,7 @@ use native.Mathlib.Omega.{arith}
 use lib.ListN.{length, getD, set, length-set}
 use lib.Seq.{getD-set-same, getD-set-other}
 use borrow.Author.Needs.{needs}
-use Rattle.edge_list.specs.Table.{deg, atomAt}
+use Rattle.edge_list.specs.Table.{deg, rankAt}
 use Rattle.rooted_coder.specs.Ordered.{Fills}
 use Rattle.rooted_coder.proofs.fill.Statement.{statement}
 use Rattle.rooted_coder.proofs.fill.Tie as tie
@@ -16,7 +16,7 @@ use Rattle.rooted_coder.proofs.fill.Tie as tie
 record Marking (d a s₀ s : List ℕ) (n i : ℕ) : Type 0 where
   within : i ≤ n
   long : length s ≡ length s₀
-  done : (v : ℕ) → 1 ≤ v → v ≤ i → getD s v 0 ≡ 3 * (deg d v - 1) + atomAt a v
+  done : (v : ℕ) → 1 ≤ v → v ≤ i → getD s v 0 ≡ 3 * (deg d v - 1) + rankAt a v
 
 module _ {d a s₀ s : List ℕ} {n i : ℕ} (g : Marking d a s₀ s n i) (fits : n < length s₀) where
   more : (k x : ℕ) → i < n → k ≡ getD d i 0 - 1 → x ≡ 3 * k + getD a i 0 → Marking d a s₀ (set s (i + 1) x) n (i + 1)
@@ -26,15 +26,15 @@ module _ {d a s₀ s : List ℕ} {n i : ℕ} (g : Marking d a s₀ s n i) (fits 
     done = λ v l m. step v l m (ℕ-discrete v (i + 1));
   }
     where
-      step : (v : ℕ) → 1 ≤ v → v ≤ i + 1 → Dec (v ≡ i + 1) → getD (set s (i + 1) x) v 0 ≡ 3 * (deg d v - 1) + atomAt a v
+      step : (v : ℕ) → 1 ≤ v → v ≤ i + 1 → Dec (v ≡ i + 1) → getD (set s (i + 1) x) v 0 ≡ 3 * (deg d v - 1) + rankAt a v
       step v l m (yes z) =
           let o : v - 1 ≡ i = omega arith in
           ap (λ w. getD (set s (i + 1) x) w 0) z ∙ getD-set-same s (i + 1) x 0 (omega (arith, g .long)) ∙ rw (o, ← f) e
       step v l m (no z) = getD-set-other s (i + 1) v x 0 z ∙ g .done v l (omega arith)
 
-  filled : (r x : ℕ) → 1 ≤ r → r ≤ n → n ≤ i → x ≡ 3 * deg d r + atomAt a r → Fills d a r n (set s r x)
+  filled : (r x : ℕ) → 1 ≤ r → r ≤ n → n ≤ i → x ≡ 3 * deg d r + rankAt a r → Fills d a r n (set s r x)
   filled r x h k l e v j m = (
-    λ z. ap (λ u. getD (set s r x) u 0) z ∙ getD-set-same s r x 0 (omega (arith, g .long)) ∙ e ∙ ap (λ u. 3 * deg d u + atomAt a u) (sym z),
+    λ z. ap (λ u. getD (set s r x) u 0) z ∙ getD-set-same s r x 0 (omega (arith, g .long)) ∙ e ∙ ap (λ u. 3 * deg d u + rankAt a u) (sym z),
     λ z. getD-set-other s r v x 0 z ∙ g .done v j (omega arith),
   )
 
