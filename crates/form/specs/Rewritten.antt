@@ -14,7 +14,8 @@ use Rattle.skeleton.specs.Atoms.{atoms}
 use Rattle.skeleton.specs.Rewritten.{Rewritten, rooted-rewritten}
 use Rattle.skeleton.specs.Carbon.{carbon, carbonMark, carbon-marks, all-carbon}
 use Rattle.form.specs.document.Form.{NTuple, Centred, nTuple, centred}
-use Rattle.form.specs.document.Root.{RootOf, CentredRoot}
+use Rattle.form.specs.document.Root.{RootOf}
+use Rattle.form.specs.Root.{CentredRoot}
 use Rattle.form.specs.Labelled.{nTupleₗ, centredₗ, CentredRootₗ}
 
 -- where d is to the codes `at` what c is to the codes `on`, it is of the form if c is

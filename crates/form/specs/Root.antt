@@ -7,12 +7,16 @@ use Prim.Native.Nat.{ℕ, _≤_}
 use native.Mathlib.Omega.{arith}
 use Rattle.laws.specs.document.Order.{_≽_}
 use Rattle.laws.specs.Sorting.{refl≽, antisym≽, below≽}
-use Rattle.skeleton.specs.document.Skeleton.{IsTree}
+use Rattle.skeleton.specs.document.Skeleton.{IsTree, rooted}
 use Rattle.longest_path.specs.document.Path.{IsCentre}
 use Rattle.longest_path.specs.Theorems.{one-centre, centre-inside, centre-turned}
 use Rattle.form.specs.document.Form.{Centred}
 use Rattle.form.specs.document.Root.{Middle, RootOf}
 use Rattle.form.specs.One.{at-first}
+
+-- r is the root of the numbering of document 01's centred code
+abbrev pub CentredRoot : ℕ → List ℕ → ℕ → Type 0
+CentredRoot N E r = RootOf N E (rooted N E) r
 
 -- a middle vertex is one of the two of a centre
 either : {N : ℕ} {E : List ℕ} → IsTree N E → {u v : ℕ} → IsCentre N E u v → (w : ℕ) → Middle N E w → (w ≡ u) ⊎ (w ≡ v)

@@ -16,8 +16,8 @@ use Rattle.refusal.specs.Laws.{never}
 use Rattle.skeleton.specs.document.Skeleton.{IsTree, rooted, Renumbering}
 use Rattle.numbering.specs.document.Order.{order}
 use Rattle.numbering.specs.Numbers.{Numbers, order-numbers, orders-beside}
-use Rattle.form.specs.document.Root.{RootOf, CentredRoot}
-use Rattle.form.specs.Root.{one-root, root-inside}
+use Rattle.form.specs.document.Root.{RootOf}
+use Rattle.form.specs.Root.{CentredRoot, one-root, root-inside}
 use Rattle.renumber.specs.document.Map.{image, row5-map, mapRows, HandedBy, HandedOut}
 use Rattle.renumber.specs.Parts.{Sent, Listed, Placed}
 use Rattle.renumber.specs.Lists.{entries, entries-length, entries-at, laid-first}

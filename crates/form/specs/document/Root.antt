@@ -6,7 +6,6 @@ use mathlib.Core.Path.{_≡_}
 use mathlib.Core.List.{List}
 use Prim.Native.Nat.{ℕ, _≤_}
 use Rattle.laws.specs.document.Order.{_≽_}
-use Rattle.skeleton.specs.document.Skeleton.{rooted}
 use Rattle.longest_path.specs.document.Path.{IsCentre}
 
 -- r and another, or r alone, are the centre
@@ -18,7 +17,3 @@ pub record RootOf (N : ℕ) (E : List ℕ) (at : ℕ → List ℕ) (r : ℕ) : T
   pub middle : Middle N E r
   pub largest : (v : ℕ) → Middle N E v → at r ≽ at v
   pub lowest : (v : ℕ) → Middle N E v → at v ≡ at r → r ≤ v
-
--- r is the root of the centred code's numbering
-abbrev pub CentredRoot : ℕ → List ℕ → ℕ → Type 0
-CentredRoot N E r = RootOf N E (rooted N E) r
