@@ -1,6 +1,6 @@
 -- Row 14 by coding again: the digits ds of the marks c are decoded, what they tell is coded, and the two codes are compared. Over the form; and
 -- where every vertex is carbon. Assumes nothing.
-use mathlib.Core.Path.{_≡_, refl, sym, ap, ap₂, _∙_, subst}
+use mathlib.Core.Path.{_≡_, refl, sym, ap, _∙_, subst}
 use mathlib.Core.Logic.{_↔_}
 use mathlib.Core.List.{List, [], _∷_, map}
 use Prim.Native.Nat.{ℕ, zero, suc, _-_, _*_, _≤_, _<_}

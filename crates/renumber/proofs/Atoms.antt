@@ -1,15 +1,15 @@
 -- Atoms by their ranks, as a map's entries are judged by them. Assumes nothing.
 use mathlib.Core.Path.{_≡_, refl, sym, ap, _∙_}
-use mathlib.Core.Logic.{_↔_, _⊎_, inl, inr, ⊎-elim}
-use mathlib.Core.List.{List, [], _∷_}
+use mathlib.Core.Logic.{_↔_, inl, inr, ⊎-elim}
+use mathlib.Core.List.{List}
 use Prim.Native.Nat.{ℕ, _-_, _≤_, _<_}
 use native.Mathlib.Decide.{decLt}
 use native.Mathlib.Omega.{arith}
-use lib.ListN.{length, getD, replicate, length-replicate, getD-replicate, List·getD-eq-default}
+use lib.ListN.{getD, replicate, length-replicate, getD-replicate, List·getD-eq-default}
 use Rattle.refusal.specs.document.Table.{Outside}
 use Rattle.refusal.specs.Laws.{Alike}
 use Rattle.limits.specs.document.Limits.{size}
-use Rattle.skeleton.specs.Atoms.{Atom, C, rank, named, named-rank}
+use Rattle.skeleton.specs.Atoms.{Atom, rank, named, named-rank}
 use Rattle.skeleton.specs.Carbon.{carbon}
 use Rattle.edge_list.specs.Table.{rankAt, Named, Ranked}
 use Rattle.renumber.specs.document.Map.{mapRows}

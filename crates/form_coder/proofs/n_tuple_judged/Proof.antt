@@ -11,7 +11,7 @@ use Rattle.digit_code.specs.declared.Order.{Order}
 use Rattle.digit_code.specs.Compare.{same?, told-same}
 use Rattle.refusal.specs.document.Table.{Writes}
 use Rattle.refusal.specs.Checks.{Answers}
-use Rattle.refusal.specs.Giving.{written-room, written-length}
+use Rattle.refusal.specs.Giving.{written-length}
 use Rattle.refusal.specs.declared.Check.the-variants.{Passed, Refuse}
 use Rattle.limits.specs.document.Limits.{size}
 use Rattle.skeleton.specs.Label.{labels}
