@@ -58,7 +58,7 @@ module _ (most : ℕ) {t : List ℕ} where
 
 -- ---- what was found
 
-drop-take : (s e : ℕ) (l : List ℕ) → drop s (take e l) ≡ part s e l
+pub drop-take : (s e : ℕ) (l : List ℕ) → drop s (take e l) ≡ part s e l
 drop-take zero e l = let q : e - 0 ≡ e = omega arith in rw q
 drop-take (suc s) zero l = let q : 0 - suc s ≡ 0 = omega arith in rw q
 drop-take (suc s) (suc e) [] = sym (take-nil (suc e - suc s))

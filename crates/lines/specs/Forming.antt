@@ -67,7 +67,7 @@ module _ {b : List ℕ} where
 -- ---- the form of a line
 
 -- written digits are what their values are written as
-figures-values : (t : List ℕ) → WrittenDigits t → (figures (values t) ≡ t) × Digits (values t)
+pub figures-values : (t : List ℕ) → WrittenDigits t → (figures (values t) ≡ t) × Digits (values t)
 unfolding figures values
 figures-values [] f = (refl, tt)
 figures-values (b ∷ t) f =
@@ -75,7 +75,7 @@ figures-values (b ∷ t) f =
     let e : 48 + (b - 48) ≡ b = omega (arith, f .0) in
     (cc, (omega (arith, f .0), h .1))
 
-are-figures : (ds : List ℕ) → Digits ds → WrittenDigits (figures ds)
+pub are-figures : (ds : List ℕ) → Digits ds → WrittenDigits (figures ds)
 unfolding figures
 are-figures [] h = tt
 are-figures (d ∷ ds) h = (omega (arith, h .0), are-figures ds (h .1))
@@ -95,11 +95,11 @@ unopened (begins-not h) e =
     unformed (λ q f.
     h (q .count) (length (f .count) + 1) (record { count = f .count; rest = figures (q .digits); counts = f .counts; parts = f .parts; start = refl }))
 
-figured : {t : List ℕ} {r : Bool} → Figured t r → r ≡ true → (1 ≤ length t) × WrittenDigits t
+pub figured : {t : List ℕ} {r : Bool} → Figured t r → r ≡ true → (1 ≤ length t) × WrittenDigits t
 figured (all l f) e = (l, f)
 figured (not-all h) e = let z : _≡_ {A = ℕ} 0 1 = cc in absurd (let n : ⊥ = omega arith in n)
 
-unfigured : {t : List ℕ} {r : Bool} → Figured t r → r ≡ false → 1 ≤ length t → WrittenDigits t → ⊥
+pub unfigured : {t : List ℕ} {r : Bool} → Figured t r → r ≡ false → 1 ≤ length t → WrittenDigits t → ⊥
 unfigured (all l f) e = let z : _≡_ {A = ℕ} 0 1 = cc in absurd (let n : ⊥ = omega arith in n)
 unfigured (not-all h) e = h
 
@@ -108,7 +108,7 @@ module _ {b : List ℕ} {n s : ℕ} (h : Begins b n s) where
   begins-within = omega (arith, h .start, simp length-append at (ap length (h .parts)))
 
   -- what follows the space
-  follows : drop s b ≡ h .rest
+  pub follows : drop s b ≡ h .rest
   follows =
       ap (drop s) (h .parts ∙ sym (append-snoc (h .count) 32 (h .rest)))
       ∙ drop-at (h .count ++ (32 ∷ [])) (h .rest) s (simp length-append (sym (h .start)))
