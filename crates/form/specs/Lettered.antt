@@ -1,10 +1,10 @@
 -- Document 02, wish 7: "Each vertex carries C, N or O, with at most 4, 3 or 2 neighbours. Codes compare by digit first and then by atom, C below N
 -- below O, vertex by vertex." "20 too many neighbours for the atom (place: [..] the digit in a code), after 10".
 --
--- A code with a letter for each digit. In order: letters; the marks of digits and letters; what is refused of them, behind their lengths. Then that
+-- A code with a letter for each digit. In order: the atom of a letter; the marks of digits and letters; what is refused of them, behind their lengths. Then that
 -- the marks tell the digits. No promise of a public call cites this yet. Assumes nothing.
 use mathlib.Core.Path.{_≡_, refl, sym, ap, ap₂}
-use mathlib.Core.Logic.{_⊎_, ite}
+use mathlib.Core.Logic.{ite}
 use mathlib.Core.List.{List, [], _∷_, _++_}
 use Prim.Native.Nat.{ℕ, zero, suc, _+_, _*_, _<_}
 use native.Mathlib.Decide.{ℕ-discrete}
@@ -17,11 +17,7 @@ use Rattle.skeleton.specs.Label.{row20}
 use Rattle.skeleton.specs.Atoms.{Atom, C, N, O, rank, bonds, atoms}
 use Rattle.form.specs.Labelled.{centredₗ, row14ₗ}
 
--- C, N or O, as a byte
-abbrev pub Letter : ℕ → Type 0
-Letter b = (b ≡ 67) ⊎ ((b ≡ 78) ⊎ (b ≡ 79))
-
--- the atom that a letter names
+-- the atom that a letter names: C is 67, N is 78, and O, 79, is the third
 unfoldable pub atomOf : ℕ → Atom
 atomOf b = ite (ℕ-discrete b 67) C (ite (ℕ-discrete b 78) N O)
 

@@ -2,12 +2,13 @@
 use mathlib.Core.Path.{_≡_, refl, sym, ap, _∙_}
 use mathlib.Core.Bool.{Bool, true, false}
 use mathlib.Core.List.{List, [], _∷_, _++_}
-use Prim.Native.Nat.{ℕ, _+_, _*_, _-_, _≤_, _<_}
+use Prim.Native.Nat.{ℕ, zero, suc, _+_, _*_, _-_, _≤_, _<_}
 use native.Mathlib.Omega.{arith}
 use lib.ListN.{length, getD, take, drop, length-append, length-drop}
-use lib.Seq.{append-snoc, drop-cons, drop-at, take-all}
+use lib.Seq.{append-snoc, drop-cons, drop-at, take-all, take-nil}
 use Rattle.lines.specs.declared.Opening.{Opening}
 use Rattle.lines.specs.declared.Opening.the-variants.{At, Nothing}
+use Rattle.laws.specs.Part.{part}
 use Rattle.texts.specs.document.Numerals.{figures, Digits, IsCount, one-digit, two-digits}
 use Rattle.lines.specs.Form.{Value, values, Figured, all, not-all, Begins, Opens, begins, begins-not, Forms, formed, unformed}
 use Rattle.lines.specs.document.Marks.{WrittenDigit, WrittenDigits}
@@ -83,6 +84,13 @@ are-figures (d ∷ ds) h = (omega (arith, h .0), are-figures ds (h .1))
 -- what `&b[s..]` holds
 pub rest-is : (b : List ℕ) (s : ℕ) → take (length b - s) (drop s b) ≡ drop s b
 rest-is b s = take-all (length b - s) (drop s b) (simp length-drop (omega arith))
+
+-- and what stands in front of e of it
+pub drop-take : (s e : ℕ) (l : List ℕ) → drop s (take e l) ≡ part s e l
+drop-take zero e l = let q : e - 0 ≡ e = omega arith in rw q
+drop-take (suc s) zero l = let q : 0 - suc s ≡ 0 = omega arith in rw q
+drop-take (suc s) (suc e) [] = sym (take-nil (suc e - suc s))
+drop-take (suc s) (suc e) (a ∷ l) = let q : suc e - suc s ≡ e - s = omega arith in rw q (drop-take s e l)
 
 -- what was found at the beginning
 pub opened : {b : List ℕ} {o : Opening} {n s : ℕ} → Opens b o → o ≡ At n s → Begins b n s
