@@ -6,4 +6,5 @@ pub mod NamedSound
 pub mod NamedForm
 pub mod Finding
 pub mod Standing
+pub mod NamedText
 pub mod Examples

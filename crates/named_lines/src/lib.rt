@@ -2,6 +2,7 @@
 // its form promise in specs/NamedForm.antt. What plain lines have in common with them is done by `lines`.
 use limits::SIZE;
 use lines::Opening;
+use lines::Progress;
 use lines::Span;
 use lines::until;
 use refusal::Answer;
@@ -21,8 +22,9 @@ ghost use Rattle.lines.specs.Form.{values};
 ghost use Rattle.laws.specs.Tells.{Tells};
 ghost use Rattle.texts.specs.document.Bytes.{Each};
 ghost use Rattle.texts.specs.Spaced.{tally};
-ghost use Rattle.named_lines.specs.Named.{Letter, NamedLineRead};
+ghost use Rattle.named_lines.specs.Named.{Letter, NamedLineRead, NamedTextRead};
 ghost use Rattle.named_lines.specs.NamedTable.{namedTable};
+ghost use Rattle.named_lines.specs.NamedText.{NamedRoom};
 ghost use Rattle.named_lines.specs.NamedForm.{NumberRead, Tallies, CountsRead, TailRead, ShapeRead, NamedLocated};
 
 // What stands behind the digits of a named line.
@@ -278,4 +280,45 @@ pub fn read_line(text: &[u8], out: &mut [u8], letters: &mut [u8]) -> Answer
             }
         }
     }
+}
+
+// How many lines there is room for: SIZE bytes of digits, as many of letters, a number and a place for each.
+fn room(records: usize, letters: usize, numbers: usize, places: usize) -> usize
+    ensures { λ r. ⌜ NamedRoom records letters numbers places r ⌝ }
+{
+    if letters < records {
+        return lines::room(letters, numbers, places);
+    }
+    lines::room(records, numbers, places)
+}
+
+// A text, line after line, as far as there is room.
+pub fn read_text(
+    text: &[u8],
+    records: &mut [u8],
+    letters: &mut [u8],
+    numbers: &mut [u8],
+    places: &mut [usize],
+) -> Progress
+    ensures { λ r. ⌜ NamedTextRead size namedTable size
+        (now (text .entry)) (now (records .entry)) (now (letters .entry)) (now (numbers .entry)) (now (places .entry))
+        (now (records .exit)) (now (letters .exit)) (now (numbers .exit)) (now (places .exit)) (r .lines) (r .at) ⌝ }
+{
+    let many = room(records.len(), letters.len(), numbers.len(), places.len());
+    let mut k = 0;
+    let mut at = 0;
+    while k < many {
+        if at == text.len() {
+            return Progress { lines: k, at };
+        }
+        let r = read_line(
+            &text[at..],
+            &mut records[SIZE * k..SIZE * k + SIZE],
+            &mut letters[SIZE * k..SIZE * k + SIZE],
+        );
+        lines::note(r, numbers, places, k);
+        at = lines::behind(text, at);
+        k += 1;
+    }
+    Progress { lines: k, at }
 }
