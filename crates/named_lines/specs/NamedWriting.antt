@@ -1,0 +1,34 @@
+-- A named line as it is written, part behind part. Assumes nothing.
+use mathlib.Core.Path.{_≡_, refl, sym, ap, _∙_}
+use mathlib.Core.List.{List, [], _∷_, _++_}
+use Prim.Native.Nat.{ℕ, _+_, _-_, _≤_, _<_}
+use native.Mathlib.Omega.{arith}
+use lib.ListN.{length, set, length-set, length-append}
+use lib.Seq.{append-snoc}
+use borrow.Rule.Slice.PartMut.{midOf, putMid}
+use Rattle.laws.specs.document.Laid.{laidOver, Laid}
+use Rattle.laws.specs.Laying.{laid-more, laid-part}
+use Rattle.texts.specs.document.Numerals.{decimal}
+
+-- ys is written behind the first `at` bytes, and r is the place behind it: whatever w stands in these over what was lent, base
+pub record Appends (ys old new : List ℕ) (at r : ℕ) : Type 0 where
+  pub count : r ≡ at + length ys
+  pub lies : (w base : List ℕ) → Laid w base old at → at + length ys ≤ length base → Laid (w ++ ys) base new r
+
+-- a space and a count
+module _ (n : ℕ) (old : List ℕ) (at : ℕ) {ys : List ℕ} {m : ℕ}
+    (l : Laid (decimal n) (midOf (at + 1) (length (set old at 32) - (at + 1)) (set old at 32)) ys m) where
+  pub count-put : Appends (32 ∷ decimal n) old (putMid (at + 1) (length (set old at 32) - (at + 1)) (set old at 32) ys) at (at + 1 + m)
+  count-put =
+      record {
+        count = omega (arith, l .count);
+        lies = λ w base h k.
+            let e = laid-more w base old at 32 (h .lies) (sym (h .count)) (omega arith) in
+            record {
+              count = simp length-append (omega (arith, h .count, l .count));
+              lies =
+                  ap (putMid (at + 1) (length (set old at 32) - (at + 1)) (set old at 32)) (l .lies)
+                  ∙ laid-part (w ++ (32 ∷ [])) base (set old at 32) (decimal n) (at + 1) e (simp length-append (omega (arith, h .count))) (omega arith)
+                  ∙ ap (λ (x : List ℕ). laidOver x base) (append-snoc w 32 (decimal n));
+            };
+      }
