@@ -9,7 +9,7 @@ use refusal::Answer;
 use refusal::Check;
 ghost use mathlib.Core.Path.{_≡_};
 ghost use mathlib.Core.List.{_∷_};
-ghost use Prim.Native.Nat.{_≤_};
+ghost use Prim.Native.Nat.{_+_, _≤_};
 ghost use lib.ListN.{length};
 ghost use Rattle.limits.specs.document.Limits.{size, valence};
 ghost use Rattle.laws.specs.document.Laid.{laidOver};
@@ -24,7 +24,9 @@ ghost use Rattle.texts.specs.document.Bytes.{Each};
 ghost use Rattle.texts.specs.Spaced.{tally};
 ghost use Rattle.named_lines.specs.Named.{Letter, NamedLineRead, NamedTextRead};
 ghost use Rattle.named_lines.specs.NamedTable.{namedTable};
+ghost use Rattle.texts.specs.document.Numerals.{decimal};
 ghost use Rattle.named_lines.specs.NamedText.{NamedRoom};
+ghost use Rattle.named_lines.specs.NamedWriting.{Appends};
 ghost use Rattle.named_lines.specs.NamedForm.{NumberRead, Tallies, CountsRead, TailRead, ShapeRead, NamedLocated};
 
 // What stands behind the digits of a named line.
@@ -321,4 +323,15 @@ pub fn read_text(
         k += 1;
     }
     Progress { lines: k, at }
+}
+
+// A space and the count n, behind the first `at` bytes of what is lent; the place behind them.
+fn put_count(n: usize, out: &mut [u8], at: usize) -> usize
+    requires { ⌜ n ≤ 99 ⌝ }
+    requires { ⌜ at + 1 + length (decimal n) ≤ length (now out) ⌝ }
+    ensures { λ r. ⌜ Appends (32 ∷ decimal n) (now (out .entry)) (now (out .exit)) at r ⌝ }
+{
+    out[at] = 32;
+    let m = lines::write_count(n, &mut out[at + 1..]);
+    at + 1 + m
 }
