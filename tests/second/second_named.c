@@ -344,6 +344,87 @@ static void damaged(void)
     }
 }
 
+/* A list that has the refusal of a number, whatever else it has: it has a star about 2 with a chain behind it. */
+static void refuse_with(struct named *a, unsigned number)
+{
+    size_t last = a->list.len;
+    switch (number) {
+    case 2:
+        a->letters.byte[1] = 'X';
+        break;
+    case 3:
+        a->list.n = 65;
+        break;
+    case 5:
+        a->list.len--;
+        break;
+    case 6:
+        a->list.ends[last - 1] = 0;
+        break;
+    case 7:
+        a->list.ends[last - 3] = a->list.ends[last - 4];
+        break;
+    case 8:
+        memcpy(a->list.ends + last - 6, a->list.ends, 2);
+        break;
+    case 9:
+        memcpy(a->list.ends, (const uint8_t[]){2, 1, 2, 3, 2, 4, 2, 5, 2, 6}, 10);
+        break;
+    case 14: /* a numbering's: 12 stands between 10 and 11 */
+        memcpy(a->list.ends + last - 4, (const uint8_t[]){10, 12, 12, 11}, 4);
+        break;
+    case 20:
+        a->letters.byte[1] = 'O';
+        break;
+    case 21:
+        a->letters.len--;
+        break;
+    default: /* an atom that is not carbon, and has the neighbours that it may have */
+        a->letters.byte[7] = 'N';
+    }
+}
+
+/* Every two, and every three, refusals that can meet in a list. The order is document 02's: the earlier one is given. */
+static void refusals_that_meet(void)
+{
+    static const unsigned order[] = {2, 3, 5, 21, 6, 7, 8, 9, 20, 0, 14};
+    enum { count = sizeof order / sizeof *order };
+    for (unsigned i = 0; i < count; i++)
+        for (unsigned j = i; j < count; j++)
+            for (unsigned k = j; k < count; k++) {
+                struct named a = {.list = {.n = 12}, .letters = {.len = 12}};
+                memset(a.letters.byte, 'C', 12);
+                for (unsigned v = 1; v <= 12; v++)
+                    if (v != 2)
+                        add_edge(&a.list, v < 5 ? 2 : v - 1, v);
+                refuse_with(&a, order[k]);
+                refuse_with(&a, order[j]);
+                refuse_with(&a, order[i]);
+                struct input in = of_list(&a);
+                in.root = 1;
+                unsigned wanted = order[i] == 0 ? 14 : order[i];
+                claim(check(&call_named_cam, in).number == wanted, "of refusals that meet the first is given");
+                claim(wanted == 14 || check(&call_named_check_edges, in).number == wanted, "of refusals that meet the first is given");
+                check_codes(&a);
+                check_forms(&a);
+            }
+}
+
+/* The same of digits with letters: marks, size, letters not as many, 10, 20, more behind the end, no end, a larger sibling. */
+static void refusals_in_codes(void)
+{
+    static const uint8_t digits[][8] = {{2, 1, 0, 1, 0}, {9, 0, 0, 0, 0}, {2, 0, 0, 0, 0}, {2, 1, 1, 1, 1}, {2, 0, 2, 0, 0}, {0, 0, 0, 0, 9}, {0, 0, 0, 0, 2}, {2, 0, 3, 0, 0}};
+    static const char *const letters[] = {"CCCCC", "NCCCC", "OCCCC", "OCOCC", "CCOCC", "CCCCO", "CCNCC", "CXCCC", "CCCC", "CCCCCC", "CCCX", "OOOOO", "NNNNN", "CNCOC", "COCNC", ""};
+    for (size_t i = 0; i < sizeof digits / sizeof *digits; i++)
+        for (size_t len = 0; len <= 5; len += len == 0 ? 4 : 1)
+            for (size_t j = 0; j < sizeof letters / sizeof *letters; j++) {
+                struct named_digits code = {.digits = {.len = len}, .letters = {.len = strlen(letters[j])}};
+                memcpy(code.digits.byte, digits[i], len);
+                memcpy(code.letters.byte, letters[j], code.letters.len);
+                check_digits(&code);
+            }
+}
+
 /* A star whose middle is each atom: 9 before 20, and each at its edge. */
 static void stars(void)
 {
@@ -413,6 +494,8 @@ void piece_named(void)
     edition = 1;
     skeletons();
     stars();
+    refusals_that_meet();
+    refusals_in_codes();
     random_ones();
     damaged();
     two_lists();
