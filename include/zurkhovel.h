@@ -5,16 +5,16 @@
  * of value 0 to 9 for each digit. docs/CODES.md explains the codes, docs/CALLS.md has an example of each call, docs/PROMISES.md says what of it
  * is proved.
  *
- * THE EDITION is named by the caller, as the first argument: 1 or 2; any other number is refused 22, before all else. Six functions take
+ * THE EDITION is named by the caller, as the first argument: 1 or 2; any other number is refused 22, before all else. These take
  * none: zk_read_line, zk_write_line, zk_same_skeleton and zk_pack are of edition 1, and each has a second function that ends in `_edition`;
- * zk_list is of edition 1; zk_count counts answers of any.
+ * zk_list is of edition 1, and so are all functions on skeletons with named atoms, zk_named_...; zk_count counts answers of any.
  *
  * THE ANSWER of a call is one whole number: 256 times the refusal number plus the place. Below 256 there is no refusal, and the number is
  * what the call gives: the bytes written at the start of `out`; of zk_same_skeleton 1 (the same) or 0; of a call that only checks, or sets
  * `*value`, 0. Of a call that takes two lists a refusal of the second has 65,536 added, and one of the map between them 131,072; 22 belongs to
  * none of them and has nothing added. zk_refused, zk_number, zk_place and zk_list_of below take an answer apart, and zk_words says a refusal
- * number in words. Where several refusals apply, 22 is given, or else the lowest number, at its first place. Three calls refuse nothing and
- * return something else: zk_read_text, zk_count and zk_list, at the end.
+ * number in words. Where several refusals apply, 22 is given, or else the lowest number, at its first place; of named atoms 21 comes behind
+ * 5 and 20 behind 10. Five calls refuse nothing and return something else: zk_read_text, zk_count, zk_list, zk_named_read_text and zk_named_list.
  *
  * ANY INPUT may be handed in: any numbers, any bytes, any lengths. Each call makes its own checks and ends. A refusal leaves `out` and
  * `*value` as they were; a success leaves what stands behind its result in `out`. A pointer with its length must be memory of that length;

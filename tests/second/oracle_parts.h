@@ -123,7 +123,7 @@ struct row row_5(uint64_t n, size_t len);
 struct row row_6(uint64_t n, const uint8_t *edges, size_t len, uint64_t root);
 struct row row_7(const uint8_t *edges, size_t len);
 
-/* The listing of a text by a reader of one line; the reader says where the line ends. */
+/* The listing of a text by a reader of its first line. */
 size_t list_lines(struct answer (*read)(const uint8_t *text, size_t len), const uint8_t *text, size_t len, size_t from,
                   uint8_t *out, size_t room);
 
