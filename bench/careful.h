@@ -27,22 +27,22 @@ static inline int digits_compare(const uint8_t *a, const uint8_t *b, size_t n) {
 }
 
 /* Codes of a tree, n digits each. `order` gets the vertex of each digit of the rooted code; the answer is how many pairs of marks were looked at, where every two
- * siblings were compared once. */
+ * siblings were compared once, over all roots. */
 unsigned code_rooted(const struct tree *t, unsigned root, uint8_t *order, uint8_t *out);
-void code_centred(const struct tree *t, uint8_t *out);
-void code_n_tuple(const struct tree *t, uint8_t *out);
+unsigned code_centred(const struct tree *t, uint8_t *out);
+unsigned code_n_tuple(const struct tree *t, uint8_t *out);
 
 /* A call's answer: 256 times the refusal number plus the place. */
 static inline uint32_t answered(uint32_t number, uint64_t place) {
     return number << 8 | (uint32_t)place;
 }
 
-/* The calls. */
+/* The calls. `*pairs` gets the pairs looked at, 0 with a refusal. */
 uint32_t c_read_line(const uint8_t *text, size_t len, uint8_t *out, size_t out_len);
-uint32_t c_write_line(size_t n, const uint8_t *edges, size_t len, uint8_t *out, size_t out_len);
-uint32_t c_centred_code(size_t n, const uint8_t *edges, size_t len, uint8_t *out, size_t out_len);
-uint32_t c_n_tuple_code(size_t n, const uint8_t *edges, size_t len, uint8_t *out, size_t out_len);
-uint32_t c_same_skeleton(size_t n1, const uint8_t *e1, size_t l1, size_t n2, const uint8_t *e2, size_t l2);
-uint32_t c_pack(size_t n, const uint8_t *edges, size_t len, size_t root, uint8_t *out, size_t out_len);
+uint32_t c_write_line(size_t n, const uint8_t *edges, size_t len, uint8_t *out, size_t out_len, size_t *pairs);
+uint32_t c_centred_code(size_t n, const uint8_t *edges, size_t len, uint8_t *out, size_t out_len, size_t *pairs);
+uint32_t c_n_tuple_code(size_t n, const uint8_t *edges, size_t len, uint8_t *out, size_t out_len, size_t *pairs);
+uint32_t c_same_skeleton(size_t n1, const uint8_t *e1, size_t l1, size_t n2, const uint8_t *e2, size_t l2, size_t *pairs);
+uint32_t c_pack(size_t n, const uint8_t *edges, size_t len, size_t root, uint8_t *out, size_t out_len, size_t *pairs);
 
 #endif

@@ -1,9 +1,10 @@
 /* measure KIND check - N       both sides on the same inputs, whole and damaged: every answer and byte of output alike
  * measure KIND CALL WHO N      one call on TREES trees of N vertices; WHO is proved, c, or none (all but the call)
  * measure KIND graph6 - N      the same trees in graph6, one to a line
+ * measure KIND pairs - N       how many pairs of digits are looked at on these trees
  *
- * KIND is random, where each new vertex hangs on a random earlier one with fewer than four neighbours, or path, where it hangs on the last. Then vertices get random numbers,
- * edges a random order and a random direction. */
+ * KIND is random, where each new vertex hangs on a random earlier one with fewer than four neighbours; path, where it hangs on the last; star, four paths from one vertex; or
+ * balanced, where each vertex gets as many neighbours as it may have before the next one does. Then vertices get random numbers, edges a random order and a random direction. */
 #include "careful.h"
 #include <stdio.h>
 #include <stdlib.h>
@@ -20,10 +21,11 @@ struct input {
 };
 static struct input inputs[TREES];
 
-/* what a call gave: the answer as zurkhovel.h has it, and what it wrote */
+/* what a call gave: the answer as zurkhovel.h has it, what it wrote, and the pairs of digits that it looked at */
 struct result {
     uint32_t answer;
     uint8_t out[ZK_LINE];
+    size_t pairs;
 };
 
 static uint64_t state = 20011;
@@ -37,14 +39,19 @@ static unsigned below(unsigned k) {
     return (unsigned)((z ^ (z >> 31)) % k);
 }
 
-static int path;
+static enum { RANDOM, PATH, STAR, BALANCED } kind;
+
+/* the vertex that v hangs on, where the shape leaves no choice */
+static unsigned hangs_on(unsigned v) {
+    return kind == PATH ? v - 1 : kind == STAR ? (v <= 5 ? 1 : v - 4) : v <= 5 ? 1 : (v - 6) / 3 + 2;
+}
 
 static void grow(unsigned n, uint8_t *edges) {
     unsigned degree[SIZE + 1] = {0};
     for (unsigned v = 2; v <= n; v++) {
         unsigned u;
         do
-            u = path ? v - 1 : 1 + below(v - 1);
+            u = kind == RANDOM ? 1 + below(v - 1) : hangs_on(v);
         while (degree[u] == VALENCE);
         degree[u]++;
         degree[v]++;
@@ -84,7 +91,8 @@ static void make(struct input *x, unsigned n, int same) {
     if (!same)
         grow(n, plain);
     shuffle(n, plain, x->other);
-    uint32_t answer = c_write_line(n, x->edges, 2 * (n - 1), x->line, ZK_LINE);
+    size_t pairs;
+    uint32_t answer = c_write_line(n, x->edges, 2 * (n - 1), x->line, ZK_LINE, &pairs);
     if (zk_refused(answer))
         exit(2);
     x->line_len = zk_place(answer);
@@ -103,37 +111,37 @@ static void read_line(enum side s, const struct input *x, struct result *r) {
 
 static void write_line(enum side s, const struct input *x, struct result *r) {
     if (s == PROVED)
-        r->answer = zk_write_line(x->n, x->edges, 2 * (x->n - 1), r->out, ZK_LINE);
+        r->answer = zk_write_line_pairs(x->n, x->edges, 2 * (x->n - 1), r->out, ZK_LINE, &r->pairs);
     else if (s == PLAIN)
-        r->answer = c_write_line(x->n, x->edges, 2 * (x->n - 1), r->out, ZK_LINE);
+        r->answer = c_write_line(x->n, x->edges, 2 * (x->n - 1), r->out, ZK_LINE, &r->pairs);
 }
 
 static void centred(enum side s, const struct input *x, struct result *r) {
     if (s == PROVED)
-        r->answer = zk_centred_code(x->n, x->edges, 2 * (x->n - 1), r->out, ZK_DIGITS);
+        r->answer = zk_centred_code_pairs(x->n, x->edges, 2 * (x->n - 1), r->out, ZK_DIGITS, &r->pairs);
     else if (s == PLAIN)
-        r->answer = c_centred_code(x->n, x->edges, 2 * (x->n - 1), r->out, ZK_DIGITS);
+        r->answer = c_centred_code(x->n, x->edges, 2 * (x->n - 1), r->out, ZK_DIGITS, &r->pairs);
 }
 
 static void n_tuple(enum side s, const struct input *x, struct result *r) {
     if (s == PROVED)
-        r->answer = zk_n_tuple_code(x->n, x->edges, 2 * (x->n - 1), r->out, ZK_DIGITS);
+        r->answer = zk_n_tuple_code_pairs(x->n, x->edges, 2 * (x->n - 1), r->out, ZK_DIGITS, &r->pairs);
     else if (s == PLAIN)
-        r->answer = c_n_tuple_code(x->n, x->edges, 2 * (x->n - 1), r->out, ZK_DIGITS);
+        r->answer = c_n_tuple_code(x->n, x->edges, 2 * (x->n - 1), r->out, ZK_DIGITS, &r->pairs);
 }
 
 static void verdict(enum side s, const struct input *x, struct result *r) {
     if (s == PROVED)
-        r->answer = zk_same_skeleton(x->n, x->edges, 2 * (x->n - 1), x->n, x->other, 2 * (x->n - 1));
+        r->answer = zk_same_skeleton_pairs(x->n, x->edges, 2 * (x->n - 1), x->n, x->other, 2 * (x->n - 1), &r->pairs);
     else if (s == PLAIN)
-        r->answer = c_same_skeleton(x->n, x->edges, 2 * (x->n - 1), x->n, x->other, 2 * (x->n - 1));
+        r->answer = c_same_skeleton(x->n, x->edges, 2 * (x->n - 1), x->n, x->other, 2 * (x->n - 1), &r->pairs);
 }
 
 static void packed(enum side s, const struct input *x, struct result *r) {
     if (s == PROVED)
-        r->answer = zk_pack(x->n, x->edges, 2 * (x->n - 1), 1, r->out, ZK_PACKED);
+        r->answer = zk_pack_pairs(x->n, x->edges, 2 * (x->n - 1), 1, r->out, ZK_PACKED, &r->pairs);
     else if (s == PLAIN)
-        r->answer = c_pack(x->n, x->edges, 2 * (x->n - 1), 1, r->out, ZK_PACKED);
+        r->answer = c_pack(x->n, x->edges, 2 * (x->n - 1), 1, r->out, ZK_PACKED, &r->pairs);
 }
 
 static const struct call {
@@ -151,8 +159,8 @@ static void compare(const struct input *x) {
         struct result a = {0}, b = {0};
         calls[c].run(PROVED, x, &a);
         calls[c].run(PLAIN, x, &b);
-        if (a.answer != b.answer || memcmp(a.out, b.out, ZK_LINE) != 0) {
-            printf("%s: %u, and %u in C, or the outputs differ\n", calls[c].name, a.answer, b.answer);
+        if (a.answer != b.answer || a.pairs != b.pairs || memcmp(a.out, b.out, ZK_LINE) != 0) {
+            printf("%s: %u with %zu pairs, and %u with %zu in C, or the outputs differ\n", calls[c].name, a.answer, a.pairs, b.answer, b.pairs);
             exit(1);
         }
         refused += zk_refused(a.answer) != 0;
@@ -183,7 +191,7 @@ static void measure(const char *name, const char *who) {
         for (int i = 0; i < TREES; i++) {
             struct result r = {0};
             calls[c].run(s, &inputs[i], &r);
-            sum += r.answer + r.out[0];
+            sum += r.answer + r.out[0] + r.pairs;
         }
     }
     printf("%llu\n", (unsigned long long)sum);
@@ -213,10 +221,37 @@ static void graph6(const struct input *x) {
     putchar('\n');
 }
 
+/* The pairs looked at on all trees: the mean and the most of the rooted code at vertex 1, of the centred and of the N-tuple code, and the bound for one root. */
+static void pairs(void) {
+    unsigned n = inputs[0].n, log2 = 0;
+    while (n >> (log2 + 1))
+        log2++;
+    size_t sum[3] = {0}, most[3] = {0};
+    for (int i = 0; i < TREES; i++) {
+        const struct input *x = &inputs[i];
+        uint8_t out[ZK_DIGITS];
+        size_t looked[3];
+        zk_rooted_code_pairs(n, x->edges, 2 * (n - 1), 1, out, ZK_DIGITS, &looked[0]);
+        zk_centred_code_pairs(n, x->edges, 2 * (n - 1), out, ZK_DIGITS, &looked[1]);
+        zk_n_tuple_code_pairs(n, x->edges, 2 * (n - 1), out, ZK_DIGITS, &looked[2]);
+        for (int k = 0; k < 3; k++) {
+            sum[k] += looked[k];
+            most[k] = looked[k] > most[k] ? looked[k] : most[k];
+        }
+    }
+    printf("%3u", n);
+    for (int k = 0; k < 3; k++)
+        printf(" %8.1f %6zu", (double)sum[k] / TREES, most[k]);
+    printf(" %6u\n", 3 * n * log2);
+}
+
 int main(int argc, char **argv) {
     if (argc != 5)
         return 2;
-    path = strcmp(argv[1], "path") == 0;
+    const char *const kinds[] = {"random", "path", "star", "balanced"};
+    for (unsigned k = 0; k < 4; k++)
+        if (strcmp(argv[1], kinds[k]) == 0)
+            kind = k;
     unsigned n = (unsigned)atoi(argv[4]);
     if (n < 2 || n > SIZE)
         return 2;
@@ -224,6 +259,8 @@ int main(int argc, char **argv) {
         make(&inputs[i], n, i % 2 == 0);
     if (strcmp(argv[2], "check") == 0)
         check();
+    else if (strcmp(argv[2], "pairs") == 0)
+        pairs();
     else if (strcmp(argv[2], "graph6") == 0)
         for (int i = 0; i < TREES; i++)
             graph6(&inputs[i]);

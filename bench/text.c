@@ -152,16 +152,17 @@ static uint32_t read_line(const uint8_t *t, size_t len, uint8_t *out, size_t out
     return 0;
 }
 
-static uint32_t write_line(size_t n, const uint8_t *edges, size_t len, uint8_t *out, size_t out_len, uint64_t *place) {
+static uint32_t write_line(size_t n, const uint8_t *edges, size_t len, uint8_t *out, size_t out_len, size_t *pairs, uint64_t *place) {
     struct tree t;
     uint8_t code[SIZE];
     uint32_t refused = tree_read(&t, n, edges, len, 1, place);
+    *pairs = 0;
     if (refused)
         return refused;
     *place = n + (n < 10 ? 3 : 4);
     if (out_len < *place)
         return 15;
-    code_centred(&t, code);
+    *pairs = code_centred(&t, code);
     if (n >= 10)
         *out++ = (uint8_t)('0' + n / 10);
     *out++ = (uint8_t)('0' + n % 10);
@@ -178,8 +179,8 @@ uint32_t c_read_line(const uint8_t *text, size_t len, uint8_t *out, size_t out_l
     return answered(number, place);
 }
 
-uint32_t c_write_line(size_t n, const uint8_t *edges, size_t len, uint8_t *out, size_t out_len) {
+uint32_t c_write_line(size_t n, const uint8_t *edges, size_t len, uint8_t *out, size_t out_len, size_t *pairs) {
     uint64_t place;
-    uint32_t number = write_line(n, edges, len, out, out_len, &place);
+    uint32_t number = write_line(n, edges, len, out, out_len, pairs, &place);
     return answered(number, place);
 }

@@ -149,33 +149,35 @@ static void centre(const struct tree *t, unsigned *first, unsigned *second) {
     *first = *second = slow;
 }
 
-void code_centred(const struct tree *t, uint8_t *out) {
+unsigned code_centred(const struct tree *t, uint8_t *out) {
     uint8_t order[SIZE];
     unsigned first, second;
     centre(t, &first, &second);
-    code_rooted(t, first, order, out);
+    unsigned looked = code_rooted(t, first, order, out);
     if (first != second) {
         uint8_t other[SIZE];
-        code_rooted(t, second, order, other);
+        looked += code_rooted(t, second, order, other);
         if (digits_compare(out, other, t->n) < 0)
             memcpy(out, other, t->n);
     }
+    return looked;
 }
 
-void code_n_tuple(const struct tree *t, uint8_t *out) {
+unsigned code_n_tuple(const struct tree *t, uint8_t *out) {
     uint8_t order[SIZE], other[SIZE];
-    unsigned most = 0, any = 0;
+    unsigned most = 0, any = 0, looked = 0;
     for (unsigned v = 1; v <= t->n; v++)
         if (t->degree[v] > most)
             most = t->degree[v];
     for (unsigned v = 1; v <= t->n; v++) {
         if (t->degree[v] != most)
             continue;
-        code_rooted(t, v, order, any ? other : out);
+        looked += code_rooted(t, v, order, any ? other : out);
         if (any && digits_compare(out, other, t->n) < 0)
             memcpy(out, other, t->n);
         any = 1;
     }
+    return looked;
 }
 
 /* An edge list and a lent output of `need` bytes: every row that can refuse. */
@@ -187,28 +189,27 @@ static uint32_t begin(struct tree *t, uint64_t n, const uint8_t *edges, size_t l
     return out_len < need ? 15 : 0;
 }
 
-uint32_t c_centred_code(size_t n, const uint8_t *edges, size_t len, uint8_t *out, size_t out_len) {
+uint32_t c_centred_code(size_t n, const uint8_t *edges, size_t len, uint8_t *out, size_t out_len, size_t *pairs) {
     struct tree t;
     uint64_t place;
     uint32_t refused = begin(&t, n, edges, len, 1, n, out_len, &place);
-    if (!refused)
-        code_centred(&t, out);
+    *pairs = refused ? 0 : code_centred(&t, out);
     return answered(refused, place);
 }
 
-uint32_t c_n_tuple_code(size_t n, const uint8_t *edges, size_t len, uint8_t *out, size_t out_len) {
+uint32_t c_n_tuple_code(size_t n, const uint8_t *edges, size_t len, uint8_t *out, size_t out_len, size_t *pairs) {
     struct tree t;
     uint64_t place;
     uint32_t refused = begin(&t, n, edges, len, 1, n, out_len, &place);
-    if (!refused)
-        code_n_tuple(&t, out);
+    *pairs = refused ? 0 : code_n_tuple(&t, out);
     return answered(refused, place);
 }
 
-uint32_t c_same_skeleton(size_t n1, const uint8_t *e1, size_t l1, size_t n2, const uint8_t *e2, size_t l2) {
+uint32_t c_same_skeleton(size_t n1, const uint8_t *e1, size_t l1, size_t n2, const uint8_t *e2, size_t l2, size_t *pairs) {
     struct tree a, b;
     uint8_t x[SIZE], y[SIZE];
     uint64_t place;
+    *pairs = 0;
     uint32_t refused = tree_read(&a, n1, e1, l1, 1, &place);
     if (refused)
         return answered(refused, place);
@@ -217,19 +218,20 @@ uint32_t c_same_skeleton(size_t n1, const uint8_t *e1, size_t l1, size_t n2, con
         return 65536 + answered(refused, place);
     if (n1 != n2)
         return 0;
-    code_centred(&a, x);
-    code_centred(&b, y);
+    *pairs = code_centred(&a, x);
+    *pairs += code_centred(&b, y);
     return digits_compare(x, y, n1) == 0;
 }
 
-uint32_t c_pack(size_t n, const uint8_t *edges, size_t len, size_t root, uint8_t *out, size_t out_len) {
+uint32_t c_pack(size_t n, const uint8_t *edges, size_t len, size_t root, uint8_t *out, size_t out_len, size_t *pairs) {
     struct tree t;
     uint8_t order[SIZE], code[SIZE];
     uint64_t place;
     uint32_t refused = begin(&t, n, edges, len, root, (2 * n + 6) / 8, out_len, &place);
+    *pairs = 0;
     if (refused)
         return answered(refused, place);
-    code_rooted(&t, (unsigned)root, order, code);
+    *pairs = code_rooted(&t, (unsigned)root, order, code);
     uint64_t held = 0;
     unsigned bits = 0, at = 0;
     for (unsigned i = 0; i < n; i++) {

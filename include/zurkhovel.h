@@ -12,7 +12,7 @@
  *
  * ANY INPUT may be handed in: any numbers, any bytes, any lengths. Each call makes its own checks and ends. A refusal leaves `out` and
  * `*value` as they were; a success leaves what stands behind its result in `out`. A pointer with its length must be memory of that length;
- * with length 0 it may be null. `value`, `lines`, `at`, `read` and `refused` must not be null.
+ * with length 0 it may be null. `value`, `pairs`, `lines`, `at`, `read` and `refused` must not be null.
  *
  * AN OUTPUT MUST NOT OVERLAP an input or another output: a call reads while it writes, and in place it can give a wrong result that looks
  * like a success.
@@ -28,7 +28,7 @@
 #include <stddef.h>
 #include <stdint.h>
 
-#define ZK_VERSION "0.3.1"
+#define ZK_VERSION "0.4.0"
 
 /* Sizes to lend, in bytes: with so much room no call answers 15, whatever it is handed. */
 #define ZK_DIGITS 64 /* the digits of a code or a line, or the classes of vertices: N */
@@ -167,6 +167,27 @@ uint32_t zk_a_zero_by_code(size_t n, const uint8_t *edges, size_t len, uint64_t 
 uint32_t zk_decode_cam(size_t n, const uint8_t *cam, size_t len, uint8_t *out, size_t out_len);
 uint32_t zk_decode_zero_a(size_t n, uint64_t value, uint8_t *out, size_t out_len);
 uint32_t zk_decode_a_zero(size_t n, uint64_t value, uint8_t *out, size_t out_len);
+
+/* ---- How many pairs of digits were looked at ---- */
+
+/* Each of these is the function without `_pairs`; `*pairs` gets how many pairs of digits were looked at to put siblings in order, every two of
+ * them compared once: up to and including the first pair that differs, or the whole code if they are equal. Of the N-tuple code, and of what
+ * goes by the centred code, it is the sum over all roots at which that code is looked for; of zk_same_skeleton both lists' sum, or 0 where their
+ * sizes differ. It is at most 3 times N times the whole part of log2 N for each root. Finished codes that are compared are not counted. A refusal
+ * sets it to 0. */
+uint32_t zk_write_line_pairs(size_t n, const uint8_t *edges, size_t len, uint8_t *out, size_t out_len, size_t *pairs);
+uint32_t zk_same_skeleton_pairs(size_t n1, const uint8_t *edges1, size_t len1, size_t n2, const uint8_t *edges2, size_t len2,
+                                size_t *pairs);
+uint32_t zk_pack_pairs(size_t n, const uint8_t *edges, size_t len, size_t root, uint8_t *out, size_t out_len, size_t *pairs);
+uint32_t zk_rooted_code_pairs(size_t n, const uint8_t *edges, size_t len, size_t root, uint8_t *out, size_t out_len, size_t *pairs);
+uint32_t zk_n_tuple_code_pairs(size_t n, const uint8_t *edges, size_t len, uint8_t *out, size_t out_len, size_t *pairs);
+uint32_t zk_centred_code_pairs(size_t n, const uint8_t *edges, size_t len, uint8_t *out, size_t out_len, size_t *pairs);
+uint32_t zk_equal_vertices_pairs(size_t n, const uint8_t *edges, size_t len, uint8_t *out, size_t out_len, size_t *pairs);
+uint32_t zk_whole_pairs(size_t n, const uint8_t *edges, size_t len, size_t root, uint64_t *value, size_t *pairs);
+uint32_t zk_fraction_pairs(size_t n, const uint8_t *edges, size_t len, size_t root, double *value, size_t *pairs);
+uint32_t zk_cam_by_code_pairs(size_t n, const uint8_t *edges, size_t len, uint8_t *out, size_t out_len, size_t *pairs);
+uint32_t zk_zero_a_by_code_pairs(size_t n, const uint8_t *edges, size_t len, uint64_t *value, size_t *pairs);
+uint32_t zk_a_zero_by_code_pairs(size_t n, const uint8_t *edges, size_t len, uint64_t *value, size_t *pairs);
 
 /* ---- A text of lines: these three refuse nothing as a whole ---- */
 

@@ -68,6 +68,7 @@ struct given {
     const uint8_t *in, *in2;
     uint64_t number;
     double x;
+    size_t *pairs; /* where a call hands over the pairs looked at */
 };
 
 /* A tree in a physical numbering, or its like under other numbers. */
@@ -111,7 +112,8 @@ enum kind { EDGES, LISTS, CODE, N_TUPLE, CENTRED, PACKED, CAM, LINE, WHOLE, FRAC
 
 static struct given make(enum kind kind, size_t most) {
     static uint8_t in[MOST], in2[MOST], edges[MOST];
-    struct given g = {.n = 1 + below(most), .in = in, .in2 = in2};
+    static size_t pairs;
+    struct given g = {.n = 1 + below(most), .in = in, .in2 = in2, .pairs = &pairs};
     size_t n = g.n, len = tree(n, edges, kind == EDGES && below(2));
     g.root = 1 + below(n);
     memcpy(in, edges, g.len = len);
@@ -187,6 +189,18 @@ CALL(decode_a_zero, g->n, g->number, out, out_len)
 CALL(equal_vertices, g->n, g->in, g->len, out, out_len)
 CALL(read_line, g->in, g->len, out, out_len)
 CALL(write_line, g->n, g->in, g->len, out, out_len)
+CALL(rooted_code_pairs, g->n, g->in, g->len, g->root, out, out_len, g->pairs)
+CALL(n_tuple_code_pairs, g->n, g->in, g->len, out, out_len, g->pairs)
+CALL(centred_code_pairs, g->n, g->in, g->len, out, out_len, g->pairs)
+CALL(same_skeleton_pairs, g->n, g->in, g->len, g->n2, g->in2, g->len2, g->pairs)
+CALL(pack_pairs, g->n, g->in, g->len, g->root, out, out_len, g->pairs)
+CALL(whole_pairs, g->n, g->in, g->len, g->root, (uint64_t *)(void *)out, g->pairs)
+CALL(fraction_pairs, g->n, g->in, g->len, g->root, (double *)(void *)out, g->pairs)
+CALL(cam_by_code_pairs, g->n, g->in, g->len, out, out_len, g->pairs)
+CALL(zero_a_by_code_pairs, g->n, g->in, g->len, (uint64_t *)(void *)out, g->pairs)
+CALL(a_zero_by_code_pairs, g->n, g->in, g->len, (uint64_t *)(void *)out, g->pairs)
+CALL(equal_vertices_pairs, g->n, g->in, g->len, out, out_len, g->pairs)
+CALL(write_line_pairs, g->n, g->in, g->len, out, out_len, g->pairs)
 
 /* A call, what it is handed, the largest size of its form, and what it is lent. */
 #define ROW(NAME, KIND, MOST_SIZE, OUTPUT) {#NAME, do_##NAME, KIND, MOST_SIZE, OUTPUT}
@@ -206,6 +220,10 @@ static const struct call {
     ROW(cam_by_code, EDGES, 64, BYTES),      ROW(zero_a_by_code, EDGES, 21, VALUE),     ROW(a_zero_by_code, EDGES, 11, VALUE),
     ROW(decode_cam, CAM, 64, BYTES),         ROW(decode_zero_a, ZERO_A, 21, BYTES),     ROW(decode_a_zero, A_ZERO, 11, BYTES),
     ROW(equal_vertices, EDGES, 64, BYTES),   ROW(read_line, LINE, 64, BYTES),           ROW(write_line, EDGES, 64, BYTES),
+    ROW(rooted_code_pairs, EDGES, 64, BYTES), ROW(n_tuple_code_pairs, EDGES, 64, BYTES), ROW(centred_code_pairs, EDGES, 64, BYTES),
+    ROW(same_skeleton_pairs, LISTS, 64, NOTHING), ROW(pack_pairs, EDGES, 64, BYTES), ROW(whole_pairs, EDGES, 32, VALUE),
+    ROW(fraction_pairs, EDGES, 27, VALUE), ROW(cam_by_code_pairs, EDGES, 64, BYTES), ROW(zero_a_by_code_pairs, EDGES, 21, VALUE),
+    ROW(a_zero_by_code_pairs, EDGES, 11, VALUE), ROW(equal_vertices_pairs, EDGES, 64, BYTES), ROW(write_line_pairs, EDGES, 64, BYTES),
 };
 enum { CALLS = sizeof calls / sizeof *calls };
 
@@ -247,6 +265,7 @@ static void compare(const struct call *call, const struct given *g, size_t out_l
     memset(ample, 0x5a, sizeof ample);
     struct given lent = *g;
     cases++;
+    *g->pairs = 7;
     uint32_t wanted = call->run(g, ample, out_len);
     uint8_t *in = lend_copy(0, g->in, g->len, side), *in2 = lend_copy(1, g->in2, g->len2, side), *out = lend(2, out_len, side);
 #ifndef HEAP
@@ -254,14 +273,18 @@ static void compare(const struct call *call, const struct given *g, size_t out_l
 #endif
     lent.in = in;
     lent.in2 = in2;
+    lent.pairs = lend(3, sizeof *lent.pairs, side);
+    *lent.pairs = 7;
     uint32_t got = call->run(&lent, out, out_len);
     if (got != wanted)
         report("answers otherwise than with ample memory");
     if (memcmp(out, ample, compared(got, call->output, out_len)) != 0)
         report("writes otherwise than with ample memory");
+    if (*lent.pairs != *g->pairs)
+        report("hands over other pairs than with ample memory");
     if (memcmp(in, g->in, g->len) != 0 || memcmp(in2, g->in2, g->len2) != 0)
         report("changes an input");
-    give_back(in), give_back(in2), give_back(out);
+    give_back(in), give_back(in2), give_back(out), give_back(lent.pairs);
 }
 
 static unsigned met[2]; /* whether successes and refusals were met */

@@ -181,16 +181,35 @@ static void compare(const struct call *call, const struct input *in, size_t room
         }
 }
 
+/* The call in the way that tells the pairs: the same answer, the same bytes, and the number, whatever stood
+ * in its place. */
+static void compare_telling(const struct call *call, const struct input *in, size_t room,
+                            struct answer ours, const struct lent *wanted, const struct lent *before)
+{
+    if (call->telling == NULL)
+        return;
+    struct lent got = *before;
+    size_t pairs = ours.pairs + 1 + below(9);
+    uint32_t whole = call->telling(in, got.byte + guard, room, &pairs);
+    compare(call, in, room, ours, wanted, whole, &got);
+    if (pairs != ours.pairs) {
+        char more[120];
+        snprintf(more, sizeof more, "output lent: %zu bytes; pairs are %" PRIu64 " in ours, %zu in theirs", room, ours.pairs, pairs);
+        mismatch(call->name, in, more, ours, taken_apart(whole));
+    }
+}
+
 /* One number, or nothing: both begin with the same bytes in memory. */
 static struct answer check_value(const struct call *call, const struct input *in, size_t room)
 {
     static uint64_t salt;
-    struct lent wanted, got;
+    struct lent wanted, got, before;
     fill_pattern(&wanted, sizeof wanted, ++salt);
-    got = wanted;
+    got = before = wanted;
     struct answer ours = call->ours(in, wanted.byte + guard, room);
     uint32_t theirs = call->theirs(in, got.byte + guard, room);
     compare(call, in, room, ours, &wanted, theirs, &got);
+    compare_telling(call, in, room, ours, &wanted, &before);
     return ours;
 }
 
@@ -200,9 +219,9 @@ static void check_room(const struct call *call, const struct input *in, size_t r
                        struct answer ample, const uint8_t *result)
 {
     static uint64_t salt;
-    struct lent wanted, got;
+    struct lent wanted, got, before;
     fill_pattern(&wanted, sizeof wanted, ++salt);
-    got = wanted;
+    got = before = wanted;
     struct answer ours = ample;
     if (ample.number == 0 && room < ample.place)
         ours = (struct answer){.number = 15, .place = ample.place};
@@ -210,6 +229,7 @@ static void check_room(const struct call *call, const struct input *in, size_t r
         memcpy(wanted.byte + guard, result, ample.place);
     uint32_t theirs = call->theirs(in, got.byte + guard, room);
     compare(call, in, room, ours, &wanted, theirs, &got);
+    compare_telling(call, in, room, ours, &wanted, &before);
 }
 
 struct answer check(const struct call *call, struct input in)

@@ -47,12 +47,14 @@ struct call {
     enum output output;
     struct answer (*ours)(const struct input *in, uint8_t *out, size_t room);
     uint32_t (*theirs)(const struct input *in, uint8_t *out, size_t room); /* the one whole number */
+    uint32_t (*telling)(const struct input *in, uint8_t *out, size_t room, size_t *pairs); /* or none */
     uint64_t *met; /* how often each number was answered */
 };
 
 /* Makes both answer, with the output lent too short, exactly and too long; ends the program when the
  * whole number, a part of it as the header takes it apart, or any byte of the lent output or around it
- * differs, or when the parts put together are another number. Returns our answer to an ample output. */
+ * differs, or when the parts put together are another number. A call that also tells the pairs looked at is
+ * made in both ways. Returns our answer to an ample output. */
 struct answer check(const struct call *call, struct input in);
 
 /* That the cases met all these numbers, 0 among them, and no other: a piece ends with this for each of its

@@ -24,6 +24,11 @@
     X(edges, size_as_byte)       /* N is taken modulo 256 */ \
     X(edges, ninth_late)         /* the place of 9 is one too high */ \
     X(edges, joined_directly)    /* 8 sees only doubled edges */ \
+    X(edges, difference_left)    /* the pair that differs is not counted */ \
+    X(edges, leaves_left)        /* two leaves are not compared */ \
+    X(edges, child_total_left)   /* what was looked at below a child is not counted */ \
+    X(edges, pairs_on_15)        /* a refusal tells what was looked at before it */ \
+    X(edges, pairs_untouched)    /* a refusal leaves the number as it was */ \
     X(form, either_middle)       /* the first of two middle vertices */ \
     X(form, n_tuple_by_centre)   /* the N-tuple code is rooted at the centre */ \
     X(form, list_forgotten)      /* 65,536 is not added for the second list */ \
@@ -31,6 +36,13 @@
     X(form, verdict_exchanged)   /* the verdict's 0 and 1 */ \
     X(form, sizes_unchecked)     /* different sizes are "not the same" before any refusal */ \
     X(form, no_14)               /* any right rooted code is taken */ \
+    X(form, one_middle_counted)  /* of two middle vertices */ \
+    X(form, best_root_counted)   /* of the roots of maximum degree only that of the code */ \
+    X(form, finished_counted)    /* the codes at two middle vertices, compared with each other */ \
+    X(form, first_list_counted)  /* and not the second */ \
+    X(form, sizes_counted)       /* lists of different sizes */ \
+    X(bits, pairs_at_1)          /* the pairs at vertex 1 */ \
+    X(bits, packed_pairs_on_15)  /* a packed form without room tells what was looked at */ \
     X(bits, spare_byte)          /* a zero byte too many is taken */ \
     X(bits, negative_zero)       /* is taken as zero */ \
     X(bits, cut_run_is_12)       /* a run that passes its cap at the end of the bits */ \
@@ -43,6 +55,8 @@
     X(adjacency, not_physical_2) /* the place of 14 is always 2 */ \
     X(adjacency, a0_by_rows)     /* the edges of an A0 in another order */ \
     X(adjacency, cam_entry_high) /* 6 is not seen for i+1 */ \
+    X(adjacency, by_code_uncounted) /* a form by code tells no pairs */ \
+    X(lines, line_uncounted)     /* a line tells none */ \
     X(lines, count_08)           /* a leading zero is taken */ \
     X(lines, at_of_unfinished)   /* an unfinished line is not passed over */ \
     X(lines, record_filled)      /* zeros behind a record */ \
@@ -52,6 +66,7 @@
     X(lines, unfinished_not_listed)  /* nor has it a line of the listing */ \
     X(lines, longest_is_long)    /* 65,536 bytes are too many */ \
     X(lines, piece_skips)        /* a piece behind the first begins one byte late */ \
+    X(vertices, classes_counted) /* comparing subtrees for their classes is counted */ \
     X(vertices, depth_ignored)   /* equal subtree codes at different depths are one class */ \
     X(vertices, classes_from_0)
 
@@ -86,6 +101,82 @@ static uint32_t give(struct answer answer)
     if (wrong == bytes_not_given && answer.number == 0)
         answer.place = 0;
     return (uint32_t)(256 * answer.number + answer.place) + (answer.second_list ? 65536 : 0);
+}
+
+/* ---- The pairs looked at, counted again from the digits of a code ---- */
+
+static uint64_t pairs_of_parts(const uint8_t *a, size_t an, const uint8_t *b, size_t bn)
+{
+    if (wrong == leaves_left && an == 1 && bn == 1)
+        return 0;
+    for (size_t i = 0; i < an && i < bn; i++)
+        if (a[i] != b[i])
+            return i + (wrong != difference_left);
+    return an < bn ? an : bn;
+}
+
+/* The parts of the children stand behind the first digit, each up to its end. */
+static uint64_t pairs_in(const uint8_t *code)
+{
+    const uint8_t *part[most_neighbours];
+    size_t length[most_neighbours];
+    uint64_t pairs = 0;
+    const uint8_t *at = code + 1;
+    for (unsigned i = 0; i < code[0]; i++) {
+        part[i] = at;
+        length[i] = code_end(at, most_vertices);
+        at += length[i];
+        pairs += wrong == child_total_left ? 0 : pairs_in(part[i]);
+        for (unsigned j = 0; j < i; j++)
+            pairs += pairs_of_parts(part[i], length[i], part[j], length[j]);
+    }
+    return pairs;
+}
+
+static uint64_t rooted_pairs(size_t n, const uint8_t *edges, size_t root)
+{
+    struct tree tree = tree_of(n, edges);
+    return pairs_in(rooted_code(&tree, (unsigned)root).digit);
+}
+
+static uint64_t centred_pairs(size_t n, const uint8_t *edges)
+{
+    struct tree tree = tree_of(n, edges);
+    unsigned middle[2];
+    unsigned middles = centre(&tree, middle);
+    uint64_t pairs = rooted_pairs(n, edges, middle[0]);
+    if (middles == 2 && wrong != one_middle_counted)
+        pairs += rooted_pairs(n, edges, middle[1]);
+    if (middles == 2 && wrong == finished_counted)
+        pairs += n;
+    return pairs;
+}
+
+static uint64_t n_tuple_pairs(size_t n, const uint8_t *edges)
+{
+    struct tree tree = tree_of(n, edges);
+    struct code best = n_tuple_code(&tree);
+    uint64_t pairs = 0;
+    for (unsigned v = 1; v <= n; v++)
+        if (tree.degree[v] == best.digit[0])
+            pairs += rooted_pairs(n, edges, v);
+    return wrong == best_root_counted ? pairs_in(best.digit) : pairs;
+}
+
+/* The answer of the call that does not tell them, with the pairs beside it. */
+static uint32_t tell(uint32_t answer, uint64_t counted, size_t *pairs)
+{
+    if (!zk_refused(answer))
+        *pairs = counted;
+    else if (wrong != pairs_untouched)
+        *pairs = 0;
+    return answer;
+}
+
+/* Whether the call got as far as to code the list. */
+static bool was_coded(uint32_t answer)
+{
+    return !zk_refused(answer) || zk_number(answer) == 15;
 }
 
 static struct answer wrong_code(struct answer answer, const uint8_t *code, size_t len)
@@ -389,4 +480,95 @@ uint32_t zk_equal_vertices(size_t n, const uint8_t *edges, size_t len, uint8_t *
                     out[v] = out[u];
     }
     return give(answer);
+}
+
+/* ---- The calls that tell the pairs ---- */
+
+uint32_t zk_rooted_code_pairs(size_t n, const uint8_t *edges, size_t len, size_t root, uint8_t *out, size_t out_len, size_t *pairs)
+{
+    uint32_t answer = zk_rooted_code(n, edges, len, root, out, out_len);
+    uint64_t counted = was_coded(answer) ? rooted_pairs(n, edges, root) : 0;
+    tell(answer, counted, pairs);
+    if (wrong == pairs_on_15 && zk_number(answer) == 15)
+        *pairs = counted;
+    return answer;
+}
+
+uint32_t zk_n_tuple_code_pairs(size_t n, const uint8_t *edges, size_t len, uint8_t *out, size_t out_len, size_t *pairs)
+{
+    uint32_t answer = zk_n_tuple_code(n, edges, len, out, out_len);
+    return tell(answer, was_coded(answer) ? n_tuple_pairs(n, edges) : 0, pairs);
+}
+
+uint32_t zk_centred_code_pairs(size_t n, const uint8_t *edges, size_t len, uint8_t *out, size_t out_len, size_t *pairs)
+{
+    uint32_t answer = zk_centred_code(n, edges, len, out, out_len);
+    return tell(answer, was_coded(answer) ? centred_pairs(n, edges) : 0, pairs);
+}
+
+uint32_t zk_same_skeleton_pairs(size_t n1, const uint8_t *e1, size_t l1, size_t n2, const uint8_t *e2, size_t l2, size_t *pairs)
+{
+    uint32_t answer = zk_same_skeleton(n1, e1, l1, n2, e2, l2);
+    uint64_t counted = 0;
+    if (was_coded(answer) && (n1 == n2 || wrong == sizes_counted)) {
+        counted = centred_pairs(n1, e1);
+        if (wrong != first_list_counted)
+            counted += centred_pairs(n2, e2);
+    }
+    return tell(answer, counted, pairs);
+}
+
+uint32_t zk_pack_pairs(size_t n, const uint8_t *edges, size_t len, size_t root, uint8_t *out, size_t out_len, size_t *pairs)
+{
+    uint32_t answer = zk_pack(n, edges, len, root, out, out_len);
+    uint64_t counted = was_coded(answer) ? rooted_pairs(n, edges, wrong == pairs_at_1 ? 1 : root) : 0;
+    tell(answer, counted, pairs);
+    if (wrong == packed_pairs_on_15 && zk_number(answer) == 15)
+        *pairs = counted;
+    return answer;
+}
+
+uint32_t zk_whole_pairs(size_t n, const uint8_t *edges, size_t len, size_t root, uint64_t *value, size_t *pairs)
+{
+    uint32_t answer = zk_whole(n, edges, len, root, value);
+    return tell(answer, was_coded(answer) ? rooted_pairs(n, edges, root) : 0, pairs);
+}
+
+uint32_t zk_fraction_pairs(size_t n, const uint8_t *edges, size_t len, size_t root, double *value, size_t *pairs)
+{
+    uint32_t answer = zk_fraction(n, edges, len, root, value);
+    return tell(answer, was_coded(answer) ? rooted_pairs(n, edges, root) : 0, pairs);
+}
+
+static uint32_t tell_by_code(uint32_t answer, size_t n, const uint8_t *edges, size_t *pairs)
+{
+    return tell(answer, was_coded(answer) && wrong != by_code_uncounted ? centred_pairs(n, edges) : 0, pairs);
+}
+
+uint32_t zk_cam_by_code_pairs(size_t n, const uint8_t *edges, size_t len, uint8_t *out, size_t out_len, size_t *pairs)
+{
+    return tell_by_code(zk_cam_by_code(n, edges, len, out, out_len), n, edges, pairs);
+}
+
+uint32_t zk_zero_a_by_code_pairs(size_t n, const uint8_t *edges, size_t len, uint64_t *value, size_t *pairs)
+{
+    return tell_by_code(zk_zero_a_by_code(n, edges, len, value), n, edges, pairs);
+}
+
+uint32_t zk_a_zero_by_code_pairs(size_t n, const uint8_t *edges, size_t len, uint64_t *value, size_t *pairs)
+{
+    return tell_by_code(zk_a_zero_by_code(n, edges, len, value), n, edges, pairs);
+}
+
+uint32_t zk_equal_vertices_pairs(size_t n, const uint8_t *edges, size_t len, uint8_t *out, size_t out_len, size_t *pairs)
+{
+    uint32_t answer = zk_equal_vertices(n, edges, len, out, out_len);
+    uint64_t counted = was_coded(answer) ? centred_pairs(n, edges) : 0;
+    return tell(answer, wrong == classes_counted ? counted + n - 1 : counted, pairs);
+}
+
+uint32_t zk_write_line_pairs(size_t n, const uint8_t *edges, size_t len, uint8_t *out, size_t out_len, size_t *pairs)
+{
+    uint32_t answer = zk_write_line(n, edges, len, out, out_len);
+    return tell(answer, was_coded(answer) && wrong != line_uncounted ? centred_pairs(n, edges) : 0, pairs);
 }

@@ -2,7 +2,8 @@
  *
  * Each call returns number and place: number 0 is success, and its place is then the count of bytes
  * written at the front of `out` (0 where nothing is written), or for the verdict 1 (same) or 0. A refusal
- * writes nothing. The names and arguments are those of include/zurkhovel.h.
+ * writes nothing. A call that codes a tree also tells the pairs of digits looked at (document 02, wish 6), and 0
+ * where it refuses. The names and arguments are those of include/zurkhovel.h.
  */
 #ifndef ORACLE_H
 #define ORACLE_H
@@ -15,6 +16,7 @@ struct answer {
     unsigned number;
     uint64_t place;
     bool second_list; /* whether it is a refusal of the verdict's second list */
+    uint64_t pairs;   /* of digits looked at where siblings were put in order */
 };
 
 struct answer oracle_check_code(const uint8_t *code, size_t len);

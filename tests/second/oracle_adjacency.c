@@ -71,7 +71,7 @@ static struct answer by_code(uint64_t n, uint64_t limit, const uint8_t *edges, s
     struct tree given = tree_of(n, edges);
     struct code code = centred_code(&given);
     *tree = tree_of_code(code.digit, code.length);
-    return refusal;
+    return telling(refusal, code.pairs);
 }
 
 static struct answer deliver_cam(struct answer refusal, const struct tree *tree, uint8_t *out, size_t room)
@@ -93,7 +93,8 @@ struct answer oracle_cam(uint64_t n, const uint8_t *edges, size_t len, uint8_t *
 struct answer oracle_cam_by_code(uint64_t n, const uint8_t *edges, size_t len, uint8_t *out, size_t room)
 {
     struct tree tree;
-    return deliver_cam(by_code(n, cam_limit, edges, len, &tree), &tree, out, room);
+    struct answer refusal = by_code(n, cam_limit, edges, len, &tree);
+    return telling(deliver_cam(refusal, &tree, out, room), refusal.pairs);
 }
 
 struct answer oracle_zero_a(uint64_t n, const uint8_t *edges, size_t len, uint64_t *value)

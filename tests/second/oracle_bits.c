@@ -37,6 +37,7 @@ static struct answer code_bits(uint64_t n, uint64_t limit, const uint8_t *edges,
         struct tree tree = tree_of(n, edges);
         struct code code = rooted_code(&tree, (unsigned)root);
         bits_of_code(&code, bits);
+        return telling(refusal, code.pairs);
     }
     return refusal;
 }
@@ -50,7 +51,7 @@ struct answer oracle_pack(uint64_t n, const uint8_t *edges, size_t len, uint64_t
     for (size_t i = 0; i < bits.count; i++)
         if (bits.bit[i])
             packed[i / 8] |= (uint8_t)(0x80 >> (i % 8));
-    return deliver(refusal, packed, (bits.count + 7) / 8, out, room);
+    return telling(deliver(refusal, packed, (bits.count + 7) / 8, out, room), refusal.pairs);
 }
 
 static uint64_t in_base_2(const struct bits *bits)

@@ -1,4 +1,4 @@
-/* Rooted, N-tuple and centred codes, and the verdict "same skeleton". */
+/* Rooted, N-tuple and centred codes, the pairs of digits looked at for each, and the verdict "same skeleton". */
 #include <string.h>
 
 #include "oracle_parts.h"
@@ -14,8 +14,25 @@ static void append(struct code *code, const struct code *part)
     code->length += part->length;
 }
 
+uint64_t pairs_of(const struct code *a, const struct code *b)
+{
+    uint64_t pairs = 0;
+    for (size_t i = 0; i < a->length && i < b->length; i++) {
+        pairs++;
+        if (a->digit[i] != b->digit[i])
+            break;
+    }
+    return pairs;
+}
+
+struct answer telling(struct answer answer, uint64_t pairs)
+{
+    answer.pairs = answer.number == 0 ? pairs : 0;
+    return answer;
+}
+
 /* The code of a vertex seen from its parent: the count of its children, then their codes, always the
- * largest of those not yet written. */
+ * largest of those not yet written. The pairs are those of each child, and those of every two children. */
 static struct code part_code(const struct tree *tree, unsigned vertex, unsigned parent)
 {
     struct code child[most_neighbours];
@@ -24,9 +41,13 @@ static struct code part_code(const struct tree *tree, unsigned vertex, unsigned 
         if (tree->neighbour[vertex][i] != parent)
             child[children++] = part_code(tree, tree->neighbour[vertex][i], vertex);
 
-    struct code code;
-    code.length = 1;
+    struct code code = {.length = 1};
     code.digit[0] = (uint8_t)children;
+    for (unsigned i = 0; i < children; i++) {
+        code.pairs += child[i].pairs;
+        for (unsigned j = 0; j < i; j++)
+            code.pairs += pairs_of(&child[i], &child[j]);
+    }
     while (children > 0) {
         unsigned largest = 0;
         for (unsigned i = 1; i < children; i++)
@@ -51,13 +72,16 @@ struct code n_tuple_code(const struct tree *tree)
             most = tree->degree[v];
 
     struct code best = {.length = 0};
+    uint64_t pairs = 0;
     for (unsigned v = 1; v <= tree->n; v++) {
         if (tree->degree[v] != most)
             continue;
         struct code code = rooted_code(tree, v);
+        pairs += code.pairs;
         if (best.length == 0 || larger(&code, &best))
             best = code;
     }
+    best.pairs = pairs;
     return best;
 }
 
@@ -98,10 +122,12 @@ unsigned centre(const struct tree *tree, unsigned middle[2])
 struct code centred_code(const struct tree *tree)
 {
     unsigned middle[2];
-    centre(tree, middle);
+    unsigned middles = centre(tree, middle);
     struct code one = rooted_code(tree, middle[0]);
     struct code other = rooted_code(tree, middle[1]);
-    return larger(&other, &one) ? other : one;
+    struct code best = larger(&other, &one) ? other : one;
+    best.pairs = middles == 2 ? one.pairs + other.pairs : one.pairs;
+    return best;
 }
 
 bool same_digits(const uint8_t *digits, size_t count, const struct code *code)
@@ -117,7 +143,7 @@ struct answer oracle_rooted_code(uint64_t n, const uint8_t *edges, size_t len, u
         return refusal;
     struct tree tree = tree_of(n, edges);
     struct code code = rooted_code(&tree, (unsigned)root);
-    return deliver(refusal, code.digit, code.length, out, room);
+    return telling(deliver(refusal, code.digit, code.length, out, room), code.pairs);
 }
 
 typedef struct code form(const struct tree *);
@@ -129,7 +155,7 @@ static struct answer code_as(form *of, uint64_t n, const uint8_t *edges, size_t 
         return refusal;
     struct tree tree = tree_of(n, edges);
     struct code code = of(&tree);
-    return deliver(refusal, code.digit, code.length, out, room);
+    return telling(deliver(refusal, code.digit, code.length, out, room), code.pairs);
 }
 
 struct answer oracle_n_tuple_code(uint64_t n, const uint8_t *edges, size_t len, uint8_t *out, size_t room)
@@ -175,6 +201,8 @@ struct answer oracle_same_skeleton(uint64_t n1, const uint8_t *e1, size_t l1,
     if (second.number != 0)
         return second;
     struct tree one = tree_of(n1, e1), other = tree_of(n2, e2);
+    if (n1 != n2)
+        return (struct answer){.number = 0, .place = 0};
     struct code a = centred_code(&one), b = centred_code(&other);
-    return (struct answer){.number = 0, .place = same_digits(a.digit, a.length, &b) ? 1 : 0};
+    return telling((struct answer){.number = 0, .place = same_digits(a.digit, a.length, &b) ? 1 : 0}, a.pairs + b.pairs);
 }

@@ -96,7 +96,7 @@ struct answer oracle_write_line(uint64_t n, const uint8_t *edges, size_t len, ui
     for (size_t i = 0; i < code.length; i++)
         line[at++] = (char)('0' + code.digit[i]);
     line[at++] = line_feed;
-    return deliver(refusal, (const uint8_t *)line, at, out, room);
+    return telling(deliver(refusal, (const uint8_t *)line, at, out, room), code.pairs);
 }
 
 void oracle_read_text(const uint8_t *text, size_t len, uint8_t *records, size_t records_len,

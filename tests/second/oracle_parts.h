@@ -28,11 +28,19 @@ struct answer deliver(struct answer refusal, const uint8_t *result, size_t lengt
 /* Dictionary order: 0 a before b, 1 equal, 2 a after b; a proper prefix stands before. */
 unsigned order_of(const uint8_t *a, size_t an, const uint8_t *b, size_t bn);
 
-/* A digit code that is known to fit. */
+/* A digit code that is known to fit, and the pairs of digits looked at for it. */
 struct code {
     size_t length;
     uint8_t digit[most_vertices];
+    uint64_t pairs;
 };
+
+/* The pairs looked at when two codes are compared: up to and including the first difference, or the whole code
+ * if equal. */
+uint64_t pairs_of(const struct code *a, const struct code *b);
+
+/* The answer, which tells the pairs where it is no refusal. */
+struct answer telling(struct answer answer, uint64_t pairs);
 
 /* The position where the code at the front of the bytes ends: the first one where the sum of the digits
  * so far is less than the position. 0 when there is none. */

@@ -38,5 +38,5 @@ struct answer oracle_equal_vertices(uint64_t n, const uint8_t *edges, size_t len
         if (class[v] == 0)
             class[v] = ++classes;
     }
-    return deliver(refusal, class, n, out, room);
+    return telling(deliver(refusal, class, n, out, room), code.pairs);
 }

@@ -4,13 +4,13 @@
 #include "second.h"
 
 CALL_LIST(cam);
-CALL_LIST(cam_by_code);
+CALL_CODED(cam_by_code);
 CALL_LIST(decode_cam);
 CALL_VALUE(zero_a, uint64_t, in->n, in->bytes, in->len);
-CALL_VALUE(zero_a_by_code, uint64_t, in->n, in->bytes, in->len);
+CALL_VALUE_CODED(zero_a_by_code, uint64_t, in->n, in->bytes, in->len);
 CALL_NUMBER(decode_zero_a);
 CALL_VALUE(a_zero, uint64_t, in->n, in->bytes, in->len);
-CALL_VALUE(a_zero_by_code, uint64_t, in->n, in->bytes, in->len);
+CALL_VALUE_CODED(a_zero_by_code, uint64_t, in->n, in->bytes, in->len);
 CALL_NUMBER(decode_a_zero);
 
 static void check_list(const struct list *list)

@@ -7,9 +7,9 @@
 
 CALL_ROOTED(pack);
 CALL_BYTES(unpack);
-CALL_VALUE(whole, uint64_t, in->n, in->bytes, in->len, in->root);
+CALL_VALUE_CODED(whole, uint64_t, in->n, in->bytes, in->len, in->root);
 CALL_NUMBER(unwhole);
-CALL_VALUE(fraction, double, in->n, in->bytes, in->len, in->root);
+CALL_VALUE_CODED(fraction, double, in->n, in->bytes, in->len, in->root);
 CALL_BOTH(unfraction, lent_bytes, in->x, out, room);
 
 /* The edges that one of our own readings gives, for coding at vertex 1 again. */

@@ -25,12 +25,43 @@ static void labelled(void)
         }
 }
 
+/* Every rooted tree of up to 12 vertices, from every skeleton at each of its vertices. The largest numbers of pairs by
+ * size were counted by hand elsewhere. */
+static void rooted_trees(void)
+{
+    static const uint64_t largest[] = {0, 0, 0, 1, 3, 6, 6, 7, 9, 12, 12, 15, 15};
+    static struct bytes codes[most_skeletons];
+    for (unsigned n = 1; n <= 12; n++) {
+        uint64_t most = 0;
+        size_t count = all_skeletons(n, codes);
+        for (size_t i = 0; i < count; i++) {
+            struct list list = list_of_code(&codes[i]);
+            for (unsigned root = 1; root <= n; root++) {
+                uint64_t pairs = check_both(&list, root).pairs;
+                most = pairs > most ? pairs : most;
+            }
+        }
+        claim(most == largest[n], "the most pairs by size are 0, 0, 1, 3, 6, 6, 7, 9, 12, 12, 15, 15");
+    }
+}
+
+/* What is looked at is at most 3 times N times the whole part of log2 N. */
+static void within_bound(uint64_t n, uint64_t pairs)
+{
+    uint64_t log2 = 0;
+    while (n >> (log2 + 1) != 0)
+        log2++;
+    claim(pairs <= 3 * n * log2, "the pairs keep the bound");
+}
+
 static void right(void)
 {
     for (unsigned n = 1; n <= 64; n++)
         for (unsigned round = 0; round < 150; round++) {
             struct list list = random_tree(n);
-            claim(check_both(&list, 1 + below(n)).number == 0, "a random tree is right");
+            struct answer answer = check_both(&list, 1 + below(n));
+            claim(answer.number == 0, "a random tree is right");
+            within_bound(n, answer.pairs);
             check_both(&list, some_root(&list, 4));
             struct bytes code = rooted_code_of(&list, 1 + below(n));
             struct list back = list_of_code(&code);
@@ -119,6 +150,7 @@ static void limits(void)
 void piece_edges(void)
 {
     labelled();
+    rooted_trees();
     right();
     damaged();
     overfilled();

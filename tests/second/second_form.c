@@ -3,11 +3,11 @@
 #include "gen.h"
 #include "second.h"
 
-CALL_LIST(n_tuple_code);
-CALL_LIST(centred_code);
+CALL_CODED(n_tuple_code);
+CALL_CODED(centred_code);
 CALL_BYTES(decode_n_tuple);
 CALL_BYTES(decode_centred);
-CALL_BOTH(same_skeleton, no_output, in->n, in->bytes, in->len, in->n2, in->bytes2, in->len2);
+CALL_TELLING(same_skeleton, no_output, in->n, in->bytes, in->len, in->n2, in->bytes2, in->len2);
 
 static void check_list(const struct list *list)
 {

@@ -8,7 +8,7 @@
 #include "texts.h"
 
 CALL_BYTES(read_line);
-CALL_LIST(write_line);
+CALL_CODED(write_line);
 
 /* A line that is read is written again by the edges of its digits. */
 static void check_written_again(const struct text *text)

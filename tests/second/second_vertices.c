@@ -3,7 +3,7 @@
 #include "gen.h"
 #include "second.h"
 
-CALL_LIST(equal_vertices);
+CALL_CODED(equal_vertices);
 
 static struct answer check_list(const struct list *list)
 {

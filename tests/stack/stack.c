@@ -63,6 +63,20 @@ CALL(read_line, lines, lines_len, out, sizeof out)
 CALL(write_line, n, edges, len, out, sizeof out)
 CALL(equal_vertices, n, edges, len, out, sizeof out)
 
+/* The same, with the pairs looked at handed over. */
+CALL(rooted_code_pairs, n, edges, len, root, out, sizeof out, &one)
+CALL(n_tuple_code_pairs, n, edges, len, out, sizeof out, &one)
+CALL(centred_code_pairs, n, edges, len, out, sizeof out, &one)
+CALL(same_skeleton_pairs, n, edges, len, n, other, len, &one)
+CALL(pack_pairs, n, edges, len, root, out, sizeof out, &one)
+CALL(whole_pairs, n, edges, len, root, &value, &one)
+CALL(fraction_pairs, n, edges, len, root, &exact, &one)
+CALL(cam_by_code_pairs, n, edges, len, out, sizeof out, &one)
+CALL(zero_a_by_code_pairs, n, edges, len, &value, &one)
+CALL(a_zero_by_code_pairs, n, edges, len, &value, &one)
+CALL(write_line_pairs, n, edges, len, out, sizeof out, &one)
+CALL(equal_vertices_pairs, n, edges, len, out, sizeof out, &one)
+
 static void do_read_text(void) {
     answer = 0;
     zk_read_text(lines, lines_len, records, sizeof records, numbers, sizeof numbers, places, LINES, &one, &another);
@@ -93,6 +107,9 @@ static const struct call {
     ROW(a_zero_by_code, 11, 0), ROW(decode_cam, 64, 0),     ROW(decode_zero_a, 21, 0),  ROW(decode_a_zero, 11, 0),
     ROW(equal_vertices, 64, 0), ROW(read_line, 64, 0),      ROW(write_line, 64, 0),     ROW(read_text, 64, 0),
     ROW(count, 64, 0),          ROW(list, 64, 0),
+    ROW(rooted_code_pairs, 64, 1), ROW(n_tuple_code_pairs, 64, 0), ROW(centred_code_pairs, 64, 0), ROW(same_skeleton_pairs, 64, 0),
+    ROW(pack_pairs, 64, 1), ROW(whole_pairs, 32, 1), ROW(fraction_pairs, 27, 1), ROW(cam_by_code_pairs, 64, 0),
+    ROW(zero_a_by_code_pairs, 21, 0), ROW(a_zero_by_code_pairs, 11, 0), ROW(write_line_pairs, 64, 0), ROW(equal_vertices_pairs, 64, 0),
 };
 
 /* ---- The skeletons ---- */
@@ -211,12 +228,12 @@ int main(int argc, char **argv) {
     }
     touched(none);
     bare = touched(none);
-    printf("bytes of stack touched, at most %zu; starting a thread: %zu\n%-20s %4s", limit, bare, "call", "N");
+    printf("bytes of stack touched, at most %zu; starting a thread: %zu\n%-24s %4s", limit, bare, "call", "N");
     for (unsigned s = 0; s < SHAPES; s++)
         printf(" %12s", shapes[s].name);
     puts("");
     for (unsigned c = 0; c < CALLS; c++) {
-        printf("%-20s %4u", calls[c].name, calls[c].most);
+        printf("%-24s %4u", calls[c].name, calls[c].most);
         for (unsigned s = 0; s < SHAPES; s++) {
             size_t bytes = most(&calls[c], &shapes[s]);
             printf(" %12zu", bytes);

@@ -87,7 +87,9 @@ fn packed(n: usize, edges: &[u8], k: usize) {
     if edges.len() < k {
         return;
     }
-    if let Answer::Done(j) = zurkhovel::bit_tuple::pack(n, &edges[..k], 1, &mut out) {
+    let r = zurkhovel::bit_tuple::pack(n, &edges[..k], 1, &mut out);
+    let a = r.answer;
+    if let Answer::Done(j) = a {
         bytes(&out, j);
     }
 }

@@ -4,9 +4,11 @@ use shown::answer;
 use shown::given;
 use shown::number;
 use shown::refused;
+use shown::reported;
 use shown::sized;
 use shown::text;
 use shown::value;
+use shown::valued;
 use zurkhovel::codes::Verdict;
 
 // Its rooted code at a vertex.
@@ -16,7 +18,7 @@ fn rooted(edges: &[u8], v: usize) {
     text(b", ");
     number(v as u64);
     let a = zurkhovel::codes::rooted_code(7, edges, v, &mut out);
-    answer(a, &out);
+    reported(a, &out);
 }
 
 // The N-tuple code, the centred code, and the numbering by it.
@@ -25,10 +27,10 @@ fn coded(edges: &[u8]) {
     let mut pairs = [0u8; 12];
     sized(b"n_tuple_code", 7, edges);
     let a = zurkhovel::codes::n_tuple_code(7, edges, &mut out);
-    answer(a, &out);
+    reported(a, &out);
     sized(b"centred_code", 7, edges);
     let b = zurkhovel::codes::centred_code(7, edges, &mut out);
-    answer(b, &out);
+    reported(b, &out);
     given(b"decode_centred", &out);
     let c = zurkhovel::codes::decode_centred(&out, &mut pairs);
     answer(c, &pairs);
@@ -40,13 +42,15 @@ fn bits(edges: &[u8]) {
     sized(b"pack", 7, edges);
     text(b", 2");
     let a = zurkhovel::bit_tuple::pack(7, edges, 2, &mut out);
-    answer(a, &out);
+    reported(a, &out);
     sized(b"whole", 7, edges);
     text(b", 2");
-    value(zurkhovel::bit_tuple::whole(7, edges, 2));
+    valued(zurkhovel::bit_tuple::whole(7, edges, 2));
     sized(b"fraction", 7, edges);
     text(b", 2");
-    match zurkhovel::bit_tuple::fraction(7, edges, 2) {
+    let r = zurkhovel::bit_tuple::fraction(7, edges, 2);
+    let a = r.answer;
+    match a {
         Fraction::Exact(x) => {
             if x == 0.9150390625 {
                 text(b" = Exact(0.9150390625)\n");
@@ -64,21 +68,23 @@ fn adjacency(edges: &[u8]) {
     answer(a, &out);
     sized(b"cam_by_code", 7, edges);
     let b = zurkhovel::matrix::cam_by_code(7, edges, &mut out);
-    answer(b, &out);
+    reported(b, &out);
     sized(b"zero_a", 7, edges);
     value(zurkhovel::matrix::zero_a(7, edges));
     sized(b"zero_a_by_code", 7, edges);
-    value(zurkhovel::matrix::zero_a_by_code(7, edges));
+    valued(zurkhovel::matrix::zero_a_by_code(7, edges));
     sized(b"a_zero", 7, edges);
     value(zurkhovel::matrix::a_zero(7, edges));
     sized(b"a_zero_by_code", 7, edges);
-    value(zurkhovel::matrix::a_zero_by_code(7, edges));
+    valued(zurkhovel::matrix::a_zero_by_code(7, edges));
 }
 
 fn same(edges: &[u8], others: &[u8]) {
     sized(b"same_skeleton", 7, edges);
     sized(b",", 7, others);
-    match zurkhovel::codes::same_skeleton(7, edges, 7, others) {
+    let r = zurkhovel::codes::same_skeleton(7, edges, 7, others);
+    let a = r.answer;
+    match a {
         Verdict::Same => text(b" = Same\n"),
         Verdict::Different => text(b" = Different\n"),
         Verdict::Refused(_, k, p) => refused(k, p),
@@ -90,17 +96,17 @@ fn alike(edges: &[u8]) {
     let mut out = [0u8; 7];
     sized(b"equal_vertices", 7, edges);
     let a = zurkhovel::alike::equal_vertices(7, edges, &mut out);
-    answer(a, &out);
+    reported(a, &out);
     sized(b"equal_vertices", 6, &[1, 2, 2, 3, 3, 4, 4, 5, 2, 6]);
     let b = zurkhovel::alike::equal_vertices(6, &[1, 2, 2, 3, 3, 4, 4, 5, 2, 6], &mut out);
-    answer(b, &out);
+    reported(b, &out);
 }
 
 fn line(edges: &[u8]) {
     let mut out = [0u8; 10];
     sized(b"write_line", 7, edges);
     let a = zurkhovel::text::write_line(7, edges, &mut out);
-    answer(a, &out);
+    reported(a, &out);
 }
 
 // Behind `same`: the numbering along the chain of six, and 2-methylhexane.

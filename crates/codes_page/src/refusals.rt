@@ -2,6 +2,7 @@
 use super::written::line;
 use shown::answer;
 use shown::numbered;
+use shown::reported;
 use shown::sized;
 use shown::text;
 
@@ -66,7 +67,7 @@ fn numbers() {
     sized(b"centred_code", 3, &[1, 2, 2, 3]);
     text(b" into 2 bytes");
     let c = zurkhovel::codes::centred_code(3, &[1, 2, 2, 3], &mut out);
-    answer(c, &out);
+    reported(c, &out);
 }
 
 pub(crate) fn answers() {

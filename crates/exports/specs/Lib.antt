@@ -1,4 +1,5 @@
 -- The answers of the C functions. Assumes nothing.
 pub mod Unpacked
 pub mod One
+pub mod OneReported
 pub mod document

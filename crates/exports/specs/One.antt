@@ -35,19 +35,19 @@ use Rattle.exports.specs.document.Packing.{packed, truth, withList, held
 -- ---- each kind of answer
 
 -- the result that an outcome is told of
-answer : (o : Outcome ℕ) → (r : Answer) × (o ≡ told r)
+pub answer : (o : Outcome ℕ) → (r : Answer) × (o ≡ told r)
 answer (gives n) = (Done n, refl)
 answer (refuses k p) = (Refused k p, refl)
 
-value : (o : Outcome ℕ) → (r : Number) × (o ≡ numbered r)
+pub value : (o : Outcome ℕ) → (r : Number) × (o ≡ numbered r)
 value (gives v) = (number.Value v, refl)
 value (refuses k p) = (number.Refused k p, refl)
 
-exact : (o : Outcome Float) → (r : Fraction) × (o ≡ toldFraction r)
+pub exact : (o : Outcome Float) → (r : Fraction) × (o ≡ toldFraction r)
 exact (gives x) = (fraction.Exact x, refl)
 exact (refuses k p) = (fraction.Refused k p, refl)
 
-finding : (o : Finding) → (r : Verdict) × (o ≡ said r)
+pub finding : (o : Finding) → (r : Verdict) × (o ≡ said r)
 finding (gives true) = (verdict.Same, refl)
 finding (gives false) = (verdict.Different, refl)
 finding (refuses (i, k) p) = (verdict.Refused i k p, refl)

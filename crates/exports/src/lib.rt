@@ -1,5 +1,6 @@
 // The public calls as C functions: include/zurkhovel.h declares them. Each makes its call and hands the answer on in one whole number: 256 times
-// the refusal number plus the place, or the bytes written. The `ensures` of each is the promise of the call behind it, through `Packing`.
+// the refusal number plus the place, or the bytes written. The `ensures` of each is the promise of the call behind it, through `Packing`. A call
+// that reports how many pairs it looked at has two: the one whose name ends in `_pairs` hands that number over through a lent place.
 use fraction::Fraction;
 use refusal::Answer;
 use refusal::Number;
@@ -10,6 +11,8 @@ ghost use Rattle.refusal.specs.document.Outcome.{told, numbered};
 ghost use Rattle.refusal.specs.document.Small.{byteValues, Small, SmallOfList, SmallAnswer, SmallRefusal};
 ghost use Rattle.fraction.specs.document.Outcome.{toldFraction};
 ghost use Rattle.form.specs.document.Form.{nTuple, centred};
+ghost use Rattle.form_coder.specs.document.Pairs.{centredPairs, nTuplePairs};
+ghost use Rattle.zurkhovel.specs.document.Reported.{Reporting, atRoot, OfBoth};
 ghost use Rattle.zurkhovel.specs.document.Codes.{CheckCode, DecodeCode, DecodeForm, CheckEdges, RootedCode, FormCode};
 ghost use Rattle.zurkhovel.specs.document.Same.{SameSkeleton, said};
 ghost use Rattle.zurkhovel.specs.document.Bits.{Pack, Unpack, Whole, Unwhole, InFraction, Unfraction};
@@ -119,35 +122,123 @@ pub extern "C" fn zk_check_edges(n: usize, edges: &[u8], root: usize) -> u32
 pub extern "C" fn zk_rooted_code(n: usize, edges: &[u8], root: usize, out: &mut [u8]) -> u32
     ensures { λ r. ⌜ PackedAnswer (RootedCode n (now (edges .entry)) root (now (out .entry)) (now (out .exit))) r ⌝ }
 {
-    answered(zurkhovel::codes::rooted_code(n, edges, root, out))
+    let r = zurkhovel::codes::rooted_code(n, edges, root, out);
+    let answer = r.answer;
+    answered(answer)
+}
+
+#[no_mangle]
+pub extern "C" fn zk_rooted_code_pairs(
+    n: usize,
+    edges: &[u8],
+    root: usize,
+    out: &mut [u8],
+    pairs: &mut usize,
+) -> u32
+    ensures { λ r. ⌜ PackedAnswer (λ o. Reporting (RootedCode n (now (edges .entry)) root (now (out .entry)) (now (out .exit))) (atRoot n (now (edges .entry)) root) o (now (pairs .exit))) r ⌝ }
+{
+    let r = zurkhovel::codes::rooted_code(n, edges, root, out);
+    *pairs = r.pairs;
+    let answer = r.answer;
+    answered(answer)
 }
 
 #[no_mangle]
 pub extern "C" fn zk_n_tuple_code(n: usize, edges: &[u8], out: &mut [u8]) -> u32
     ensures { λ r. ⌜ PackedAnswer (FormCode nTuple n (now (edges .entry)) (now (out .entry)) (now (out .exit))) r ⌝ }
 {
-    answered(zurkhovel::codes::n_tuple_code(n, edges, out))
+    let r = zurkhovel::codes::n_tuple_code(n, edges, out);
+    let answer = r.answer;
+    answered(answer)
+}
+
+#[no_mangle]
+pub extern "C" fn zk_n_tuple_code_pairs(
+    n: usize,
+    edges: &[u8],
+    out: &mut [u8],
+    pairs: &mut usize,
+) -> u32
+    ensures { λ r. ⌜ PackedAnswer (λ o. Reporting (FormCode nTuple n (now (edges .entry)) (now (out .entry)) (now (out .exit))) (nTuplePairs n (now (edges .entry))) o (now (pairs .exit))) r ⌝ }
+{
+    let r = zurkhovel::codes::n_tuple_code(n, edges, out);
+    *pairs = r.pairs;
+    let answer = r.answer;
+    answered(answer)
 }
 
 #[no_mangle]
 pub extern "C" fn zk_centred_code(n: usize, edges: &[u8], out: &mut [u8]) -> u32
     ensures { λ r. ⌜ PackedAnswer (FormCode centred n (now (edges .entry)) (now (out .entry)) (now (out .exit))) r ⌝ }
 {
-    answered(zurkhovel::codes::centred_code(n, edges, out))
+    let r = zurkhovel::codes::centred_code(n, edges, out);
+    let answer = r.answer;
+    answered(answer)
+}
+
+#[no_mangle]
+pub extern "C" fn zk_centred_code_pairs(
+    n: usize,
+    edges: &[u8],
+    out: &mut [u8],
+    pairs: &mut usize,
+) -> u32
+    ensures { λ r. ⌜ PackedAnswer (λ o. Reporting (FormCode centred n (now (edges .entry)) (now (out .entry)) (now (out .exit))) (centredPairs n (now (edges .entry))) o (now (pairs .exit))) r ⌝ }
+{
+    let r = zurkhovel::codes::centred_code(n, edges, out);
+    *pairs = r.pairs;
+    let answer = r.answer;
+    answered(answer)
 }
 
 #[no_mangle]
 pub extern "C" fn zk_same_skeleton(n1: usize, edges1: &[u8], n2: usize, edges2: &[u8]) -> u32
     ensures { λ r. ⌜ PackedFinding (SameSkeleton n1 (now (edges1 .entry)) n2 (now (edges2 .entry))) r ⌝ }
 {
-    found(zurkhovel::codes::same_skeleton(n1, edges1, n2, edges2))
+    let r = zurkhovel::codes::same_skeleton(n1, edges1, n2, edges2);
+    let answer = r.answer;
+    found(answer)
+}
+
+#[no_mangle]
+pub extern "C" fn zk_same_skeleton_pairs(
+    n1: usize,
+    edges1: &[u8],
+    n2: usize,
+    edges2: &[u8],
+    pairs: &mut usize,
+) -> u32
+    ensures { λ r. ⌜ PackedFinding (λ o. Reporting (SameSkeleton n1 (now (edges1 .entry)) n2 (now (edges2 .entry))) (OfBoth n1 (now (edges1 .entry)) n2 (now (edges2 .entry))) o (now (pairs .exit))) r ⌝ }
+{
+    let r = zurkhovel::codes::same_skeleton(n1, edges1, n2, edges2);
+    *pairs = r.pairs;
+    let answer = r.answer;
+    found(answer)
 }
 
 #[no_mangle]
 pub extern "C" fn zk_pack(n: usize, edges: &[u8], root: usize, out: &mut [u8]) -> u32
     ensures { λ r. ⌜ PackedAnswer (Pack n (now (edges .entry)) root (now (out .entry)) (now (out .exit))) r ⌝ }
 {
-    answered(zurkhovel::bit_tuple::pack(n, edges, root, out))
+    let r = zurkhovel::bit_tuple::pack(n, edges, root, out);
+    let answer = r.answer;
+    answered(answer)
+}
+
+#[no_mangle]
+pub extern "C" fn zk_pack_pairs(
+    n: usize,
+    edges: &[u8],
+    root: usize,
+    out: &mut [u8],
+    pairs: &mut usize,
+) -> u32
+    ensures { λ r. ⌜ PackedAnswer (λ o. Reporting (Pack n (now (edges .entry)) root (now (out .entry)) (now (out .exit))) (atRoot n (now (edges .entry)) root) o (now (pairs .exit))) r ⌝ }
+{
+    let r = zurkhovel::bit_tuple::pack(n, edges, root, out);
+    *pairs = r.pairs;
+    let answer = r.answer;
+    answered(answer)
 }
 
 #[no_mangle]
@@ -161,7 +252,25 @@ pub extern "C" fn zk_unpack(bytes: &[u8], out: &mut [u8]) -> u32
 pub extern "C" fn zk_whole(n: usize, edges: &[u8], root: usize, value: &mut u64) -> u32
     ensures { λ r. ⌜ PackedValue (Whole n (now (edges .entry)) root) (now (value .entry)) (now (value .exit)) r ⌝ }
 {
-    valued(zurkhovel::bit_tuple::whole(n, edges, root), value)
+    let r = zurkhovel::bit_tuple::whole(n, edges, root);
+    let answer = r.answer;
+    valued(answer, value)
+}
+
+#[no_mangle]
+pub extern "C" fn zk_whole_pairs(
+    n: usize,
+    edges: &[u8],
+    root: usize,
+    value: &mut u64,
+    pairs: &mut usize,
+) -> u32
+    ensures { λ r. ⌜ PackedValue (λ o. Reporting (Whole n (now (edges .entry)) root) (atRoot n (now (edges .entry)) root) o (now (pairs .exit))) (now (value .entry)) (now (value .exit)) r ⌝ }
+{
+    let r = zurkhovel::bit_tuple::whole(n, edges, root);
+    *pairs = r.pairs;
+    let answer = r.answer;
+    valued(answer, value)
 }
 
 #[no_mangle]
@@ -175,7 +284,25 @@ pub extern "C" fn zk_unwhole(n: usize, value: u64, out: &mut [u8]) -> u32
 pub extern "C" fn zk_fraction(n: usize, edges: &[u8], root: usize, value: &mut f64) -> u32
     ensures { λ r. ⌜ PackedValue (InFraction n (now (edges .entry)) root) (now (value .entry)) (now (value .exit)) r ⌝ }
 {
-    exact(zurkhovel::bit_tuple::fraction(n, edges, root), value)
+    let r = zurkhovel::bit_tuple::fraction(n, edges, root);
+    let answer = r.answer;
+    exact(answer, value)
+}
+
+#[no_mangle]
+pub extern "C" fn zk_fraction_pairs(
+    n: usize,
+    edges: &[u8],
+    root: usize,
+    value: &mut f64,
+    pairs: &mut usize,
+) -> u32
+    ensures { λ r. ⌜ PackedValue (λ o. Reporting (InFraction n (now (edges .entry)) root) (atRoot n (now (edges .entry)) root) o (now (pairs .exit))) (now (value .entry)) (now (value .exit)) r ⌝ }
+{
+    let r = zurkhovel::bit_tuple::fraction(n, edges, root);
+    *pairs = r.pairs;
+    let answer = r.answer;
+    exact(answer, value)
 }
 
 #[no_mangle]
@@ -210,21 +337,72 @@ pub extern "C" fn zk_a_zero(n: usize, edges: &[u8], value: &mut u64) -> u32
 pub extern "C" fn zk_cam_by_code(n: usize, edges: &[u8], out: &mut [u8]) -> u32
     ensures { λ r. ⌜ PackedAnswer (CamByCode n (now (edges .entry)) (now (out .entry)) (now (out .exit))) r ⌝ }
 {
-    answered(zurkhovel::matrix::cam_by_code(n, edges, out))
+    let r = zurkhovel::matrix::cam_by_code(n, edges, out);
+    let answer = r.answer;
+    answered(answer)
+}
+
+#[no_mangle]
+pub extern "C" fn zk_cam_by_code_pairs(
+    n: usize,
+    edges: &[u8],
+    out: &mut [u8],
+    pairs: &mut usize,
+) -> u32
+    ensures { λ r. ⌜ PackedAnswer (λ o. Reporting (CamByCode n (now (edges .entry)) (now (out .entry)) (now (out .exit))) (centredPairs n (now (edges .entry))) o (now (pairs .exit))) r ⌝ }
+{
+    let r = zurkhovel::matrix::cam_by_code(n, edges, out);
+    *pairs = r.pairs;
+    let answer = r.answer;
+    answered(answer)
 }
 
 #[no_mangle]
 pub extern "C" fn zk_zero_a_by_code(n: usize, edges: &[u8], value: &mut u64) -> u32
     ensures { λ r. ⌜ PackedValue (ZeroAByCode n (now (edges .entry))) (now (value .entry)) (now (value .exit)) r ⌝ }
 {
-    valued(zurkhovel::matrix::zero_a_by_code(n, edges), value)
+    let r = zurkhovel::matrix::zero_a_by_code(n, edges);
+    let answer = r.answer;
+    valued(answer, value)
+}
+
+#[no_mangle]
+pub extern "C" fn zk_zero_a_by_code_pairs(
+    n: usize,
+    edges: &[u8],
+    value: &mut u64,
+    pairs: &mut usize,
+) -> u32
+    ensures { λ r. ⌜ PackedValue (λ o. Reporting (ZeroAByCode n (now (edges .entry))) (centredPairs n (now (edges .entry))) o (now (pairs .exit))) (now (value .entry)) (now (value .exit)) r ⌝ }
+{
+    let r = zurkhovel::matrix::zero_a_by_code(n, edges);
+    *pairs = r.pairs;
+    let answer = r.answer;
+    valued(answer, value)
 }
 
 #[no_mangle]
 pub extern "C" fn zk_a_zero_by_code(n: usize, edges: &[u8], value: &mut u64) -> u32
     ensures { λ r. ⌜ PackedValue (AZeroByCode n (now (edges .entry))) (now (value .entry)) (now (value .exit)) r ⌝ }
 {
-    valued(zurkhovel::matrix::a_zero_by_code(n, edges), value)
+    let r = zurkhovel::matrix::a_zero_by_code(n, edges);
+    let answer = r.answer;
+    valued(answer, value)
+}
+
+#[no_mangle]
+pub extern "C" fn zk_a_zero_by_code_pairs(
+    n: usize,
+    edges: &[u8],
+    value: &mut u64,
+    pairs: &mut usize,
+) -> u32
+    ensures { λ r. ⌜ PackedValue (λ o. Reporting (AZeroByCode n (now (edges .entry))) (centredPairs n (now (edges .entry))) o (now (pairs .exit))) (now (value .entry)) (now (value .exit)) r ⌝ }
+{
+    let r = zurkhovel::matrix::a_zero_by_code(n, edges);
+    *pairs = r.pairs;
+    let answer = r.answer;
+    valued(answer, value)
 }
 
 #[no_mangle]
@@ -252,7 +430,24 @@ pub extern "C" fn zk_decode_a_zero(n: usize, value: u64, out: &mut [u8]) -> u32
 pub extern "C" fn zk_equal_vertices(n: usize, edges: &[u8], out: &mut [u8]) -> u32
     ensures { λ r. ⌜ PackedAnswer (EqualVertices n (now (edges .entry)) (now (out .entry)) (now (out .exit))) r ⌝ }
 {
-    answered(zurkhovel::alike::equal_vertices(n, edges, out))
+    let r = zurkhovel::alike::equal_vertices(n, edges, out);
+    let answer = r.answer;
+    answered(answer)
+}
+
+#[no_mangle]
+pub extern "C" fn zk_equal_vertices_pairs(
+    n: usize,
+    edges: &[u8],
+    out: &mut [u8],
+    pairs: &mut usize,
+) -> u32
+    ensures { λ r. ⌜ PackedAnswer (λ o. Reporting (EqualVertices n (now (edges .entry)) (now (out .entry)) (now (out .exit))) (centredPairs n (now (edges .entry))) o (now (pairs .exit))) r ⌝ }
+{
+    let r = zurkhovel::alike::equal_vertices(n, edges, out);
+    *pairs = r.pairs;
+    let answer = r.answer;
+    answered(answer)
 }
 
 #[no_mangle]
@@ -266,7 +461,24 @@ pub extern "C" fn zk_read_line(text: &[u8], out: &mut [u8]) -> u32
 pub extern "C" fn zk_write_line(n: usize, edges: &[u8], out: &mut [u8]) -> u32
     ensures { λ r. ⌜ PackedAnswer (WriteLine n (now (edges .entry)) (now (out .entry)) (now (out .exit))) r ⌝ }
 {
-    answered(zurkhovel::text::write_line(n, edges, out))
+    let r = zurkhovel::text::write_line(n, edges, out);
+    let answer = r.answer;
+    answered(answer)
+}
+
+#[no_mangle]
+pub extern "C" fn zk_write_line_pairs(
+    n: usize,
+    edges: &[u8],
+    out: &mut [u8],
+    pairs: &mut usize,
+) -> u32
+    ensures { λ r. ⌜ PackedAnswer (λ o. Reporting (WriteLine n (now (edges .entry)) (now (out .entry)) (now (out .exit))) (centredPairs n (now (edges .entry))) o (now (pairs .exit))) r ⌝ }
+{
+    let r = zurkhovel::text::write_line(n, edges, out);
+    *pairs = r.pairs;
+    let answer = r.answer;
+    answered(answer)
 }
 
 // The three that refuse nothing as a whole.

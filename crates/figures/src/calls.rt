@@ -6,16 +6,39 @@ use shown::given;
 use shown::number;
 use shown::numbered;
 use shown::refused;
+use shown::reported;
 use shown::sized;
 use shown::text;
 use shown::value;
+use shown::valued;
 use zurkhovel::codes::Verdict;
+use zurkhovel::reported::Reported;
+use zurkhovel::reported::ReportedNumber;
 
 // A call with N, an edge list and a root.
 fn rooted(name: &[u8], n: usize, edges: &[u8], root: usize) {
     sized(name, n, edges);
     text(b", ");
     number(root as u64);
+}
+
+// How many pairs of digits a call reports that it looked at.
+fn looked(name: &[u8], pairs: usize) {
+    text(name);
+    text(b" looked at ");
+    number(pairs as u64);
+    text(b"\n");
+}
+
+// The answer of a call that reports, and what it reports.
+fn told(name: &[u8], r: Reported, out: &[u8]) {
+    reported(r, out);
+    looked(name, r.pairs);
+}
+
+fn asked(name: &[u8], r: ReportedNumber) {
+    valued(r);
+    looked(name, r.pairs);
 }
 
 fn digit_codes() {
@@ -43,22 +66,24 @@ fn edge_codes(edges: &[u8]) {
     answer(zurkhovel::codes::check_edges(3, &[1, 2, 1, 2], 1), &[]);
     rooted(b"rooted_code", 6, edges, 1);
     let a = zurkhovel::codes::rooted_code(6, edges, 1, &mut out);
-    answer(a, &out);
+    told(b"rooted_code", a, &out);
     sized(b"n_tuple_code", 6, edges);
     let b = zurkhovel::codes::n_tuple_code(6, edges, &mut out);
-    answer(b, &out);
+    told(b"n_tuple_code", b, &out);
     sized(b"centred_code", 6, edges);
     let c = zurkhovel::codes::centred_code(6, edges, &mut out);
-    answer(c, &out);
+    told(b"centred_code", c, &out);
     sized(b"equal_vertices", 6, edges);
     let d = zurkhovel::alike::equal_vertices(6, edges, &mut out);
-    answer(d, &out);
+    told(b"equal_vertices", d, &out);
 }
 
 fn same(n1: usize, edges1: &[u8], n2: usize, edges2: &[u8]) {
     sized(b"same_skeleton", n1, edges1);
     sized(b",", n2, edges2);
-    match zurkhovel::codes::same_skeleton(n1, edges1, n2, edges2) {
+    let r = zurkhovel::codes::same_skeleton(n1, edges1, n2, edges2);
+    let a = r.answer;
+    match a {
         Verdict::Same => text(b" = Same\n"),
         Verdict::Different => text(b" = Different\n"),
         Verdict::Refused(list, k, p) => {
@@ -71,6 +96,7 @@ fn same(n1: usize, edges1: &[u8], n2: usize, edges2: &[u8]) {
             text(b")\n");
         }
     }
+    looked(b"same_skeleton", r.pairs);
 }
 
 // Of 002's example.
@@ -78,11 +104,13 @@ fn bits_of(edges: &[u8]) {
     let mut out = [0u8; 16];
     rooted(b"pack", 8, edges, 1);
     let a = zurkhovel::bit_tuple::pack(8, edges, 1, &mut out);
-    answer(a, &out);
+    told(b"pack", a, &out);
     rooted(b"whole", 8, edges, 1);
-    value(zurkhovel::bit_tuple::whole(8, edges, 1));
+    asked(b"whole", zurkhovel::bit_tuple::whole(8, edges, 1));
     rooted(b"fraction", 8, edges, 1);
-    match zurkhovel::bit_tuple::fraction(8, edges, 1) {
+    let r = zurkhovel::bit_tuple::fraction(8, edges, 1);
+    let c = r.answer;
+    match c {
         Fraction::Exact(x) => {
             if x == 0.926025390625 {
                 text(b" = Exact(0.926025390625)\n");
@@ -90,6 +118,7 @@ fn bits_of(edges: &[u8]) {
         }
         Fraction::Refused(k, p) => refused(k, p),
     }
+    looked(b"fraction", r.pairs);
 }
 
 fn bits_read() {
@@ -117,11 +146,17 @@ fn matrices(edges: &[u8]) {
     value(zurkhovel::matrix::a_zero(7, edges));
     sized(b"cam_by_code", 7, edges);
     let b = zurkhovel::matrix::cam_by_code(7, edges, &mut out);
-    answer(b, &out);
+    told(b"cam_by_code", b, &out);
     sized(b"zero_a_by_code", 7, edges);
-    value(zurkhovel::matrix::zero_a_by_code(7, edges));
+    asked(
+        b"zero_a_by_code",
+        zurkhovel::matrix::zero_a_by_code(7, edges),
+    );
     sized(b"a_zero_by_code", 7, edges);
-    value(zurkhovel::matrix::a_zero_by_code(7, edges));
+    asked(
+        b"a_zero_by_code",
+        zurkhovel::matrix::a_zero_by_code(7, edges),
+    );
 }
 
 fn matrices_read() {
@@ -142,7 +177,7 @@ fn line(edges: &[u8]) {
     let mut out = [0u8; 68];
     sized(b"write_line", 6, edges);
     let a = zurkhovel::text::write_line(6, edges, &mut out);
-    answer(a, &out);
+    told(b"write_line", a, &out);
     given(b"read_line", b"6 220010\n");
     let b = zurkhovel::text::read_line(b"6 220010\n", &mut out);
     answer(b, &out);
@@ -206,6 +241,7 @@ pub(crate) fn examples() {
     edge_codes(&[1, 2, 2, 3, 3, 4, 4, 5, 2, 6]);
     same(4, &[1, 2, 2, 3, 3, 4], 4, &[1, 4, 4, 2, 2, 3]);
     same(4, &[1, 2, 2, 3, 3, 4], 3, &[1, 2, 1, 2]);
+    same(4, &[1, 2, 2, 3, 3, 4], 3, &[1, 2, 2, 3]);
     bits_of(&[1, 2, 2, 3, 3, 4, 2, 5, 1, 6, 6, 7, 1, 8]);
     bits_read();
     matrices(&[1, 2, 2, 3, 2, 4, 3, 5, 1, 6, 6, 7]);

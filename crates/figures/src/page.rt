@@ -6,8 +6,10 @@ use shown::given;
 use shown::number;
 use shown::numbered;
 use shown::refused;
+use shown::reported;
 use shown::text;
 use shown::value;
+use shown::valued;
 
 // The edges of a digit code.
 fn decode(code: &[u8]) {
@@ -63,14 +65,14 @@ fn skeleton(name: &[u8], n: usize, edges: &[u8], root: usize) {
     text(name);
     text(b": centred_code");
     let centred = zurkhovel::codes::centred_code(n, edges, &mut out);
-    answer(centred, &out);
+    reported(centred, &out);
     text(name);
     text(b": n_tuple_code");
     let tuple = zurkhovel::codes::n_tuple_code(n, edges, &mut out);
-    answer(tuple, &out);
+    reported(tuple, &out);
     text(name);
     text(b": whole");
-    value(zurkhovel::bit_tuple::whole(n, edges, root));
+    valued(zurkhovel::bit_tuple::whole(n, edges, root));
 }
 
 fn skeletons() {
@@ -107,9 +109,9 @@ fn adjacency(edges: &[u8]) {
     value(zurkhovel::matrix::a_zero(7, edges));
     text(b"001's example: cam_by_code");
     let by_code = zurkhovel::matrix::cam_by_code(7, edges, &mut out);
-    answer(by_code, &out);
+    reported(by_code, &out);
     text(b"001's example: zero_a_by_code");
-    value(zurkhovel::matrix::zero_a_by_code(7, edges));
+    valued(zurkhovel::matrix::zero_a_by_code(7, edges));
 }
 
 // A fraction read.
@@ -137,7 +139,9 @@ fn path_fraction(code: &[u8], edges: &mut [u8]) {
         refused(k, p);
         return;
     }
-    match zurkhovel::bit_tuple::fraction(code.len(), edges, 1) {
+    let r = zurkhovel::bit_tuple::fraction(code.len(), edges, 1);
+    let a = r.answer;
+    match a {
         Fraction::Exact(_) => text(b" = Exact\n"),
         Fraction::Refused(k, p) => refused(k, p),
     }

@@ -2,7 +2,7 @@
 --
 -- In order: the greatest degree; the largest code among the vertices passed; what the search holds after each; the N-tuple code.
 -- Assumes nothing.
-use mathlib.Core.Path.{_≡_, refl, sym, ap, _∙_, subst}
+use mathlib.Core.Path.{_≡_, refl, sym, ap, ap₂, _∙_, subst}
 use mathlib.Core.Logic.{_⊎_, inl, inr, ⊎-elim}
 use mathlib.Core.Bool.{Bool}
 use mathlib.Core.List.{List, [], _∷_, _++_}
@@ -20,10 +20,13 @@ use Rattle.refusal.specs.document.Table.{Writes}
 use Rattle.limits.specs.document.Limits as limits
 use Rattle.skeleton.specs.document.Skeleton.{IsTree, degree, rooted}
 use Rattle.skeleton.specs.Theorems.{code-length}
+use Rattle.numbering.specs.document.Pairs.{rootedPairs}
 use Rattle.edge_list.specs.Table.{IsTable}
 use Rattle.form.specs.document.Form.{nTuple}
+use Rattle.form_coder.specs.document.Pairs.{ofDegree, nTuplePairs}
 use Rattle.form_coder.specs.Raised.{Raised, kept, raised, MaximumDegree}
 use Rattle.form_coder.proofs.Written.{copied, front}
+use Rattle.form_coder.proofs.Looked.{Summed}
 
 -- ---- the greatest degree
 
@@ -198,4 +201,16 @@ module _ {N : ℕ} {E : List ℕ} {T : List (List ℕ)} {D : List ℕ} {d : ℕ}
         right = the-n-tuple;
         count = sym (length-take-le N best (omega (arith, b .long)));
         lies = copied (take N best) old new e;
+      }
+
+  -- the pairs looked at are those of all roots of maximum degree
+  pub n-tuple-summed : {x : ℕ} → Summed N E d v x → nTuplePairs N E x
+  n-tuple-summed m =
+      let (r, i, e, c) = found in
+      let q : v ≡ N = omega (arith, b .within) in
+      record {
+        root = r;
+        inside = i;
+        maximum = λ u h k. omega (arith, below u h k);
+        is = m .count ∙ ap₂ (ofDegree E (rootedPairs N E)) (sym e) q;
       }

@@ -1,4 +1,5 @@
-// The codes of an accepted edge list: rooted at a vertex, N-tuple and centred; its edges in the numbering by code. Whether digits are an N-tuple code.
+// The codes of an accepted edge list: rooted at a vertex, N-tuple and centred; its edges in the numbering by code. Each tells how many pairs of
+// digits were looked at to put siblings in order. Whether digits are an N-tuple code.
 use digit_code::Order;
 use limits::BYTES;
 use limits::ENDS;
@@ -17,21 +18,24 @@ ghost use Rattle.limits.specs.Width.{width};
 ghost use Rattle.digit_code.specs.document.Code.{decode};
 ghost use Rattle.digit_code.specs.Ends.{Ends};
 ghost use Rattle.skeleton.specs.document.Skeleton as tree;
+ghost use Rattle.numbering.specs.document.Pairs.{rootedPairs};
 ghost use Rattle.form.specs.document.Form.{nTuple, centred, row14-form, formRows};
+ghost use Rattle.form_coder.specs.document.Pairs.{centredPairs, nTuplePairs};
 ghost use Rattle.form_coder.specs.Numbered.{Numbered, Counts, ByPlace};
 ghost use Rattle.form_coder.specs.Raised.{Raised, MaximumDegree};
 
 // The rooted code at a vertex.
-pub fn rooted(n: usize, edges: &[u8], root: usize, out: &mut [u8])
+pub fn rooted(n: usize, edges: &[u8], root: usize, out: &mut [u8]) -> usize
     requires { ⌜ tree.IsSkeleton size width n (now edges) ⌝ }
     requires { ⌜ (1 ≤ root) × (root ≤ n) × (n ≤ length (now out)) ⌝ }
     ensures { λ _. ⌜ Writes (λ c. c ≡ tree.rooted n (now (edges .entry)) root) (now (out .entry)) n (now (out .exit)) ⌝ }
+    ensures { λ r. ⌜ r ≡ rootedPairs n (now (edges .entry)) root ⌝ }
 {
     let mut rows = [[0u8; WIDTH]; SIZE];
     let mut degs = [0u8; SIZE];
     let mut order = [0u8; SIZE];
     edge_list::fill(n, edges, &mut rows, &mut degs);
-    rooted_coder::rooted(&rows, &degs, n, root, &mut order, out);
+    rooted_coder::rooted(&rows, &degs, n, root, &mut order, out)
 }
 
 // The larger of the first n digits of two codes is left in the first. Whether it is the second's.
@@ -47,11 +51,12 @@ fn raise(best: &mut [u8], other: &[u8], n: usize) -> bool
 }
 
 // The centred code, and the vertex of each digit. Of two middle vertices with equal codes the first one found is the root.
-fn numbered(n: usize, edges: &[u8], order: &mut [u8; SIZE], out: &mut [u8])
+fn numbered(n: usize, edges: &[u8], order: &mut [u8; SIZE], out: &mut [u8]) -> usize
     requires { ⌜ tree.IsSkeleton size width n (now edges) ⌝ }
     requires { ⌜ (length (now order) ≡ size) × (n ≤ length (now out)) ⌝ }
     ensures { λ _. ⌜ length (now (order .exit)) ≡ size ⌝ }
     ensures { λ _. ⌜ Writes (Numbered n (now (edges .entry)) (take n (now (order .exit)))) (now (out .entry)) n (now (out .exit)) ⌝ }
+    ensures { λ r. ⌜ centredPairs n (now (edges .entry)) r ⌝ }
 {
     let mut rows = [[0u8; WIDTH]; SIZE];
     let mut degs = [0u8; SIZE];
@@ -59,25 +64,27 @@ fn numbered(n: usize, edges: &[u8], order: &mut [u8; SIZE], out: &mut [u8])
     let m = centre::centre(&rows, &degs, n);
     let u = m.first;
     let v = m.second;
-    rooted_coder::rooted(&rows, &degs, n, u, order, out);
+    let mut looked = rooted_coder::rooted(&rows, &degs, n, u, order, out);
     if u != v {
         let mut its = [0u8; SIZE];
         let mut other = [0u8; SIZE];
-        rooted_coder::rooted(&rows, &degs, n, v, &mut its, &mut other);
+        looked += rooted_coder::rooted(&rows, &degs, n, v, &mut its, &mut other);
         if raise(out, &other, n) {
             bytes::copy(&its, order);
         }
     }
+    looked
 }
 
 // The centred code.
-pub fn centred(n: usize, edges: &[u8], out: &mut [u8])
+pub fn centred(n: usize, edges: &[u8], out: &mut [u8]) -> usize
     requires { ⌜ tree.IsSkeleton size width n (now edges) ⌝ }
     requires { ⌜ n ≤ length (now out) ⌝ }
     ensures { λ _. ⌜ Writes (centred n (now (edges .entry))) (now (out .entry)) n (now (out .exit)) ⌝ }
+    ensures { λ r. ⌜ centredPairs n (now (edges .entry)) r ⌝ }
 {
     let mut order = [0u8; SIZE];
-    numbered(n, edges, &mut order, out);
+    numbered(n, edges, &mut order, out)
 }
 
 // Writes the number k at v.
@@ -102,17 +109,19 @@ fn number(order: &[u8; SIZE], n: usize, numbers: &mut [u8; BYTES])
 }
 
 // The edges in the numbering by code, each end where it stands.
-pub fn by_code(n: usize, edges: &[u8], out: &mut [u8])
+pub fn by_code(n: usize, edges: &[u8], out: &mut [u8]) -> usize
     requires { ⌜ tree.IsSkeleton size width n (now edges) ⌝ }
     requires { ⌜ length (now edges) ≤ length (now out) ⌝ }
     ensures { λ _. ⌜ Writes (ByPlace n (now (edges .entry))) (now (out .entry)) (length (now (edges .entry))) (now (out .exit)) ⌝ }
+    ensures { λ r. ⌜ centredPairs n (now (edges .entry)) r ⌝ }
 {
     let mut order = [0u8; SIZE];
     let mut code = [0u8; SIZE];
-    numbered(n, edges, &mut order, &mut code);
+    let looked = numbered(n, edges, &mut order, &mut code);
     let mut numbers = [0u8; BYTES];
     number(&order, n, &mut numbers);
     rooted_coder::read(&numbers, edges, edges.len(), out);
+    looked
 }
 
 // The greatest degree.
@@ -133,10 +142,11 @@ fn widest(degs: &[u8; SIZE], n: usize) -> u8
 }
 
 // The N-tuple code.
-pub fn n_tuple(n: usize, edges: &[u8], out: &mut [u8])
+pub fn n_tuple(n: usize, edges: &[u8], out: &mut [u8]) -> usize
     requires { ⌜ tree.IsSkeleton size width n (now edges) ⌝ }
     requires { ⌜ n ≤ length (now out) ⌝ }
     ensures { λ _. ⌜ Writes (nTuple n (now (edges .entry))) (now (out .entry)) n (now (out .exit)) ⌝ }
+    ensures { λ r. ⌜ nTuplePairs n (now (edges .entry)) r ⌝ }
 {
     let mut rows = [[0u8; WIDTH]; SIZE];
     let mut degs = [0u8; SIZE];
@@ -145,16 +155,18 @@ pub fn n_tuple(n: usize, edges: &[u8], out: &mut [u8])
     let mut best = [0u8; SIZE];
     let mut other = [0u8; SIZE];
     let mut order = [0u8; SIZE];
+    let mut looked = 0;
     let mut v = 0;
     while v < n {
         let k = degs[v];
         v += 1;
         if k == d {
-            rooted_coder::rooted(&rows, &degs, n, v, &mut order, &mut other);
+            looked += rooted_coder::rooted(&rows, &degs, n, v, &mut order, &mut other);
             raise(&mut best, &other, n);
         }
     }
     bytes::copy(&best[..n], out);
+    looked
 }
 
 // 14: a rooted code that is not the N-tuple code of what it decodes to.

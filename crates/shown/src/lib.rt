@@ -2,6 +2,8 @@
 use libc::STDOUT_FILENO;
 use refusal::Answer;
 use refusal::Number;
+use zurkhovel::reported::Reported;
+use zurkhovel::reported::ReportedNumber;
 
 pub fn text(s: &[u8]) {
     io::write_all(STDOUT_FILENO, s);
@@ -89,4 +91,16 @@ pub fn value(a: Number) {
         }
         Number::Refused(k, p) => refused(k, p),
     }
+}
+
+// The answer of a call that reports, without the number.
+pub fn reported(r: Reported, out: &[u8]) {
+    let a = r.answer;
+    answer(a, out);
+}
+
+// The same of a number.
+pub fn valued(r: ReportedNumber) {
+    let a = r.answer;
+    value(a);
 }

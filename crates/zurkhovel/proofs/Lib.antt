@@ -5,6 +5,7 @@ pub mod Coded
 pub mod Derived
 pub mod Carried
 pub mod Rooted
+pub mod Judged
 pub mod Counting
 pub mod Verdicts
 pub mod Made

@@ -1,7 +1,7 @@
 -- The rooted code at a vertex of an accepted edge list, as the bit forms take it.
 --
 -- In order: the code of an accepted list; what the writers require; a value; the packed form, laid out. Assumes nothing.
-use mathlib.Core.Path.{_≡_, ap, _∙_}
+use mathlib.Core.Path.{_≡_, sym, ap, _∙_, subst}
 use mathlib.Core.List.{List, [], _++_}
 use Prim.Native.Nat.{ℕ, _≤_}
 use native.Mathlib.Nat.{le-refl}
@@ -9,7 +9,9 @@ use native.Mathlib.Omega.{arith}
 use lib.ListN.{length, take, drop}
 use lib.Seq.{take-all}
 use Rattle.laws.specs.document.Laid.{laidOver, Laid}
-use Rattle.refusal.specs.document.Table.{Clear, Outcome, gives, Answered, kept, Writes, Gives}
+use Rattle.refusal.specs.document.Table.{Clear, Outcome, gives, refuses, Answered, kept, Writes, Gives}
+use Rattle.refusal.specs.document.Outcome.{told}
+use Rattle.refusal.specs.declared.Answer.{Answer}
 use Rattle.refusal.specs.Laws.{at-most}
 use Rattle.refusal.specs.Giving.{written}
 use Rattle.limits.specs.document.Limits.{size, valence}
@@ -20,6 +22,8 @@ use Rattle.skeleton.specs.Accepted.{digits-pass}
 use Rattle.edge_list.specs.document.Edges.{edgeRows}
 use Rattle.bits.specs.Written.{Coded, packed-again, right-coded}
 use Rattle.bits.specs.document.Written.{Packs}
+use Rattle.zurkhovel.specs.document.Reported.{Reports, Reporting, atRoot}
+use Rattle.zurkhovel.specs.declared.reported.Reported.{Reported}
 use Rattle.zurkhovel.specs.Rooting.{Rooted}
 use Rattle.zurkhovel.specs.Accepted.{skeleton-of, root-of, rooted-size}
 use Rattle.zurkhovel.proofs.Behind.{behind}
@@ -38,12 +42,12 @@ module _ {most N r : ℕ} (E : List ℕ) (k : Clear (edgeRows most valence N E r
   rooted-coded {S} h = right-coded S most (rooted N E r) h rooted-right (omega (arith, rooted-size E k, at-most k))
 
   -- what was written
-  pub coded-at : {old code : List ℕ} → Writes (λ c. c ≡ rooted N E r) old N code → length code ≡ size → Rooted most N E r code
-  coded-at w l = record { clear = k; digits = written w ∙ w .right; long = l }
+  pub coded-at : {old code : List ℕ} {n : ℕ} → Writes (λ c. c ≡ rooted N E r) old N code → length code ≡ size → atRoot N E r n → Rooted most N E r code n
+  coded-at w l e = record { clear = k; digits = written w ∙ w .right; long = l; count = e }
 
 -- ---- what the writers require
 
-module _ {most N r : ℕ} {E code : List ℕ} (t : Rooted most N E r code) where
+module _ {most N r n : ℕ} {E code : List ℕ} (t : Rooted most N E r code n) where
   pub digits-length : length (take N code) ≡ N
   digits-length = ap length (t .digits) ∙ rooted-size E (t .clear)
 
@@ -57,9 +61,9 @@ module _ {most N r : ℕ} {E code : List ℕ} (t : Rooted most N E r code) where
 
 -- of the code's digits it is one of the code
 pub value-given :
-    {A : Type 0} {most N r : ℕ} {E code : List ℕ} {a : A} (Right : List ℕ → A → Type 0) → Rooted most N E r code → Right (take N code) a
-    → Answered (edgeRows most valence N E r) (Right (rooted N E r)) (gives a)
-value-given Right t h = kept (t .clear) (rw (t .digits) at h)
+    {A : Type 0} {most N r n : ℕ} {E code : List ℕ} {a : A} (Right : List ℕ → A → Type 0) → Rooted most N E r code n → Right (take N code) a
+    → Reporting (Answered (edgeRows most valence N E r) (Right (rooted N E r))) (atRoot N E r) (gives a) n
+value-given Right t h = record { promised = kept (t .clear) (rw (t .digits) at h); reported = t .count }
 
 -- ---- the packed form
 
@@ -68,9 +72,24 @@ pub copied : {c old new : List ℕ} → new ≡ take (length c) c ++ drop (lengt
 unfolding laidOver
 copied {c} {old} e n l = record { count = l; lies = e ∙ ap (λ (s : List ℕ). s ++ drop (length c) old) (take-all (length c) c (le-refl (length c))) }
 
-pub packed-given :
-    {N r m : ℕ} {E code blank packed old new : List ℕ} {o : Outcome ℕ} → Rooted size N E r code → Writes (Packs (take N code)) blank m packed
+packed-given :
+    {N r m n : ℕ} {E code blank packed old new : List ℕ} {o : Outcome ℕ} → Rooted size N E r code n → Writes (Packs (take N code)) blank m packed
     → Gives [] (λ c. c ≡ take m packed) old new o → Gives (edgeRows size valence N E r) (Packs (rooted N E r)) old new o
 packed-given {N} {r} {m} {E} {packed = packed} t w g =
     let p : Packs (rooted N E r) (take m packed) = rw (written w) (rw (t .digits) at (w .right)) in
     behind (t .clear) (λ c e. rw e p) (λ c q. packed-again q p) g
+
+-- and what is reported of it is what was counted for the code
+pub packed-reported :
+    {N r m n : ℕ} {E code blank packed old new : List ℕ} {a : Answer} (s : Reported) → Rooted size N E r code n → Writes (Packs (take N code)) blank m packed
+    → Gives [] (λ c. c ≡ take m packed) old new (told a) → (s .answer ≡ a) × Reports (λ k. k ≡ n) (told (s .answer)) (s .pairs)
+    → Reporting (Gives (edgeRows size valence N E r) (Packs (rooted N E r)) old new) (atRoot N E r) (told (s .answer)) (s .pairs)
+packed-reported {N} {r} {n = n} {E} {old = old} {new} s t w g (e, c) =
+    record {
+      promised = subst (λ b. Gives (edgeRows size valence N E r) (Packs (rooted N E r)) old new (told b)) (sym e) (packed-given t w g);
+      reported = counted (told (s .answer)) c;
+    }
+  where
+    counted : (o : Outcome ℕ) → Reports (λ k. k ≡ n) o (s .pairs) → Reports (atRoot N E r) o (s .pairs)
+    counted (gives i) q = q ∙ t .count
+    counted (refuses k p) q = q

@@ -12,6 +12,8 @@ pub mod OneMatrix
 pub mod OneText
 pub mod Rooting
 pub mod OneBits
+pub mod OneReported
+pub mod Looked
 pub mod Figures
 pub mod Seen
 pub mod Demanded

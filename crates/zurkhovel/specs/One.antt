@@ -1,6 +1,7 @@
 -- Read from its promise alone, every public call has one possible result and one possible state of its lent output. r, s: the call's own
 -- results; new, new′: the output after it. Each is a case of one law, `one-result`, by way of `one-given` where the call writes; the law is
--- about what is told of a result, which tells two different ones apart (`Apart` of the crate `refusal`, `said-apart` here). Assumes nothing.
+-- about what is told of a result, which tells two different ones apart (`Apart` of the crate `refusal`, `said-apart` here). Of a call that also
+-- reports how many pairs it looked at, r and s are its answers; with the number it is said in `OneReported`. Assumes nothing.
 use mathlib.Core.Path.{_≡_, refl, sym, ap, _∙_}
 use mathlib.Core.Bool.{Bool, true, false}
 use mathlib.Core.List.{List}

@@ -8,38 +8,41 @@ use Rattle.refusal.specs.document.Table.{Row, Clear, FirstRefusal, Outcome, Giv
 use Rattle.refusal.specs.document.Outcome.{told}
 use Rattle.refusal.specs.declared.Answer.{Answer}
 use Rattle.refusal.specs.declared.Answer.the-variants.{Done, Refused}
-use Rattle.refusal.specs.declared.Check.{Check}
-use Rattle.refusal.specs.declared.Check.the-variants.{Passed, Refuse}
 use Rattle.limits.specs.document.Limits.{size, valence}
 use Rattle.digit_code.specs.document.Code.{codeRows, decode}
 use Rattle.skeleton.specs.document.Skeleton.{rooted}
 use Rattle.edge_list.specs.document.Edges.{edgeRows}
 use Rattle.form_coder.specs.Numbered.{ByPlace}
+use Rattle.form_coder.specs.document.Pairs.{centredPairs}
 use Rattle.adjacency.specs.document.Adjacency.{camEdges}
+use Rattle.zurkhovel.specs.declared.reported.Looked.{Looked}
+use Rattle.zurkhovel.specs.declared.reported.Looked.the-variants as looked
+use Rattle.zurkhovel.specs.document.Reported.{atRoot}
 
--- what is Known where none of rs applies, or the refusal of rs
-abbrev pub Judged : List Row → Type 0 → Check → Type 0
-Judged rs Known Passed = Known
-Judged rs Known (Refuse k p) = FirstRefusal rs k p
+-- what is Known of the pairs looked at where none of rs applies, or the refusal of rs
+pub data Judged (rs : List Row) (Known : ℕ → Type 0) : Looked → Type 0 where
+  coded : {n : ℕ} → Known n → Judged rs Known (looked.Pairs n)
+  refused : {k p : ℕ} → FirstRefusal rs k p → Judged rs Known (looked.Refused k p)
 
--- no row applies, and the code stands at the start of code
-pub record Rooted (most N : ℕ) (E : List ℕ) (r : ℕ) (code : List ℕ) : Type 0 where
+-- no row applies, and the code stands at the start of code; n pairs were looked at
+pub record Rooted (most N : ℕ) (E : List ℕ) (r : ℕ) (code : List ℕ) (n : ℕ) : Type 0 where
   pub clear : Clear (edgeRows most valence N E r)
   pub digits : take N code ≡ rooted N E r
   pub long : length code ≡ size
+  pub count : atRoot N E r n
 
-abbrev pub Rooting : ℕ → ℕ → List ℕ → ℕ → List ℕ → Check → Type 0
+abbrev pub Rooting : ℕ → ℕ → List ℕ → ℕ → List ℕ → Looked → Type 0
 Rooting most N E r code a = Judged (edgeRows most valence N E r) (Rooted most N E r code) a
 
--- no row applies, and the edges by code are the first m of ends
-pub record ListedByCode (most N : ℕ) (E ends : List ℕ) (m : ℕ) : Type 0 where
+-- no row applies, and the edges by code, as many as E, stand at the start of ends; n pairs were looked at
+pub record ListedByCode (most N : ℕ) (E ends : List ℕ) (n : ℕ) : Type 0 where
   pub clear : Clear (edgeRows most valence N E 1)
-  pub renumbered : ByPlace N E (take m ends)
-  pub within : m ≤ length ends
+  pub renumbered : ByPlace N E (take (length E) ends)
+  pub within : length E ≤ length ends
+  pub count : centredPairs N E n
 
-pub data ListingByCode (most N : ℕ) (E ends : List ℕ) : Answer → Type 0 where
-  listed : {m : ℕ} → ListedByCode most N E ends m → ListingByCode most N E ends (Done m)
-  refused : {k p : ℕ} → FirstRefusal (edgeRows most valence N E 1) k p → ListingByCode most N E ends (Refused k p)
+abbrev pub ListingByCode : ℕ → ℕ → List ℕ → List ℕ → Looked → Type 0
+ListingByCode most N E ends a = Judged (edgeRows most valence N E 1) (ListedByCode most N E ends) a
 
 -- the edges of digits that are a right code, with row 15 alone
 abbrev pub LaysEdges : List ℕ → List ℕ → List ℕ → Outcome ℕ → Type 0

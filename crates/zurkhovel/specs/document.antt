@@ -5,6 +5,7 @@ pub mod Bits
 pub mod Matrix
 pub mod Lines
 pub mod Alike
+pub mod Reported
 pub mod Demand
 pub mod DigitsOnly
 pub mod Figures

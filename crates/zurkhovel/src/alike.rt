@@ -1,22 +1,34 @@
 // Equal vertices.
+use super::reported::Reported;
 use limits::SIZE;
 use limits::VALENCE;
 use refusal::Answer;
 use refusal::Check;
 ghost use Rattle.refusal.specs.document.Outcome.{told};
+ghost use Rattle.form_coder.specs.document.Pairs.{centredPairs};
 ghost use Rattle.zurkhovel.specs.document.Alike.{EqualVertices};
+ghost use Rattle.zurkhovel.specs.document.Reported.{Reporting};
 
 // The class of each vertex, in the centred code's numbering.
-pub fn equal_vertices(n: usize, edges: &[u8], out: &mut [u8]) -> Answer
-    ensures { λ r. ⌜ EqualVertices n (now (edges .entry)) (now (out .entry)) (now (out .exit)) (told r) ⌝ }
+pub fn equal_vertices(n: usize, edges: &[u8], out: &mut [u8]) -> Reported
+    ensures { λ r. ⌜ Reporting (EqualVertices n (now (edges .entry)) (now (out .entry)) (now (out .exit))) (centredPairs n (now (edges .entry))) (told (r .answer)) (r .pairs) ⌝ }
 {
     if let Check::Refuse(k, p) = edge_list::check(SIZE, VALENCE, n, edges, 1) {
-        return Answer::Refused(k, p);
+        return Reported {
+            answer: Answer::Refused(k, p),
+            pairs: 0,
+        };
     }
     if out.len() < n {
-        return Answer::Refused(15, n);
+        return Reported {
+            answer: Answer::Refused(15, n),
+            pairs: 0,
+        };
     }
     let mut digits = [0u8; SIZE];
-    form_coder::centred(n, edges, &mut digits);
-    Answer::Done(vertices::write_classes(&digits[..n], out))
+    let looked = form_coder::centred(n, edges, &mut digits);
+    Reported {
+        answer: Answer::Done(vertices::write_classes(&digits[..n], out)),
+        pairs: looked,
+    }
 }

@@ -1,4 +1,9 @@
 // The bit-tuple: packed bytes, a whole number, a fraction.
+use super::reported::Looked;
+use super::reported::Reported;
+use super::reported::ReportedFraction;
+use super::reported::ReportedNumber;
+use super::reported::report;
 use fraction::Fraction;
 use limits::SIZE;
 use limits::VALENCE;
@@ -14,18 +19,18 @@ ghost use Rattle.refusal.specs.document.Outcome.{told, numbered};
 ghost use Rattle.limits.specs.document.Limits.{size};
 ghost use Rattle.fraction.specs.document.Outcome as fraction;
 ghost use Rattle.zurkhovel.specs.Rooting.{Rooting, Readable, EdgesOf};
+ghost use Rattle.zurkhovel.specs.document.Reported.{Reporting, atRoot};
 ghost use Rattle.zurkhovel.specs.document.Bits.{Pack, Unpack, Whole, Unwhole, InFraction, Unfraction};
 
 // The rooted code at a vertex of a skeleton of at most `most` vertices.
-fn rooted(most: usize, n: usize, edges: &[u8], root: usize, code: &mut [u8]) -> Check
+fn rooted(most: usize, n: usize, edges: &[u8], root: usize, code: &mut [u8]) -> Looked
     requires { ⌜ (most ≤ size) × (length (now code) ≡ size) ⌝ }
     ensures { λ r. ⌜ Rooting most n (now (edges .entry)) root (now (code .exit)) r ⌝ }
 {
     if let Check::Refuse(k, p) = edge_list::check(most, VALENCE, n, edges, root) {
-        return Check::Refuse(k, p);
+        return Looked::Refused(k, p);
     }
-    form_coder::rooted(n, edges, root, code);
-    Check::Passed
+    Looked::Pairs(form_coder::rooted(n, edges, root, code))
 }
 
 // A result at the start of the lent output, with row 15.
@@ -39,37 +44,54 @@ fn laid(result: &[u8], out: &mut [u8]) -> Answer
 }
 
 // The packed form of the rooted code at a vertex.
-pub fn pack(n: usize, edges: &[u8], root: usize, out: &mut [u8]) -> Answer
-    ensures { λ r. ⌜ Pack n (now (edges .entry)) root (now (out .entry)) (now (out .exit)) (told r) ⌝ }
+pub fn pack(n: usize, edges: &[u8], root: usize, out: &mut [u8]) -> Reported
+    ensures { λ r. ⌜ Reporting (Pack n (now (edges .entry)) root (now (out .entry)) (now (out .exit))) (atRoot n (now (edges .entry)) root) (told (r .answer)) (r .pairs) ⌝ }
 {
     let mut code = [0u8; SIZE];
-    if let Check::Refuse(k, p) = rooted(SIZE, n, edges, root, &mut code) {
-        return Answer::Refused(k, p);
+    match rooted(SIZE, n, edges, root, &mut code) {
+        Looked::Refused(k, p) => Reported {
+            answer: Answer::Refused(k, p),
+            pairs: 0,
+        },
+        Looked::Pairs(looked) => {
+            let mut packed = [0u8; limits::PACKED];
+            let m = bits::pack(&code[..n], &mut packed);
+            report(laid(&packed[..m], out), looked)
+        }
     }
-    let mut packed = [0u8; limits::PACKED];
-    let m = bits::pack(&code[..n], &mut packed);
-    laid(&packed[..m], out)
 }
 
 // The whole number of the rooted code at a vertex.
-pub fn whole(n: usize, edges: &[u8], root: usize) -> Number
-    ensures { λ r. ⌜ Whole n (now (edges .entry)) root (numbered r) ⌝ }
+pub fn whole(n: usize, edges: &[u8], root: usize) -> ReportedNumber
+    ensures { λ r. ⌜ Reporting (Whole n (now (edges .entry)) root) (atRoot n (now (edges .entry)) root) (numbered (r .answer)) (r .pairs) ⌝ }
 {
     let mut code = [0u8; SIZE];
     match rooted(limits::WHOLE, n, edges, root, &mut code) {
-        Check::Refuse(k, p) => Number::Refused(k, p),
-        Check::Passed => Number::Value(bits::number_of(&code[..n])),
+        Looked::Refused(k, p) => ReportedNumber {
+            answer: Number::Refused(k, p),
+            pairs: 0,
+        },
+        Looked::Pairs(looked) => ReportedNumber {
+            answer: Number::Value(bits::number_of(&code[..n])),
+            pairs: looked,
+        },
     }
 }
 
 // The fraction of the rooted code at a vertex.
-pub fn fraction(n: usize, edges: &[u8], root: usize) -> Fraction
-    ensures { λ r. ⌜ InFraction n (now (edges .entry)) root (fraction.toldFraction r) ⌝ }
+pub fn fraction(n: usize, edges: &[u8], root: usize) -> ReportedFraction
+    ensures { λ r. ⌜ Reporting (InFraction n (now (edges .entry)) root) (atRoot n (now (edges .entry)) root) (fraction.toldFraction (r .answer)) (r .pairs) ⌝ }
 {
     let mut code = [0u8; SIZE];
     match rooted(limits::FRACTION, n, edges, root, &mut code) {
-        Check::Refuse(k, p) => Fraction::Refused(k, p),
-        Check::Passed => Fraction::Exact(fraction::fraction_of(&code[..n])),
+        Looked::Refused(k, p) => ReportedFraction {
+            answer: Fraction::Refused(k, p),
+            pairs: 0,
+        },
+        Looked::Pairs(looked) => ReportedFraction {
+            answer: Fraction::Exact(fraction::fraction_of(&code[..n])),
+            pairs: looked,
+        },
     }
 }
 

@@ -1,4 +1,6 @@
 // Digit codes and edge lists.
+use super::reported::Reported;
+use super::reported::ReportedVerdict;
 use digit_code::Order;
 use limits::SIZE;
 use limits::VALENCE;
@@ -13,6 +15,8 @@ ghost use Rattle.zurkhovel.specs.document.Codes.{CheckCode, DecodeCode, 
 ghost use Rattle.zurkhovel.specs.Rooting.{LaysEdges};
 ghost use Rattle.zurkhovel.specs.document.Same.{SameSkeleton, said};
 ghost use Rattle.form.specs.document.Form.{nTuple, centred};
+ghost use Rattle.form_coder.specs.document.Pairs.{centredPairs, nTuplePairs};
+ghost use Rattle.zurkhovel.specs.document.Reported.{Reporting, atRoot, OfBoth};
 
 // Whether digits lent by themselves are a right rooted code.
 pub fn check_code(code: &[u8]) -> Answer
@@ -51,45 +55,72 @@ pub fn check_edges(n: usize, edges: &[u8], root: usize) -> Answer
 }
 
 // The rooted code at a vertex.
-pub fn rooted_code(n: usize, edges: &[u8], root: usize, out: &mut [u8]) -> Answer
-    ensures { λ r. ⌜ RootedCode n (now (edges .entry)) root (now (out .entry)) (now (out .exit)) (told r) ⌝ }
+pub fn rooted_code(n: usize, edges: &[u8], root: usize, out: &mut [u8]) -> Reported
+    ensures { λ r. ⌜ Reporting (RootedCode n (now (edges .entry)) root (now (out .entry)) (now (out .exit))) (atRoot n (now (edges .entry)) root) (told (r .answer)) (r .pairs) ⌝ }
 {
     if let Check::Refuse(k, p) = edge_list::check(SIZE, VALENCE, n, edges, root) {
-        return Answer::Refused(k, p);
+        return Reported {
+            answer: Answer::Refused(k, p),
+            pairs: 0,
+        };
     }
     if out.len() < n {
-        return Answer::Refused(15, n);
+        return Reported {
+            answer: Answer::Refused(15, n),
+            pairs: 0,
+        };
     }
-    form_coder::rooted(n, edges, root, out);
-    Answer::Done(n)
+    let looked = form_coder::rooted(n, edges, root, out);
+    Reported {
+        answer: Answer::Done(n),
+        pairs: looked,
+    }
 }
 
 // The N-tuple code.
-pub fn n_tuple_code(n: usize, edges: &[u8], out: &mut [u8]) -> Answer
-    ensures { λ r. ⌜ FormCode nTuple n (now (edges .entry)) (now (out .entry)) (now (out .exit)) (told r) ⌝ }
+pub fn n_tuple_code(n: usize, edges: &[u8], out: &mut [u8]) -> Reported
+    ensures { λ r. ⌜ Reporting (FormCode nTuple n (now (edges .entry)) (now (out .entry)) (now (out .exit))) (nTuplePairs n (now (edges .entry))) (told (r .answer)) (r .pairs) ⌝ }
 {
     if let Check::Refuse(k, p) = edge_list::check(SIZE, VALENCE, n, edges, 1) {
-        return Answer::Refused(k, p);
+        return Reported {
+            answer: Answer::Refused(k, p),
+            pairs: 0,
+        };
     }
     if out.len() < n {
-        return Answer::Refused(15, n);
+        return Reported {
+            answer: Answer::Refused(15, n),
+            pairs: 0,
+        };
     }
-    form_coder::n_tuple(n, edges, out);
-    Answer::Done(n)
+    let looked = form_coder::n_tuple(n, edges, out);
+    Reported {
+        answer: Answer::Done(n),
+        pairs: looked,
+    }
 }
 
 // The centred code.
-pub fn centred_code(n: usize, edges: &[u8], out: &mut [u8]) -> Answer
-    ensures { λ r. ⌜ FormCode centred n (now (edges .entry)) (now (out .entry)) (now (out .exit)) (told r) ⌝ }
+pub fn centred_code(n: usize, edges: &[u8], out: &mut [u8]) -> Reported
+    ensures { λ r. ⌜ Reporting (FormCode centred n (now (edges .entry)) (now (out .entry)) (now (out .exit))) (centredPairs n (now (edges .entry))) (told (r .answer)) (r .pairs) ⌝ }
 {
     if let Check::Refuse(k, p) = edge_list::check(SIZE, VALENCE, n, edges, 1) {
-        return Answer::Refused(k, p);
+        return Reported {
+            answer: Answer::Refused(k, p),
+            pairs: 0,
+        };
     }
     if out.len() < n {
-        return Answer::Refused(15, n);
+        return Reported {
+            answer: Answer::Refused(15, n),
+            pairs: 0,
+        };
     }
-    form_coder::centred(n, edges, out);
-    Answer::Done(n)
+    let looked = form_coder::centred(n, edges, out);
+    Reported {
+        answer: Answer::Done(n),
+        pairs: looked,
+    }
 }
 
 // The edges (parent, child), for child 2 to N, of a centred code.
@@ -122,35 +153,54 @@ pub enum Verdict {
     Refused(u8, u8, usize),
 }
 
-// Whether two accepted edge lists are the same skeleton.
-fn judge(n1: usize, edges1: &[u8], n2: usize, edges2: &[u8]) -> Verdict
+// Whether two accepted edge lists are the same skeleton. Lists of different sizes are not coded.
+fn judge(n1: usize, edges1: &[u8], n2: usize, edges2: &[u8]) -> ReportedVerdict
     requires { ⌜ Clear (edgeRows size valence n1 (now edges1) 1) ⌝ }
     requires { ⌜ Clear (edgeRows size valence n2 (now edges2) 1) ⌝ }
-    ensures { λ r. ⌜ SameSkeleton n1 (now (edges1 .entry)) n2 (now (edges2 .entry)) (said r) ⌝ }
+    ensures { λ r. ⌜ Reporting (SameSkeleton n1 (now (edges1 .entry)) n2 (now (edges2 .entry))) (OfBoth n1 (now (edges1 .entry)) n2 (now (edges2 .entry))) (said (r .answer)) (r .pairs) ⌝ }
 {
     if n1 != n2 {
-        return Verdict::Different;
+        return ReportedVerdict {
+            answer: Verdict::Different,
+            pairs: 0,
+        };
     }
     let mut a = [0u8; SIZE];
     let mut b = [0u8; SIZE];
-    form_coder::centred(n1, edges1, &mut a);
-    form_coder::centred(n2, edges2, &mut b);
+    let first = form_coder::centred(n1, edges1, &mut a);
+    let second = form_coder::centred(n2, edges2, &mut b);
+    let looked = first + second;
     match digit_code::compare(&a[..n1], &b[..n2]) {
-        Order::Less(_) => Verdict::Different,
-        Order::Equal(_) => Verdict::Same,
-        Order::Greater(_) => Verdict::Different,
+        Order::Less(_) => ReportedVerdict {
+            answer: Verdict::Different,
+            pairs: looked,
+        },
+        Order::Equal(_) => ReportedVerdict {
+            answer: Verdict::Same,
+            pairs: looked,
+        },
+        Order::Greater(_) => ReportedVerdict {
+            answer: Verdict::Different,
+            pairs: looked,
+        },
     }
 }
 
 // Whether two edge lists are the same skeleton: whether their centred codes are equal.
-pub fn same_skeleton(n1: usize, edges1: &[u8], n2: usize, edges2: &[u8]) -> Verdict
-    ensures { λ r. ⌜ SameSkeleton n1 (now (edges1 .entry)) n2 (now (edges2 .entry)) (said r) ⌝ }
+pub fn same_skeleton(n1: usize, edges1: &[u8], n2: usize, edges2: &[u8]) -> ReportedVerdict
+    ensures { λ r. ⌜ Reporting (SameSkeleton n1 (now (edges1 .entry)) n2 (now (edges2 .entry))) (OfBoth n1 (now (edges1 .entry)) n2 (now (edges2 .entry))) (said (r .answer)) (r .pairs) ⌝ }
 {
     if let Check::Refuse(k, p) = edge_list::check(SIZE, VALENCE, n1, edges1, 1) {
-        return Verdict::Refused(1, k, p);
+        return ReportedVerdict {
+            answer: Verdict::Refused(1, k, p),
+            pairs: 0,
+        };
     }
     if let Check::Refuse(k, p) = edge_list::check(SIZE, VALENCE, n2, edges2, 1) {
-        return Verdict::Refused(2, k, p);
+        return ReportedVerdict {
+            answer: Verdict::Refused(2, k, p),
+            pairs: 0,
+        };
     }
     judge(n1, edges1, n2, edges2)
 }

@@ -4,4 +4,5 @@ pub mod alike;
 pub mod bit_tuple;
 pub mod codes;
 pub mod matrix;
+pub mod reported;
 pub mod text;

@@ -1,4 +1,7 @@
 // CAM, 0A and A0.
+use super::reported::Looked;
+use super::reported::Reported;
+use super::reported::ReportedNumber;
 use limits::SIZE;
 use limits::VALENCE;
 use refusal::Answer;
@@ -12,6 +15,8 @@ ghost use Rattle.refusal.specs.document.Outcome.{told, numbered};
 ghost use Rattle.limits.specs.document.Limits.{size, valence, zeroSize};
 ghost use Rattle.skeleton.specs.document.Skeleton.{IsSkeleton};
 ghost use Rattle.adjacency.specs.document.Adjacency as adjacency;
+ghost use Rattle.form_coder.specs.document.Pairs.{centredPairs};
+ghost use Rattle.zurkhovel.specs.document.Reported.{Reporting};
 ghost use Rattle.zurkhovel.specs.Rooting.{LaysCam, ListingByCode};
 ghost use Rattle.zurkhovel.specs.document.Matrix.{DecodeCam, DecodeZeroA, DecodeAZero, physicalRows, Cam, ZeroA, AZero, CamByCode, ZeroAByCode, AZeroByCode};
 
@@ -122,53 +127,76 @@ pub fn a_zero(n: usize, edges: &[u8]) -> Number
 }
 
 // The edges in the numbering by code of a skeleton of at most `most` vertices.
-fn by_code(most: usize, n: usize, edges: &[u8], ends: &mut [u8]) -> Answer
+fn by_code(most: usize, n: usize, edges: &[u8], ends: &mut [u8]) -> Looked
     requires { ⌜ (most ≤ size) × (length (now ends) ≡ 2 * (size - 1)) ⌝ }
     ensures { λ r. ⌜ ListingByCode most n (now (edges .entry)) (now (ends .exit)) r ⌝ }
 {
     if let Check::Refuse(k, p) = edge_list::check(most, VALENCE, n, edges, 1) {
-        return Answer::Refused(k, p);
+        return Looked::Refused(k, p);
     }
-    form_coder::by_code(n, edges, ends);
-    Answer::Done(edges.len())
+    Looked::Pairs(form_coder::by_code(n, edges, ends))
 }
 
 // The CAM by code.
-pub fn cam_by_code(n: usize, edges: &[u8], out: &mut [u8]) -> Answer
-    ensures { λ r. ⌜ CamByCode n (now (edges .entry)) (now (out .entry)) (now (out .exit)) (told r) ⌝ }
+pub fn cam_by_code(n: usize, edges: &[u8], out: &mut [u8]) -> Reported
+    ensures { λ r. ⌜ Reporting (CamByCode n (now (edges .entry)) (now (out .entry)) (now (out .exit))) (centredPairs n (now (edges .entry))) (told (r .answer)) (r .pairs) ⌝ }
 {
     let mut ends = [0u8; limits::ENDS];
+    let m = edges.len();
     match by_code(SIZE, n, edges, &mut ends) {
-        Answer::Refused(k, p) => Answer::Refused(k, p),
-        Answer::Done(m) => {
+        Looked::Refused(k, p) => Reported {
+            answer: Answer::Refused(k, p),
+            pairs: 0,
+        },
+        Looked::Pairs(looked) => {
             let need = n - 1;
             if out.len() < need {
-                return Answer::Refused(15, need);
+                return Reported {
+                    answer: Answer::Refused(15, need),
+                    pairs: 0,
+                };
             }
             adjacency::write_cam(n, &ends[..m], out);
-            Answer::Done(need)
+            Reported {
+                answer: Answer::Done(need),
+                pairs: looked,
+            }
         }
     }
 }
 
 // The 0A by code.
-pub fn zero_a_by_code(n: usize, edges: &[u8]) -> Number
-    ensures { λ r. ⌜ ZeroAByCode n (now (edges .entry)) (numbered r) ⌝ }
+pub fn zero_a_by_code(n: usize, edges: &[u8]) -> ReportedNumber
+    ensures { λ r. ⌜ Reporting (ZeroAByCode n (now (edges .entry))) (centredPairs n (now (edges .entry))) (numbered (r .answer)) (r .pairs) ⌝ }
 {
     let mut ends = [0u8; limits::ENDS];
+    let m = edges.len();
     match by_code(limits::ZERO_A, n, edges, &mut ends) {
-        Answer::Refused(k, p) => Number::Refused(k, p),
-        Answer::Done(m) => Number::Value(zero_of(n, &ends[..m])),
+        Looked::Refused(k, p) => ReportedNumber {
+            answer: Number::Refused(k, p),
+            pairs: 0,
+        },
+        Looked::Pairs(looked) => ReportedNumber {
+            answer: Number::Value(zero_of(n, &ends[..m])),
+            pairs: looked,
+        },
     }
 }
 
 // The A0 by code.
-pub fn a_zero_by_code(n: usize, edges: &[u8]) -> Number
-    ensures { λ r. ⌜ AZeroByCode n (now (edges .entry)) (numbered r) ⌝ }
+pub fn a_zero_by_code(n: usize, edges: &[u8]) -> ReportedNumber
+    ensures { λ r. ⌜ Reporting (AZeroByCode n (now (edges .entry))) (centredPairs n (now (edges .entry))) (numbered (r .answer)) (r .pairs) ⌝ }
 {
     let mut ends = [0u8; limits::ENDS];
+    let m = edges.len();
     match by_code(limits::A_ZERO, n, edges, &mut ends) {
-        Answer::Refused(k, p) => Number::Refused(k, p),
-        Answer::Done(m) => Number::Value(adjacency::a_zero(n, &ends[..m])),
+        Looked::Refused(k, p) => ReportedNumber {
+            answer: Number::Refused(k, p),
+            pairs: 0,
+        },
+        Looked::Pairs(looked) => ReportedNumber {
+            answer: Number::Value(adjacency::a_zero(n, &ends[..m])),
+            pairs: looked,
+        },
     }
 }

@@ -1,10 +1,13 @@
 // Lines: one, and a text of them.
+use super::reported::Reported;
 use limits::SIZE;
 use limits::VALENCE;
 use lines::Progress;
 use refusal::Answer;
 use refusal::Check;
 ghost use Rattle.refusal.specs.document.Outcome.{told};
+ghost use Rattle.form_coder.specs.document.Pairs.{centredPairs};
+ghost use Rattle.zurkhovel.specs.document.Reported.{Reporting};
 ghost use Rattle.zurkhovel.specs.document.Lines.{ReadLine, WriteLine, ReadText, Counted, ListText};
 
 // The digits of a text's first line, as values.
@@ -15,19 +18,28 @@ pub fn read_line(text: &[u8], out: &mut [u8]) -> Answer
 }
 
 // The line of a skeleton's centred code.
-pub fn write_line(n: usize, edges: &[u8], out: &mut [u8]) -> Answer
-    ensures { λ r. ⌜ WriteLine n (now (edges .entry)) (now (out .entry)) (now (out .exit)) (told r) ⌝ }
+pub fn write_line(n: usize, edges: &[u8], out: &mut [u8]) -> Reported
+    ensures { λ r. ⌜ Reporting (WriteLine n (now (edges .entry)) (now (out .entry)) (now (out .exit))) (centredPairs n (now (edges .entry))) (told (r .answer)) (r .pairs) ⌝ }
 {
     if let Check::Refuse(k, p) = edge_list::check(SIZE, VALENCE, n, edges, 1) {
-        return Answer::Refused(k, p);
+        return Reported {
+            answer: Answer::Refused(k, p),
+            pairs: 0,
+        };
     }
     let need = lines::extent(n);
     if out.len() < need {
-        return Answer::Refused(15, need);
+        return Reported {
+            answer: Answer::Refused(15, need),
+            pairs: 0,
+        };
     }
     let mut digits = [0u8; SIZE];
-    form_coder::centred(n, edges, &mut digits);
-    Answer::Done(lines::write(&digits[..n], out))
+    let looked = form_coder::centred(n, edges, &mut digits);
+    Reported {
+        answer: Answer::Done(lines::write(&digits[..n], out)),
+        pairs: looked,
+    }
 }
 
 // A text, line after line: for each line 64 bytes of `records`, one number and one place. It stops where the text ends, or where one of the

@@ -24,11 +24,12 @@ by-code-spec =
     (λ c κs.
     let d = ordered c in
     let s = start d .pre .0 in
-    (s .few, d .numbered .ensures .0, order-once _ (s .tree) (d .numbered .ensures .1 .right), refl))
+    (s .few, d .numbered .ensures .0, order-once _ (s .tree) (d .numbered .ensures .1 .0 .right), refl))
     (λ c κs. search needs)
     (λ c. search needs)
     (λ c.
     let y = c .before .before in
     let k = counted y in
     let d = ordered (k .before) in
-    by-code-written _ (start d .pre .0 .tree) (d .numbered .ensures .1 .right) (k .number .last .1 .1 .0) _ (k .number .ensures) (y .read .ensures)))
+    let (o, (w, n)) = d .numbered .ensures in
+    (by-code-written _ (start d .pre .0 .tree) (w .right) (k .number .last .1 .1 .0) _ (k .number .ensures) (y .read .ensures), n)))

@@ -9,4 +9,4 @@ centred-spec =
     (tie.spec
     (λ c κs. search needs)
     (λ c. search needs)
-    (λ c. let w = c .before .before .numbered .ensures .1 in record { result = w .result; right = w .right .right; count = w .count; lies = w .lies }))
+    (λ c. let (o, (w, n)) = c .before .before .numbered .ensures in (record { result = w .result; right = w .right .right; count = w .count; lies = w .lies }, n)))

@@ -31,13 +31,13 @@ module _ (c : tie.After-compare) {o : Order} (q : c .compare .result ≡ o) wher
   passed e =
       let t = coded c in
       let d = decoded t in
-      judged-same (now (start d .args .code)) (start d .pre) (d .write-edges .ensures) nTuple n-tuple-form (t .n-tuple .ensures) (was-held (told-same _ _ (sym (c .compare .ensures) ∙ q)) e)
+      judged-same (now (start d .args .code)) (start d .pre) (d .write-edges .ensures) nTuple n-tuple-form (t .n-tuple .ensures .0) (was-held (told-same _ _ (sym (c .compare .ensures) ∙ q)) e)
 
   refused : same? o ≡ false → Answers (row14-form nTuple (now (start (decoded (coded c)) .args .code)) ∷ []) (Refuse 14 0)
   refused e =
       let t = coded c in
       let d = decoded t in
-      judged-other (now (start d .args .code)) (start d .pre) (d .write-edges .ensures) nTuple n-tuple-form (t .n-tuple .ensures) (was-denied (told-same _ _ (sym (c .compare .ensures) ∙ q)) e)
+      judged-other (now (start d .args .code)) (start d .pre) (d .write-edges .ensures) nTuple n-tuple-form (t .n-tuple .ensures .0) (was-denied (told-same _ _ (sym (c .compare .ensures) ∙ q)) e)
 
 pub judged-spec : {M : Type 1} → statement M
 judged-spec =
@@ -49,8 +49,8 @@ judged-spec =
     (λ c. let d = c .before .before in front-length (now (start d .args .code)) (start d .pre) (d .write-edges .ensures))
     (λ c. search needs)
     (λ c κs. let d = c .before .before .before in let t = skeleton-again (now (start d .args .code)) (start d .pre) (d .write-edges .ensures) in (t, t .few))
-    (λ c. written-room (c .before .n-tuple .ensures))
-    (λ c. written-length (c .before .before .n-tuple .ensures))
+    (λ c. written-room (c .before .n-tuple .ensures .0))
+    (λ c. written-length (c .before .before .n-tuple .ensures .0))
     (λ c κs. search needs)
     (λ c. search needs)
     (λ c. search needs)

@@ -1,5 +1,6 @@
 -- `form_coder::numbered` meets its contract. Assumes nothing.
 use mathlib.Core.Path.{_≡_, refl}
+use Prim.Native.Nat.{ℕ, _≤_}
 use native.Mathlib.Omega.{arith}
 use lib.ListN.{take, replicate}
 use borrow.Author.Needs.{needs}
@@ -11,6 +12,7 @@ use Rattle.numbering.specs.Numbers.{order}
 use Rattle.edge_list.specs.Table.{Held}
 use Rattle.longest_path.specs.document.Path.{IsCentre}
 use Rattle.longest_path.specs.Theorems.{centre-inside}
+use Rattle.form_coder.proofs.Looked.{coding, few-at, one-summed, both-summed}
 use Rattle.form_coder.proofs.Written.{front, front-room, one-middle, first-stays, second-rises}
 use Rattle.form_coder.proofs.numbered.Statement.{statement}
 use Rattle.form_coder.proofs.numbered.Tie as tie
@@ -41,14 +43,32 @@ held c = let s = start c in record { edges = now (s .args .edges); skeleton = s 
 centre : (c : tie.After-centre) → let s = start (filled c) in IsCentre (s .args .n) (now (s .args .edges)) (c .centre .result .first) (c .centre .result .second)
 centre c = let f = filled c in let s = start f in c .centre .ensures (now (s .args .edges)) (s .pre .0 .tree) (f .fill .ensures)
 
--- the two codes, and the vertices of their digits
+abbrev one : tie.After-centre → ℕ
+one c = c .centre .result .first
+
+abbrev other : tie.After-centre → ℕ
+other c = c .centre .result .second
+
+one-inside : (c : tie.After-centre) → (1 ≤ one c) × (one c ≤ start (filled c) .args .n)
+one-inside c = centre-inside _ _ (start (filled c) .pre .0 .tree) _ _ (centre c) .0
+
+other-inside : (c : tie.After-centre) → (1 ≤ other c) × (other c ≤ start (filled c) .args .n)
+other-inside c = centre-inside _ _ (start (filled c) .pre .0 .tree) _ _ (centre c) .1
+
+-- they are two
+two : (c : tie.After-rooted2) → let m = middle (first (differ c)) in one m ≡ other m → ⊥
+two c = differ c .if1 .taken
+
+-- the two codes, the vertices of their digits, and the pairs looked at
 coded : (c : tie.After-rooted) → let m = middle c in let s = start (filled m) in let E = now (s .args .edges) in
-    (take (s .args .n) (c .rooted .last .1 .1 .1 .1 .0) ≡ order (s .args .n) E (m .centre .result .first)) × (c .rooted .last .1 .1 .1 .1 .1 .0 ≡ laidOver (rooted (s .args .n) E (m .centre .result .first)) (now (s .args .out)))
-coded c = let f = filled (middle c) in let s = start f in let x = c .rooted .ensures .1 (now (s .args .edges)) (s .pre .0 .tree) (f .fill .ensures) in (x .0, x .1)
+    (take (s .args .n) (c .rooted .last .1 .1 .1 .1 .0) ≡ order (s .args .n) E (one m)) × (c .rooted .last .1 .1 .1 .1 .1 .0 ≡ laidOver (rooted (s .args .n) E (one m)) (now (s .args .out)))
+    × (c .rooted .result ≡ coding (s .args .n) E (one m))
+coded c = let f = filled (middle c) in let s = start f in c .rooted .ensures .1 (now (s .args .edges)) (s .pre .0 .tree) (f .fill .ensures)
 
 coded2 : (c : tie.After-rooted2) → let m = middle (first (differ c)) in let s = start (filled m) in let E = now (s .args .edges) in
-    (take (s .args .n) (c .rooted2 .last .1 .1 .1 .1 .0) ≡ order (s .args .n) E (m .centre .result .second)) × (c .rooted2 .last .1 .1 .1 .1 .1 .0 ≡ laidOver (rooted (s .args .n) E (m .centre .result .second)) (replicate size 0))
-coded2 c = let f = filled (middle (first (differ c))) in let s = start f in let x = c .rooted2 .ensures .1 (now (s .args .edges)) (s .pre .0 .tree) (f .fill .ensures) in (x .0, x .1)
+    (take (s .args .n) (c .rooted2 .last .1 .1 .1 .1 .0) ≡ order (s .args .n) E (other m)) × (c .rooted2 .last .1 .1 .1 .1 .1 .0 ≡ laidOver (rooted (s .args .n) E (other m)) (replicate size 0))
+    × (c .rooted2 .result ≡ coding (s .args .n) E (other m))
+coded2 c = let f = filled (middle (first (differ c))) in let s = start f in c .rooted2 .ensures .1 (now (s .args .edges)) (s .pre .0 .tree) (f .fill .ensures)
 
 pub numbered-spec : {M : Type 1} → statement M
 numbered-spec =
@@ -59,22 +79,30 @@ numbered-spec =
     (λ c κs.
     let m = c .before .before .before .before in
     let s = start (filled m) in
-    let ((h, k), g) = centre-inside _ _ (s .pre .0 .tree) _ _ (centre m) in
+    let (h, k) = one-inside m in
     (held (filled m), (h, k, s .pre .1 .0, s .pre .1 .1)))
     (λ c. search needs)
     (λ c κs.
     let m = middle (first (c .before .before .before .before)) in
     let s = start (filled m) in
-    let (g, (h, k)) = centre-inside _ _ (s .pre .0 .tree) _ _ (centre m) in
+    let (h, k) = other-inside m in
     (held (filled m), (h, k, refl, s .pre .0 .few)))
+    (λ c.
+    let d = c .before in
+    let y = first (differ d) in
+    let m = middle y in
+    let s = start (filled m) .pre .0 in
+    let (a, b) = one-inside m in
+    let (h, k) = other-inside m in
+    omega (arith, few-at s a b (coded y .2), few-at s h k (coded2 d .2)))
     (λ c. search needs)
     (λ c κs.
     let d = c .before .before .before in
     let y = first (differ d) in
     let m = middle y in
-    let s = start (filled m) in
-    let t = s .pre .0 .tree in
-    let ((a, b), (h, k)) = centre-inside _ _ t _ _ (centre m) in
+    let t = start (filled m) .pre .0 .tree in
+    let (a, b) = one-inside m in
+    let (h, k) = other-inside m in
     (front-room t a b _ (coded y .1), front-room t h k _ (coded2 d .1)))
     (λ c. search needs)
     (λ c κs. let d = second (c .before .before .before .before .before) in omega (arith, d .rooted2 .ensures .0, first (differ d) .rooted .ensures .0))
@@ -85,21 +113,24 @@ numbered-spec =
     let d = second r in
     let y = first (differ d) in
     let m = middle y in
-    let s = start (filled m) in
-    let t = s .pre .0 .tree in
-    let (g, (h, k)) = centre-inside _ _ t _ _ (centre m) in
-    (search needs, second-rises t (centre m) _ _ (coded y .0) (coded y .1) _ (front t h k _ (coded2 d .1)) _ (r .raise .ensures) (q .if2 .taken) (coded2 d .0) (omega (arith, s .pre .0 .few, d .rooted2 .ensures .0)) (c .copy .ensures .1)))
+    let s = start (filled m) .pre .0 in
+    let t = s .tree in
+    let (h, k) = other-inside m in
+    (search needs, (second-rises t (centre m) _ _ (coded y .0) (coded y .1) _ (front t h k _ (coded2 d .1)) _ (r .raise .ensures) (q .if2 .taken) (coded2 d .0) (omega (arith, s .few, d .rooted2 .ensures .0)) (c .copy .ensures .1), both-summed s (centre m) (coded y .2) (coded2 d .2) (two d))))
     (λ c. search needs)
     (λ c.
     let r = c .before .before .before in
     let d = second r in
     let y = first (differ d) in
     let m = middle y in
-    let t = start (filled m) .pre .0 .tree in
-    let (g, (h, k)) = centre-inside _ _ t _ _ (centre m) in
-    (y .rooted .ensures .0, first-stays t (centre m) _ _ (coded y .0) (coded y .1) _ (front t h k _ (coded2 d .1)) (r .raise .ensures) (c .if2 .left)))
+    let s = start (filled m) .pre .0 in
+    let t = s .tree in
+    let (h, k) = other-inside m in
+    (y .rooted .ensures .0, (first-stays t (centre m) _ _ (coded y .0) (coded y .1) _ (front t h k _ (coded2 d .1)) (r .raise .ensures) (c .if2 .left), both-summed s (centre m) (coded y .2) (coded2 d .2) (two d))))
     (λ c. search needs)
     (λ c.
     let y = c .before .before .before in
     let m = middle y in
-    (y .rooted .ensures .0, one-middle (start (filled m) .pre .0 .tree) (centre m) _ _ (coded y .0) (coded y .1) (c .if1 .left))))
+    let s = start (filled m) .pre .0 in
+    let e : one m ≡ m .centre .result .second = c .if1 .left in
+    (y .rooted .ensures .0, (one-middle (s .tree) (centre m) _ _ (coded y .0) (coded y .1) e, one-summed s (centre m) (coded y .2) e))))

@@ -2,6 +2,7 @@
 use borrow.Author.Needs.{needs}
 use denote.Ref.{now}
 use Rattle.form_coder.proofs.Written.{rooted-written}
+use Rattle.form_coder.proofs.Looked.{at-root}
 use Rattle.form_coder.proofs.rooted.Statement.{statement}
 use Rattle.form_coder.proofs.rooted.Tie as tie
 
@@ -24,4 +25,6 @@ rooted-spec =
     let f = filled k in
     let s = start f in
     let t = s .pre .0 .tree in
-    rooted-written (s .args .root) t (s .pre .1 .0) (s .pre .1 .1) (k .rooted .ensures .1 (now (s .args .edges)) t (f .fill .ensures) .1)))
+    let (h, i, room) = s .pre .1 in
+    let (o, w, e) = k .rooted .ensures .1 (now (s .args .edges)) t (f .fill .ensures) in
+    (rooted-written (s .args .root) t h i w, at-root (s .pre .0) h i e)))

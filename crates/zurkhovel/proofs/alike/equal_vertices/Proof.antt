@@ -37,19 +37,19 @@ equal-vertices-spec =
     (tie.spec
     (λ c κs. search needs)
     (λ c. search needs)
-    (λ c. refused-first (was-refused (c .before .before .before .check .ensures) (c .before .k .given .1)) refl)
+    (λ c. record { promised = refused-first (was-refused (c .before .before .before .check .ensures) (c .before .k .given .1)) refl; reported = refl })
     (λ c. search needs)
-    (λ c. let d = c .before in of-short (start d .args .n) (now (start d .args .edges)) (clear d) ClassesOf (start d .args .n) (λ x l e k. k .count ∙ e) (λ x. (classes x, classes-numbered x)) (c .if1 .taken) refl)
+    (λ c. let d = c .before in record { promised = of-short (start d .args .n) (now (start d .args .edges)) (clear d) ClassesOf (start d .args .n) (λ x l e k. k .count ∙ e) (λ x. (classes x, classes-numbered x)) (c .if1 .taken) refl; reported = refl })
     (λ c. search needs)
     (λ c κs. let d = c .before .before in (tabled (skeleton-of (clear d)), omega (arith, at-most (clear d))))
     (λ c. let d = c .before .before .before .before in omega (arith, at-most (clear d)))
-    (λ c. written-length (c .before .before .centred .ensures))
+    (λ c. written-length (c .before .before .centred .ensures .0))
     (λ c κs. let w = c .before .before .before in
     let e = coded w in
-    let r = right-code (skeleton-of (clear (e .before))) (w .centred .ensures) in
-    (r .ends, (r .few, omega (arith, written-length (w .centred .ensures), e .if1 .left))))
+    let r = right-code (skeleton-of (clear (e .before))) (w .centred .ensures .0) in
+    (r .ends, (r .few, omega (arith, written-length (w .centred .ensures .0), e .if1 .left))))
     (λ c. search needs)
     (λ c. let w = classed (c .before .before) in
     let e = coded w in
     let d = e .before in
-    of-given (start d .args .n) (now (start d .args .edges)) (clear d) ClassesOf (start d .args .n) (λ x l e k. k .count ∙ e) (e .if1 .left) (w .centred .ensures) (classes-numbered _) (c .before .before .write-classes .ensures)))
+    record { promised = of-given (start d .args .n) (now (start d .args .edges)) (clear d) ClassesOf (start d .args .n) (λ x l e k. k .count ∙ e) (e .if1 .left) (w .centred .ensures .0) (classes-numbered _) (c .before .before .write-classes .ensures); reported = w .centred .ensures .1 }))

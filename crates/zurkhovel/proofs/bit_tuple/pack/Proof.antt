@@ -6,7 +6,8 @@ use borrow.Author.Needs.{needs}
 use Rattle.refusal.specs.Giving.{refused-first, written-room, written-length}
 use Rattle.limits.specs.document.Limits.{size}
 use Rattle.zurkhovel.specs.Rooting.{Rooted}
-use Rattle.zurkhovel.proofs.Rooted.{digits-length, digits-within, digits-coded, packed-given}
+use Rattle.zurkhovel.proofs.Judged.{was-coded, was-refused}
+use Rattle.zurkhovel.proofs.Rooted.{digits-length, digits-within, digits-coded, packed-reported}
 use Rattle.zurkhovel.proofs.bit_tuple.pack.Statement.{statement}
 use Rattle.zurkhovel.proofs.bit_tuple.pack.Tie as tie
 
@@ -14,8 +15,8 @@ abbrev lent : tie.After-rooted → tie.Start
 lent c = c .before .before .before .before
 
 -- the rooted code is there
-coded : (c : tie.After-enum-told) → let r = c .before .before .before in let a = lent r .args in Rooted size (a .n) (now (a .edges)) (a .root) (r .rooted .last .1 .1 .1 .1 .0)
-coded c = rw (c .enum-told .given .1) at (c .before .before .before .rooted .ensures)
+coded : (c : tie.After-known-told2) → let r = c .before .before .before .before in let a = lent r .args in Rooted size (a .n) (now (a .edges)) (a .root) (r .rooted .last .1 .1 .1 .1 .0) (c .before .looked .given .0 .0)
+coded c = was-coded (c .before .before .before .before .rooted .ensures) (c .before .looked .given .1)
 
 pub pack-spec : {M : Type 1} → statement M
 pack-spec =
@@ -24,7 +25,6 @@ pack-spec =
     (λ c. search needs)
     (λ c κs. search needs)
     (λ c. search needs)
-    (λ c. refused-first (rw (c .before .k .given .1) at (c .before .before .before .before .rooted .ensures)) refl)
     (λ c. search needs)
     (λ c. omega (arith, digits-within (coded c) (omega arith), coded c .long))
     (λ c. sym (digits-length (coded (c .before))))
@@ -34,6 +34,11 @@ pack-spec =
     (λ c. written-room (c .before .pack .ensures))
     (λ c. written-length (c .before .before .pack .ensures))
     (λ c κs. search needs)
+    (λ c κs. search needs)
+    (λ c. record { promised = refused-first (was-refused (c .before .before .before .before .rooted .ensures) (c .before .k .given .1)) refl; reported = refl })
     (λ c. search needs)
-    (λ c. let p = c .before .before .before .before .before .before in
-    packed-given (coded (p .before .before .before)) (p .pack .ensures) (c .before .before .laid .ensures)))
+    (λ c.
+    let l = c .before .before .before in
+    let p = l .before .before .before .before in
+    let t = coded (p .before .before .before) in
+    packed-reported _ t (p .pack .ensures) (l .laid .ensures) (c .report .ensures)))

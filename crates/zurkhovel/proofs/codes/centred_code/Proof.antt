@@ -27,9 +27,9 @@ centred-code-spec =
     (tie.spec
     (λ c κs. search needs)
     (λ c. search needs)
-    (λ c. refused-first (was-refused (c .before .before .before .check .ensures) (c .before .k .given .1)) refl)
+    (λ c. record { promised = refused-first (was-refused (c .before .before .before .check .ensures) (c .before .k .given .1)) refl; reported = refl })
     (λ c. search needs)
-    (λ c. let d = c .before in form-short (start d .args .n) (now (start d .args .edges)) 1 (clear d) centred centred-form (c .if1 .taken) refl)
+    (λ c. let d = c .before in record { promised = form-short (start d .args .n) (now (start d .args .edges)) 1 (clear d) centred centred-form (c .if1 .taken) refl; reported = refl })
     (λ c κs. let d = c .before .before in (tabled (skeleton-of (clear d)), c .before .if1 .left))
     (λ c. search needs)
-    (λ c. let d = c .before .before .before .before .before in form-given (start d .args .n) (now (start d .args .edges)) 1 (clear d) centred centred-form (c .before .before .before .before .if1 .left) (c .before .before .centred .ensures)))
+    (λ c. let d = c .before .before .before .before .before in let (w, n) = c .before .before .centred .ensures in record { promised = form-given (start d .args .n) (now (start d .args .edges)) 1 (clear d) centred centred-form (c .before .before .before .before .if1 .left) w; reported = n }))

@@ -27,9 +27,9 @@ n-tuple-code-spec =
     (tie.spec
     (λ c κs. search needs)
     (λ c. search needs)
-    (λ c. refused-first (was-refused (c .before .before .before .check .ensures) (c .before .k .given .1)) refl)
+    (λ c. record { promised = refused-first (was-refused (c .before .before .before .check .ensures) (c .before .k .given .1)) refl; reported = refl })
     (λ c. search needs)
-    (λ c. let d = c .before in form-short (start d .args .n) (now (start d .args .edges)) 1 (clear d) nTuple n-tuple-form (c .if1 .taken) refl)
+    (λ c. let d = c .before in record { promised = form-short (start d .args .n) (now (start d .args .edges)) 1 (clear d) nTuple n-tuple-form (c .if1 .taken) refl; reported = refl })
     (λ c κs. let d = c .before .before in (tabled (skeleton-of (clear d)), c .before .if1 .left))
     (λ c. search needs)
-    (λ c. let d = c .before .before .before .before .before in form-given (start d .args .n) (now (start d .args .edges)) 1 (clear d) nTuple n-tuple-form (c .before .before .before .before .if1 .left) (c .before .before .n-tuple .ensures)))
+    (λ c. let d = c .before .before .before .before .before in let (w, n) = c .before .before .n-tuple .ensures in record { promised = form-given (start d .args .n) (now (start d .args .edges)) 1 (clear d) nTuple n-tuple-form (c .before .before .before .before .if1 .left) w; reported = n }))

@@ -25,9 +25,9 @@ rooted-code-spec =
     (tie.spec
     (λ c κs. search needs)
     (λ c. search needs)
-    (λ c. refused-first (was-refused (c .before .before .before .check .ensures) (c .before .k .given .1)) refl)
+    (λ c. record { promised = refused-first (was-refused (c .before .before .before .check .ensures) (c .before .k .given .1)) refl; reported = refl })
     (λ c. search needs)
-    (λ c. let d = c .before in rooted-short (start d .args .n) (now (start d .args .edges)) (start d .args .root) (clear d) (c .if1 .taken) refl)
+    (λ c. let d = c .before in record { promised = rooted-short (start d .args .n) (now (start d .args .edges)) (start d .args .root) (clear d) (c .if1 .taken) refl; reported = refl })
     (λ c κs. let d = c .before .before in (tabled (skeleton-of (clear d)), (root-of (now (start d .args .edges)) (clear d) .0, root-of (now (start d .args .edges)) (clear d) .1, c .before .if1 .left)))
     (λ c. search needs)
-    (λ c. let d = c .before .before .before .before .before in rooted-given (start d .args .n) (now (start d .args .edges)) (start d .args .root) (clear d) (c .before .before .before .before .if1 .left) (c .before .before .rooted .ensures)))
+    (λ c. let d = c .before .before .before .before .before in let (w, n) = c .before .before .rooted .ensures in record { promised = rooted-given (start d .args .n) (now (start d .args .edges)) (start d .args .root) (clear d) (c .before .before .before .before .if1 .left) w; reported = n }))

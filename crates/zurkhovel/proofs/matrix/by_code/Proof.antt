@@ -8,7 +8,7 @@ use Rattle.limits.specs.document.Limits.{size, valence}
 use Rattle.skeleton.specs.document.Skeleton.{IsSkeleton}
 use Rattle.edge_list.specs.document.Edges.{edgeRows}
 use Rattle.zurkhovel.specs.Accepted.{skeleton-of, wider, tabled}
-use Rattle.zurkhovel.specs.Rooting.{refused}
+use Rattle.zurkhovel.specs.Rooting.{coded, refused}
 use Rattle.zurkhovel.proofs.Numbered.{listed-by-code}
 use Rattle.zurkhovel.proofs.matrix.by_code.Statement.{statement}
 use Rattle.zurkhovel.proofs.matrix.by_code.Tie as tie
@@ -33,4 +33,4 @@ by-code-spec =
     (λ c. search needs)
     (λ c κs. let s = found (c .before) in (tabled s, omega (arith, s .tree .edges, s .few, start (c .before) .pre .1)))
     (λ c. search needs)
-    (λ c. let y = c .before .before in listed-by-code (clear (y .before .before)) (y .by-code .ensures)))
+    (λ c. let y = c .before .before in coded (listed-by-code (clear (y .before .before)) (y .by-code .ensures .0) (y .by-code .ensures .1))))

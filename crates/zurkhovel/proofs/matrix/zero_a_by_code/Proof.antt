@@ -5,7 +5,8 @@ use borrow.Author.Needs.{needs}
 use Rattle.refusal.specs.document.Table.{left}
 use Rattle.limits.specs.document.Limits.{zeroSize}
 use Rattle.zurkhovel.specs.Rooting.{ListedByCode}
-use Rattle.zurkhovel.proofs.Numbered.{was-listed, was-refused, ends-length, ends-skeleton, ends-physical, zero-a-value}
+use Rattle.zurkhovel.proofs.Judged.{was-coded, was-refused}
+use Rattle.zurkhovel.proofs.Numbered.{ends-length, ends-skeleton, ends-physical, zero-a-value}
 use Rattle.zurkhovel.proofs.matrix.zero_a_by_code.Statement.{statement}
 use Rattle.zurkhovel.proofs.matrix.zero_a_by_code.Tie as tie
 
@@ -16,8 +17,8 @@ abbrev listed : tie.After-known-told2 → tie.After-by-code
 listed c = c .before .before .before .before
 
 -- what is known where the list is accepted
-known : (c : tie.After-known-told2) → let s = start (listed c) in ListedByCode zeroSize (s .args .n) (now (s .args .edges)) (listed c .by-code .last .1 .1 .1 .0) (c .before .m .given .0 .0)
-known c = was-listed (listed c .by-code .ensures) (c .before .m .given .1)
+known : (c : tie.After-known-told2) → let s = start (listed c) in ListedByCode zeroSize (s .args .n) (now (s .args .edges)) (listed c .by-code .last .1 .1 .1 .0) (c .before .looked .given .0 .0)
+known c = was-coded (listed c .by-code .ensures) (c .before .looked .given .1)
 
 pub zero-a-by-code-spec : {M : Type 1} → statement M
 zero-a-by-code-spec =
@@ -30,5 +31,5 @@ zero-a-by-code-spec =
     (λ c. known c .within)
     (λ c. sym (ends-length (known (c .before))))
     (λ c κs. let t = known (c .before) in (ends-skeleton t, ends-physical t))
-    (λ c. left (was-refused (c .before .before .before .before .by-code .ensures) (c .before .k .given .1)) refl)
+    (λ c. record { promised = left (was-refused (c .before .before .before .before .by-code .ensures) (c .before .k .given .1)) refl; reported = refl })
     (λ c. zero-a-value (known (c .before .before)) (c .zero-of .ensures)))

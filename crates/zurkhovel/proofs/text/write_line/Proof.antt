@@ -35,18 +35,18 @@ write-line-spec =
     (tie.spec
     (λ c κs. search needs)
     (λ c. search needs)
-    (λ c. refused-first (was-refused (c .before .before .before .check .ensures) (c .before .k .given .1)) refl)
+    (λ c. record { promised = refused-first (was-refused (c .before .before .before .check .ensures) (c .before .k .given .1)) refl; reported = refl })
     (λ c. search needs)
     (λ c κs. omega (arith, at-most (clear c)))
-    (λ c. let d = c .before .before in derived-short (start d .args .n) (now (start d .args .edges)) (clear d) line (c .before .extent .result) (c .before .extent .ensures) (c .if1 .taken) refl)
+    (λ c. let d = c .before .before in record { promised = derived-short (start d .args .n) (now (start d .args .edges)) (clear d) line (c .before .extent .result) (c .before .extent .ensures) (c .if1 .taken) refl; reported = refl })
     (λ c. search needs)
     (λ c κs. let d = c .before .before .before in (tabled (skeleton-of (clear d)), omega (arith, at-most (clear d))))
     (λ c. let d = c .before .before .before .before .before in omega (arith, at-most (clear d)))
-    (λ c. written-length (c .before .before .centred .ensures))
+    (λ c. written-length (c .before .before .centred .ensures .0))
     (λ c κs. let r = coded (c .before .before .before) in
     let e = r .before in
     let d = e .before in
-    let w = c .before .before .before .centred .ensures in (
+    let w = c .before .before .before .centred .ensures .0 in (
       omega (arith, written-length w, at-most (clear d)),
       (code-digits (skeleton-of (clear d)) w .digits, omega (arith, derived-size (start d .args .n) (now (start d .args .edges)) (clear d) line (e .extent .result) (e .extent .ensures) w, r .if1 .left)),
     ))
@@ -55,4 +55,4 @@ write-line-spec =
     let r = coded w in
     let e = r .before in
     let d = e .before in
-    derived-given (start d .args .n) (now (start d .args .edges)) (clear d) line (e .extent .result) (e .extent .ensures) (r .if1 .left) (w .centred .ensures) (c .before .before .write .ensures)))
+    record { promised = derived-given (start d .args .n) (now (start d .args .edges)) (clear d) line (e .extent .result) (e .extent .ensures) (r .if1 .left) (w .centred .ensures .0) (c .before .before .write .ensures); reported = w .centred .ensures .1 }))

@@ -1,0 +1,138 @@
+-- Read from its promise alone, every C function that hands over how many pairs were looked at has one possible answer, one possible state of what was
+-- lent to it, and one number. r, s: two answers to the same input; new, new′: the lent output, or place of a value, after each; m, m′: the number. Each
+-- is the call's own theorem (`OneReported` of the crate `zurkhovel`) through the packing.
+--
+-- In order: the law for each kind of answer; the functions. Assumes nothing.
+use mathlib.Core.Path.{_≡_, refl, sym, ap, subst, _∙_}
+use mathlib.Core.List.{List}
+use Prim.Native.Nat.{ℕ}
+use lib.Ieee.{Float}
+use Rattle.refusal.specs.document.Table.{OutcomeOf, Outcome}
+use Rattle.refusal.specs.document.Outcome.{told, numbered}
+use Rattle.fraction.specs.document.Outcome.{toldFraction}
+use Rattle.form.specs.document.Form.{nTuple, centred}
+use Rattle.form_coder.specs.document.Pairs.{centredPairs, nTuplePairs}
+use Rattle.zurkhovel.specs.declared.reported.Reported.{Reported}
+use Rattle.zurkhovel.specs.declared.reported.ReportedNumber.{ReportedNumber}
+use Rattle.zurkhovel.specs.declared.reported.ReportedFraction.{ReportedFraction}
+use Rattle.zurkhovel.specs.declared.reported.ReportedVerdict.{ReportedVerdict}
+use Rattle.zurkhovel.specs.document.Codes.{RootedCode, FormCode}
+use Rattle.zurkhovel.specs.document.Same.{said, SameSkeleton}
+use Rattle.zurkhovel.specs.document.Bits.{Pack, Whole, InFraction}
+use Rattle.zurkhovel.specs.document.Matrix.{CamByCode, ZeroAByCode, AZeroByCode}
+use Rattle.zurkhovel.specs.document.Alike.{EqualVertices}
+use Rattle.zurkhovel.specs.document.Lines.{WriteLine}
+use Rattle.zurkhovel.specs.document.Reported.{Reporting, atRoot, OfBoth}
+use Rattle.zurkhovel.specs.OneReported as calls
+use Rattle.exports.specs.document.Packing.{packed, truth, withList, held, PackedAnswer, PackedFinding, PackedValue}
+use Rattle.exports.specs.One.{answer, value, exact, finding}
+
+-- ---- each kind of answer
+
+-- a call that writes
+one-written :
+    {P Q : Outcome ℕ → Type 0} {Count : ℕ → Type 0} {new new′ : List ℕ}
+    → ((r s : Reported) → Reporting P Count (told (r .answer)) (r .pairs) → Reporting Q Count (told (s .answer)) (s .pairs) → (r ≡ s) × (new ≡ new′))
+    → (m m′ r s : ℕ) → PackedAnswer (λ o. Reporting P Count o m) r → PackedAnswer (λ o. Reporting Q Count o m′) s → (r ≡ s) × (new ≡ new′) × (m ≡ m′)
+one-written {P} {Q} {Count} f m m′ r s (o, x, e) (q, y, g) =
+    let (a, i) = answer o in
+    let (b, j) = answer q in
+    let (h, l) = f (record { answer = a; pairs = m }) (record { answer = b; pairs = m′ }) (subst (λ w. Reporting P Count w m) i x) (subst (λ w. Reporting Q Count w m′) j y) in
+    (e ∙ ap (packed (λ k. k) (λ n. n)) (i ∙ ap (λ (v : Reported). told (v .answer)) h ∙ sym j) ∙ sym g, l, ap (λ (v : Reported). v .pairs) h)
+
+-- a call that is asked for a value, which the lent place then holds
+one-held :
+    {A : Type 0} {P : Outcome A → Type 0} {Count : ℕ → Type 0}
+    → ((o q : Outcome A) (m m′ : ℕ) → Reporting P Count o m → Reporting P Count q m′ → (o ≡ q) × (m ≡ m′))
+    → (old new new′ : A) (m m′ r s : ℕ) → PackedValue (λ o. Reporting P Count o m) old new r → PackedValue (λ o. Reporting P Count o m′) old new′ s
+    → (r ≡ s) × (new ≡ new′) × (m ≡ m′)
+one-held f old new new′ m m′ r s (o, x, e, h) (q, y, g, l) =
+    let (same, count) = f o q m m′ x y in
+    (e ∙ ap (packed (λ k. k) (λ a. 0)) same ∙ sym g, h ∙ ap (held old) same ∙ sym l, count)
+
+one-number :
+    {P : Outcome ℕ → Type 0} {Count : ℕ → Type 0}
+    → ((r s : ReportedNumber) → Reporting P Count (numbered (r .answer)) (r .pairs) → Reporting P Count (numbered (s .answer)) (s .pairs) → r ≡ s)
+    → (o q : Outcome ℕ) (m m′ : ℕ) → Reporting P Count o m → Reporting P Count q m′ → (o ≡ q) × (m ≡ m′)
+one-number {P} {Count} f o q m m′ x y =
+    let (a, i) = value o in
+    let (b, j) = value q in
+    let h = f (record { answer = a; pairs = m }) (record { answer = b; pairs = m′ }) (subst (λ w. Reporting P Count w m) i x) (subst (λ w. Reporting P Count w m′) j y) in
+    (i ∙ ap (λ (v : ReportedNumber). numbered (v .answer)) h ∙ sym j, ap (λ (v : ReportedNumber). v .pairs) h)
+
+one-exact :
+    {P : Outcome Float → Type 0} {Count : ℕ → Type 0}
+    → ((r s : ReportedFraction) → Reporting P Count (toldFraction (r .answer)) (r .pairs) → Reporting P Count (toldFraction (s .answer)) (s .pairs) → r ≡ s)
+    → (o q : Outcome Float) (m m′ : ℕ) → Reporting P Count o m → Reporting P Count q m′ → (o ≡ q) × (m ≡ m′)
+one-exact {P} {Count} f o q m m′ x y =
+    let (a, i) = exact o in
+    let (b, j) = exact q in
+    let h = f (record { answer = a; pairs = m }) (record { answer = b; pairs = m′ }) (subst (λ w. Reporting P Count w m) i x) (subst (λ w. Reporting P Count w m′) j y) in
+    (i ∙ ap (λ (v : ReportedFraction). toldFraction (v .answer)) h ∙ sym j, ap (λ (v : ReportedFraction). v .pairs) h)
+
+-- ---- the functions
+
+pub one-zk-rooted-code-pairs :
+    (N : ℕ) (E : List ℕ) (root : ℕ) (old new new′ : List ℕ) (m m′ r s : ℕ) → PackedAnswer (λ o. Reporting (RootedCode N E root old new) (atRoot N E root) o m) r
+    → PackedAnswer (λ o. Reporting (RootedCode N E root old new′) (atRoot N E root) o m′) s → (r ≡ s) × (new ≡ new′) × (m ≡ m′)
+one-zk-rooted-code-pairs N E root old new new′ = one-written (calls.one-rooted-code-reported N E root old new new′)
+
+pub one-zk-n-tuple-code-pairs :
+    (N : ℕ) (E : List ℕ) (old new new′ : List ℕ) (m m′ r s : ℕ) → PackedAnswer (λ o. Reporting (FormCode nTuple N E old new) (nTuplePairs N E) o m) r
+    → PackedAnswer (λ o. Reporting (FormCode nTuple N E old new′) (nTuplePairs N E) o m′) s → (r ≡ s) × (new ≡ new′) × (m ≡ m′)
+one-zk-n-tuple-code-pairs N E old new new′ = one-written (calls.one-n-tuple-code-reported N E old new new′)
+
+pub one-zk-centred-code-pairs :
+    (N : ℕ) (E : List ℕ) (old new new′ : List ℕ) (m m′ r s : ℕ) → PackedAnswer (λ o. Reporting (FormCode centred N E old new) (centredPairs N E) o m) r
+    → PackedAnswer (λ o. Reporting (FormCode centred N E old new′) (centredPairs N E) o m′) s → (r ≡ s) × (new ≡ new′) × (m ≡ m′)
+one-zk-centred-code-pairs N E old new new′ = one-written (calls.one-centred-code-reported N E old new new′)
+
+pub one-zk-same-skeleton-pairs :
+    (N : ℕ) (E : List ℕ) (P : ℕ) (F : List ℕ) (m m′ r s : ℕ) → PackedFinding (λ o. Reporting (SameSkeleton N E P F) (OfBoth N E P F) o m) r
+    → PackedFinding (λ o. Reporting (SameSkeleton N E P F) (OfBoth N E P F) o m′) s → (r ≡ s) × (m ≡ m′)
+one-zk-same-skeleton-pairs N E P F m m′ r s (o, x, e) (q, y, g) =
+    let (a, i) = finding o in
+    let (b, j) = finding q in
+    let h = calls.one-same-skeleton-reported N E P F (record { answer = a; pairs = m }) (record { answer = b; pairs = m′ })
+    (subst (λ w. Reporting (SameSkeleton N E P F) (OfBoth N E P F) w m) i x) (subst (λ w. Reporting (SameSkeleton N E P F) (OfBoth N E P F) w m′) j y) in
+    (e ∙ ap (packed withList truth) (i ∙ ap (λ (v : ReportedVerdict). said (v .answer)) h ∙ sym j) ∙ sym g, ap (λ (v : ReportedVerdict). v .pairs) h)
+
+pub one-zk-pack-pairs :
+    (N : ℕ) (E : List ℕ) (root : ℕ) (old new new′ : List ℕ) (m m′ r s : ℕ) → PackedAnswer (λ o. Reporting (Pack N E root old new) (atRoot N E root) o m) r
+    → PackedAnswer (λ o. Reporting (Pack N E root old new′) (atRoot N E root) o m′) s → (r ≡ s) × (new ≡ new′) × (m ≡ m′)
+one-zk-pack-pairs N E root old new new′ = one-written (calls.one-pack-reported N E root old new new′)
+
+pub one-zk-whole-pairs :
+    (N : ℕ) (E : List ℕ) (root : ℕ) (old new new′ : ℕ) (m m′ r s : ℕ) → PackedValue (λ o. Reporting (Whole N E root) (atRoot N E root) o m) old new r
+    → PackedValue (λ o. Reporting (Whole N E root) (atRoot N E root) o m′) old new′ s → (r ≡ s) × (new ≡ new′) × (m ≡ m′)
+one-zk-whole-pairs N E root = one-held (one-number (calls.one-whole-reported N E root))
+
+pub one-zk-fraction-pairs :
+    (N : ℕ) (E : List ℕ) (root : ℕ) (old new new′ : Float) (m m′ r s : ℕ) → PackedValue (λ o. Reporting (InFraction N E root) (atRoot N E root) o m) old new r
+    → PackedValue (λ o. Reporting (InFraction N E root) (atRoot N E root) o m′) old new′ s → (r ≡ s) × (new ≡ new′) × (m ≡ m′)
+one-zk-fraction-pairs N E root = one-held (one-exact (calls.one-fraction-reported N E root))
+
+pub one-zk-cam-by-code-pairs :
+    (N : ℕ) (E : List ℕ) (old new new′ : List ℕ) (m m′ r s : ℕ) → PackedAnswer (λ o. Reporting (CamByCode N E old new) (centredPairs N E) o m) r
+    → PackedAnswer (λ o. Reporting (CamByCode N E old new′) (centredPairs N E) o m′) s → (r ≡ s) × (new ≡ new′) × (m ≡ m′)
+one-zk-cam-by-code-pairs N E old new new′ = one-written (calls.one-cam-by-code-reported N E old new new′)
+
+pub one-zk-zero-a-by-code-pairs :
+    (N : ℕ) (E : List ℕ) (old new new′ : ℕ) (m m′ r s : ℕ) → PackedValue (λ o. Reporting (ZeroAByCode N E) (centredPairs N E) o m) old new r
+    → PackedValue (λ o. Reporting (ZeroAByCode N E) (centredPairs N E) o m′) old new′ s → (r ≡ s) × (new ≡ new′) × (m ≡ m′)
+one-zk-zero-a-by-code-pairs N E = one-held (one-number (calls.one-zero-a-by-code-reported N E))
+
+pub one-zk-a-zero-by-code-pairs :
+    (N : ℕ) (E : List ℕ) (old new new′ : ℕ) (m m′ r s : ℕ) → PackedValue (λ o. Reporting (AZeroByCode N E) (centredPairs N E) o m) old new r
+    → PackedValue (λ o. Reporting (AZeroByCode N E) (centredPairs N E) o m′) old new′ s → (r ≡ s) × (new ≡ new′) × (m ≡ m′)
+one-zk-a-zero-by-code-pairs N E = one-held (one-number (calls.one-a-zero-by-code-reported N E))
+
+pub one-zk-equal-vertices-pairs :
+    (N : ℕ) (E : List ℕ) (old new new′ : List ℕ) (m m′ r s : ℕ) → PackedAnswer (λ o. Reporting (EqualVertices N E old new) (centredPairs N E) o m) r
+    → PackedAnswer (λ o. Reporting (EqualVertices N E old new′) (centredPairs N E) o m′) s → (r ≡ s) × (new ≡ new′) × (m ≡ m′)
+one-zk-equal-vertices-pairs N E old new new′ = one-written (calls.one-equal-vertices-reported N E old new new′)
+
+pub one-zk-write-line-pairs :
+    (N : ℕ) (E : List ℕ) (old new new′ : List ℕ) (m m′ r s : ℕ) → PackedAnswer (λ o. Reporting (WriteLine N E old new) (centredPairs N E) o m) r
+    → PackedAnswer (λ o. Reporting (WriteLine N E old new′) (centredPairs N E) o m′) s → (r ≡ s) × (new ≡ new′) × (m ≡ m′)
+one-zk-write-line-pairs N E old new new′ = one-written (calls.one-write-line-reported N E old new new′)

@@ -1,0 +1,138 @@
+-- Document 02, wish 6: the total "is at most 3 times N times the whole part of log2 N", and the sums "at most that bound for each" root. Of every
+-- accepted skeleton, and then of what each call that orders children reports, read from its promise alone. 3 is one less than `valence`
+-- (`three-times`).
+--
+-- In order: of an accepted skeleton; the law for a report; the calls. n: the number reported with the answer o; k: at how many roots the code is
+-- looked for, one or two for the centred code (`few-middles` of the crate `form_coder`). Assumes nothing.
+use mathlib.Core.Path.{_≡_, refl}
+use mathlib.Core.Bool.{Bool}
+use mathlib.Core.List.{List}
+use Prim.Native.Nat.{ℕ, _+_, _*_, _≤_}
+use native.Mathlib.Omega.{arith}
+use lib.Ieee.{Float}
+use Rattle.refusal.specs.document.Table.{Clear, OutcomeOf, Outcome, gives, refuses, kept, Answered, Gives}
+use Rattle.refusal.specs.Giving.{gave, gave-value}
+use Rattle.limits.specs.document.Limits.{size, valence}
+use Rattle.edge_list.specs.document.Edges.{edgeRows}
+use Rattle.numbering.specs.document.Pairs.{rootedPairs, log2}
+use Rattle.numbering.specs.Bound.{pairs-bound}
+use Rattle.form.specs.document.Form.{nTuple, centred}
+use Rattle.form_coder.specs.document.Pairs.{centredPairs, nTuplePairs, centredRoots, nTupleRoots}
+use Rattle.form_coder.specs.Sums.{centred-bound, n-tuple-bound}
+use Rattle.zurkhovel.specs.document.Codes.{RootedCode, FormCode}
+use Rattle.zurkhovel.specs.document.Same.{Finding, SameSkeleton}
+use Rattle.zurkhovel.specs.document.Bits.{Pack, Whole, InFraction}
+use Rattle.zurkhovel.specs.document.Matrix.{CamByCode, ZeroAByCode, AZeroByCode}
+use Rattle.zurkhovel.specs.document.Lines.{WriteLine}
+use Rattle.zurkhovel.specs.document.Alike.{EqualVertices}
+use Rattle.zurkhovel.specs.document.Reported.{Reports, Reporting, atRoot, OfBoth, coded, not-coded, mostPairs}
+use Rattle.zurkhovel.specs.Accepted.{skeleton-of, root-of}
+use Rattle.zurkhovel.specs.Theorems.{both-clear}
+
+-- ---- of an accepted skeleton
+
+pub three-times : (N : ℕ) → mostPairs valence N ≡ 3 * N * log2 N
+three-times N = refl
+
+module _ {most : ℕ} (N : ℕ) (E : List ℕ) where
+  pub accepted-rooted : (r : ℕ) → Clear (edgeRows most valence N E r) → rootedPairs N E r ≤ mostPairs valence N
+  accepted-rooted r c = let (h, k) = root-of E c in pairs-bound most valence N E r (skeleton-of c) h k
+
+  pub accepted-centred : Clear (edgeRows most valence N E 1) → (n k : ℕ) → centredPairs N E n → centredRoots N E k → n ≤ k * mostPairs valence N
+  accepted-centred c n k x y = centred-bound most valence N E (skeleton-of c) n k x y
+
+  pub accepted-n-tuple : Clear (edgeRows most valence N E 1) → (n k : ℕ) → nTuplePairs N E n → nTupleRoots N E k → n ≤ k * mostPairs valence N
+  accepted-n-tuple c n k x y = n-tuple-bound most valence N E (skeleton-of c) n k x y
+
+-- ---- the law
+
+-- where B bounds what is counted for what is given, it bounds what is reported
+reported-most :
+    {K A : Type 0} {P : OutcomeOf K A → Type 0} {Count : ℕ → Type 0} (B n : ℕ) → ((a : A) → P (gives a) → Count n → n ≤ B) → (o : OutcomeOf K A)
+    → Reporting P Count o n → n ≤ B
+reported-most B n f (gives a) g = f a (g .promised) (g .reported)
+reported-most B n f (refuses k j) g = omega (arith, g .reported)
+
+-- at a root
+root-most :
+    {most N r : ℕ} (E : List ℕ) {old new : List ℕ} {Right : List ℕ → Type 0} (o : Outcome ℕ) (n : ℕ)
+    → Reporting (Gives (edgeRows most valence N E r) Right old new) (atRoot N E r) o n → n ≤ mostPairs valence N
+root-most {N = N} {r} E o n = reported-most (mostPairs valence N) n (λ a p x. rw x (accepted-rooted N E r (gave p .0))) o
+
+root-value-most :
+    {A : Type 0} {most N r : ℕ} (E : List ℕ) {Right : A → Type 0} (o : Outcome A) (n : ℕ)
+    → Reporting (Answered (edgeRows most valence N E r) Right) (atRoot N E r) o n → n ≤ mostPairs valence N
+root-value-most {N = N} {r} E o n = reported-most (mostPairs valence N) n (λ a p x. rw x (accepted-rooted N E r (gave-value p .0))) o
+
+-- over the middles
+middles-most :
+    {most N : ℕ} (E : List ℕ) {old new : List ℕ} {Right : List ℕ → Type 0} (o : Outcome ℕ) (n k : ℕ)
+    → Reporting (Gives (edgeRows most valence N E 1) Right old new) (centredPairs N E) o n → centredRoots N E k → n ≤ k * mostPairs valence N
+middles-most {N = N} E o n k g y = reported-most (k * mostPairs valence N) n (λ a p x. accepted-centred N E (gave p .0) n k x y) o g
+
+middles-value-most :
+    {A : Type 0} {most N : ℕ} (E : List ℕ) {Right : A → Type 0} (o : Outcome A) (n k : ℕ)
+    → Reporting (Answered (edgeRows most valence N E 1) Right) (centredPairs N E) o n → centredRoots N E k → n ≤ k * mostPairs valence N
+middles-value-most {N = N} E o n k g y = reported-most (k * mostPairs valence N) n (λ a p x. accepted-centred N E (gave-value p .0) n k x y) o g
+
+-- ---- the calls
+
+pub looked-rooted-code :
+    (N : ℕ) (E : List ℕ) (r : ℕ) (old new : List ℕ) (o : Outcome ℕ) (n : ℕ) → Reporting (RootedCode N E r old new) (atRoot N E r) o n → n ≤ mostPairs valence N
+looked-rooted-code N E r old new = root-most E
+
+pub looked-n-tuple-code :
+    (N : ℕ) (E old new : List ℕ) (o : Outcome ℕ) (n k : ℕ) → Reporting (FormCode nTuple N E old new) (nTuplePairs N E) o n → nTupleRoots N E k
+    → n ≤ k * mostPairs valence N
+looked-n-tuple-code N E old new o n k g y = reported-most (k * mostPairs valence N) n (λ a p x. accepted-n-tuple N E (gave p .0) n k x y) o g
+
+pub looked-centred-code :
+    (N : ℕ) (E old new : List ℕ) (o : Outcome ℕ) (n k : ℕ) → Reporting (FormCode centred N E old new) (centredPairs N E) o n → centredRoots N E k
+    → n ≤ k * mostPairs valence N
+looked-centred-code N E old new = middles-most E
+
+-- both lists' sum, at most the bound for each root of each
+pub looked-same-skeleton :
+    (N : ℕ) (E : List ℕ) (P : ℕ) (F : List ℕ) (o : Finding) (n j k : ℕ) → Reporting (SameSkeleton N E P F) (OfBoth N E P F) o n
+    → centredRoots N E j → centredRoots P F k → n ≤ j * mostPairs valence N + k * mostPairs valence P
+looked-same-skeleton N E P F o n j k g y z = reported-most (j * mostPairs valence N + k * mostPairs valence P) n of-both o g
+  where
+    by : {n : ℕ} → Clear (edgeRows size valence N E 1) × Clear (edgeRows size valence P F 1) → OfBoth N E P F n → n ≤ j * mostPairs valence N + k * mostPairs valence P
+    by (c, d) (coded e u v) = omega (arith, accepted-centred N E c _ j u y, accepted-centred P F d _ k v z)
+    by c (not-coded e) = omega arith
+
+    of-both : (a : Bool) → SameSkeleton N E P F (gives a) → OfBoth N E P F n → n ≤ j * mostPairs valence N + k * mostPairs valence P
+    of-both a (kept c r) x = by (both-clear N P E F .0 c) x
+
+pub looked-pack :
+    (N : ℕ) (E : List ℕ) (r : ℕ) (old new : List ℕ) (o : Outcome ℕ) (n : ℕ) → Reporting (Pack N E r old new) (atRoot N E r) o n → n ≤ mostPairs valence N
+looked-pack N E r old new = root-most E
+
+pub looked-whole : (N : ℕ) (E : List ℕ) (r : ℕ) (o : Outcome ℕ) (n : ℕ) → Reporting (Whole N E r) (atRoot N E r) o n → n ≤ mostPairs valence N
+looked-whole N E r = root-value-most E
+
+pub looked-fraction : (N : ℕ) (E : List ℕ) (r : ℕ) (o : Outcome Float) (n : ℕ) → Reporting (InFraction N E r) (atRoot N E r) o n → n ≤ mostPairs valence N
+looked-fraction N E r = root-value-most E
+
+pub looked-cam-by-code :
+    (N : ℕ) (E old new : List ℕ) (o : Outcome ℕ) (n k : ℕ) → Reporting (CamByCode N E old new) (centredPairs N E) o n → centredRoots N E k
+    → n ≤ k * mostPairs valence N
+looked-cam-by-code N E old new = middles-most E
+
+pub looked-zero-a-by-code :
+    (N : ℕ) (E : List ℕ) (o : Outcome ℕ) (n k : ℕ) → Reporting (ZeroAByCode N E) (centredPairs N E) o n → centredRoots N E k → n ≤ k * mostPairs valence N
+looked-zero-a-by-code N E = middles-value-most E
+
+pub looked-a-zero-by-code :
+    (N : ℕ) (E : List ℕ) (o : Outcome ℕ) (n k : ℕ) → Reporting (AZeroByCode N E) (centredPairs N E) o n → centredRoots N E k → n ≤ k * mostPairs valence N
+looked-a-zero-by-code N E = middles-value-most E
+
+pub looked-write-line :
+    (N : ℕ) (E old new : List ℕ) (o : Outcome ℕ) (n k : ℕ) → Reporting (WriteLine N E old new) (centredPairs N E) o n → centredRoots N E k
+    → n ≤ k * mostPairs valence N
+looked-write-line N E old new = middles-most E
+
+pub looked-equal-vertices :
+    (N : ℕ) (E old new : List ℕ) (o : Outcome ℕ) (n k : ℕ) → Reporting (EqualVertices N E old new) (centredPairs N E) o n → centredRoots N E k
+    → n ≤ k * mostPairs valence N
+looked-equal-vertices N E old new = middles-most E

@@ -1,0 +1,167 @@
+-- Read from its promise alone, every public call that reports how many pairs it looked at has one possible result, its answer and the number, and
+-- one possible state of its lent output. r, s: the call's own results; new, new′: the output after it. Of the answer alone this is said in `One`,
+-- `OneBits`, `OneMatrix` and `OneText`, which are cited here.
+--
+-- In order: the law; what is counted is one; the calls. Assumes nothing.
+use mathlib.Core.Path.{_≡_, refl, sym, ap₂, subst, _∙_}
+use mathlib.Core.List.{List}
+use Prim.Native.Nat.{ℕ, _+_}
+use Rattle.refusal.specs.document.Table.{Clear, OutcomeOf, Outcome, gives, refuses, kept, Answered, Gives}
+use Rattle.refusal.specs.document.Outcome.{told, numbered}
+use Rattle.refusal.specs.declared.Answer.{Answer}
+use Rattle.refusal.specs.declared.Number.{Number}
+use Rattle.refusal.specs.Giving.{gave, gave-value}
+use Rattle.fraction.specs.document.Outcome.{toldFraction}
+use Rattle.fraction.specs.declared.Fraction.{Fraction}
+use Rattle.limits.specs.document.Limits.{valence}
+use Rattle.edge_list.specs.document.Edges.{edgeRows}
+use Rattle.form.specs.document.Form.{nTuple, centred}
+use Rattle.form_coder.specs.document.Pairs.{centredPairs, nTuplePairs}
+use Rattle.form_coder.specs.Sums.{one-over-middles, one-over-widest}
+use Rattle.zurkhovel.specs.declared.codes.Verdict.{Verdict}
+use Rattle.zurkhovel.specs.declared.reported.Reported.{Reported}
+use Rattle.zurkhovel.specs.declared.reported.ReportedNumber.{ReportedNumber}
+use Rattle.zurkhovel.specs.declared.reported.ReportedFraction.{ReportedFraction}
+use Rattle.zurkhovel.specs.declared.reported.ReportedVerdict.{ReportedVerdict}
+use Rattle.zurkhovel.specs.document.Codes.{RootedCode, FormCode}
+use Rattle.zurkhovel.specs.document.Same.{said, SameSkeleton}
+use Rattle.zurkhovel.specs.document.Bits.{Pack, Whole, InFraction}
+use Rattle.zurkhovel.specs.document.Matrix.{CamByCode, ZeroAByCode, AZeroByCode}
+use Rattle.zurkhovel.specs.document.Lines.{WriteLine}
+use Rattle.zurkhovel.specs.document.Alike.{EqualVertices}
+use Rattle.zurkhovel.specs.document.Reported.{Reports, Reporting, atRoot, OfBoth, coded, not-coded}
+use Rattle.zurkhovel.specs.Accepted.{tree-of}
+use Rattle.zurkhovel.specs.Theorems.{both-clear}
+use Rattle.zurkhovel.specs.One as codes
+use Rattle.zurkhovel.specs.OneBits as bits
+use Rattle.zurkhovel.specs.OneMatrix as matrix
+use Rattle.zurkhovel.specs.OneText as text
+
+-- ---- the law
+
+-- where something is given, what is counted is one
+abbrev pub OneCount : {K A : Type 0} → (OutcomeOf K A → Type 0) → (ℕ → Type 0) → Type 0
+OneCount {A = A} P Count = (a : A) → P (gives a) → (n m : ℕ) → Count n → Count m → n ≡ m
+
+-- tell: what is told of a result
+one-number :
+    {R K A : Type 0} {P Q : OutcomeOf K A → Type 0} {Count : ℕ → Type 0} (tell : R → OutcomeOf K A) → OneCount P Count → (r s : R) (n m : ℕ) → r ≡ s
+    → Reporting P Count (tell r) n → Reporting Q Count (tell s) m → n ≡ m
+one-number {R} {K} {A} {P} {Q} {Count} tell one r s n m e x y = by (tell r) (x .promised) (x .reported) (subst (λ w. Reports Count (tell w) m) (sym e) (y .reported))
+  where
+    by : (o : OutcomeOf K A) → P o → Reports Count o n → Reports Count o m → n ≡ m
+    by (gives a) p x y = one a p n m x y
+    by (refuses k j) p x y = x ∙ sym y
+
+-- of a call that writes
+one-written :
+    {P Q : Outcome ℕ → Type 0} {Count : ℕ → Type 0} {new new′ : List ℕ} → ((r s : Answer) → P (told r) → Q (told s) → (r ≡ s) × (new ≡ new′))
+    → OneCount P Count → (r s : Reported) → Reporting P Count (told (r .answer)) (r .pairs) → Reporting Q Count (told (s .answer)) (s .pairs)
+    → (r ≡ s) × (new ≡ new′)
+one-written f one r s x y =
+    let (e, l) = f (r .answer) (s .answer) (x .promised) (y .promised) in
+    (ap₂ (λ (a : Answer) (n : ℕ). record { answer = a; pairs = n }) e (one-number told one (r .answer) (s .answer) (r .pairs) (s .pairs) e x y), l)
+
+-- of a call that is asked for a whole number
+one-valued :
+    {P : Outcome ℕ → Type 0} {Count : ℕ → Type 0} → ((r s : Number) → P (numbered r) → P (numbered s) → r ≡ s) → OneCount P Count → (r s : ReportedNumber)
+    → Reporting P Count (numbered (r .answer)) (r .pairs) → Reporting P Count (numbered (s .answer)) (s .pairs) → r ≡ s
+one-valued f one r s x y =
+    let e = f (r .answer) (s .answer) (x .promised) (y .promised) in
+    ap₂ (λ (a : Number) (n : ℕ). record { answer = a; pairs = n }) e (one-number numbered one (r .answer) (s .answer) (r .pairs) (s .pairs) e x y)
+
+-- ---- what is counted
+
+one-root : (N : ℕ) (E : List ℕ) (root n m : ℕ) → atRoot N E root n → atRoot N E root m → n ≡ m
+one-root N E root n m x y = x ∙ sym y
+
+-- of an accepted list
+one-centred : {most : ℕ} (N : ℕ) (E : List ℕ) → Clear (edgeRows most valence N E 1) → (n m : ℕ) → centredPairs N E n → centredPairs N E m → n ≡ m
+one-centred N E k n m x y = one-over-middles (tree-of N E 1 k) x y
+
+one-middles :
+    {most N : ℕ} {E old new : List ℕ} {Right : List ℕ → Type 0} → OneCount (Gives (edgeRows most valence N E 1) Right old new) (centredPairs N E)
+one-middles {N = N} {E} a p = one-centred N E (gave p .0)
+
+one-middles-value : {most N : ℕ} {E : List ℕ} {A : Type 0} {Right : A → Type 0} → OneCount (Answered (edgeRows most valence N E 1) Right) (centredPairs N E)
+one-middles-value {N = N} {E} a p = one-centred N E (gave-value p .0)
+
+one-both : (N : ℕ) (E : List ℕ) (P : ℕ) (F : List ℕ) → OneCount (SameSkeleton N E P F) (OfBoth N E P F)
+one-both N E P F a (kept c r) n m x y = by x y
+  where
+    by : {n m : ℕ} → OfBoth N E P F n → OfBoth N E P F m → n ≡ m
+    by (coded e u v) (coded f w z) = let (k, l) = both-clear N P E F .0 c in ap₂ _+_ (one-centred N E k _ _ u w) (one-centred P F l _ _ v z)
+    by (coded e u v) (not-coded f) = absurd (f e)
+    by (not-coded e) (coded f w z) = absurd (e f)
+    by (not-coded e) (not-coded f) = refl
+
+-- ---- the calls
+
+pub one-rooted-code-reported :
+    (N : ℕ) (E : List ℕ) (root : ℕ) (old new new′ : List ℕ) (r s : Reported)
+    → Reporting (RootedCode N E root old new) (atRoot N E root) (told (r .answer)) (r .pairs)
+    → Reporting (RootedCode N E root old new′) (atRoot N E root) (told (s .answer)) (s .pairs) → (r ≡ s) × (new ≡ new′)
+one-rooted-code-reported N E root old new new′ = one-written (codes.one-rooted-code N E root old new new′) (λ a p. one-root N E root)
+
+pub one-n-tuple-code-reported :
+    (N : ℕ) (E old new new′ : List ℕ) (r s : Reported)
+    → Reporting (FormCode nTuple N E old new) (nTuplePairs N E) (told (r .answer)) (r .pairs)
+    → Reporting (FormCode nTuple N E old new′) (nTuplePairs N E) (told (s .answer)) (s .pairs) → (r ≡ s) × (new ≡ new′)
+one-n-tuple-code-reported N E old new new′ = one-written (codes.one-n-tuple-code N E old new new′) (λ a p n m. one-over-widest)
+
+pub one-centred-code-reported :
+    (N : ℕ) (E old new new′ : List ℕ) (r s : Reported)
+    → Reporting (FormCode centred N E old new) (centredPairs N E) (told (r .answer)) (r .pairs)
+    → Reporting (FormCode centred N E old new′) (centredPairs N E) (told (s .answer)) (s .pairs) → (r ≡ s) × (new ≡ new′)
+one-centred-code-reported N E old new new′ = one-written (codes.one-centred-code N E old new new′) one-middles
+
+pub one-same-skeleton-reported :
+    (N : ℕ) (E : List ℕ) (P : ℕ) (F : List ℕ) (r s : ReportedVerdict)
+    → Reporting (SameSkeleton N E P F) (OfBoth N E P F) (said (r .answer)) (r .pairs)
+    → Reporting (SameSkeleton N E P F) (OfBoth N E P F) (said (s .answer)) (s .pairs) → r ≡ s
+one-same-skeleton-reported N E P F r s x y =
+    let e = codes.one-same-skeleton N E P F (r .answer) (s .answer) (x .promised) (y .promised) in
+    ap₂ (λ (a : Verdict) (n : ℕ). record { answer = a; pairs = n }) e (one-number said (one-both N E P F) (r .answer) (s .answer) (r .pairs) (s .pairs) e x y)
+
+pub one-pack-reported :
+    (N : ℕ) (E : List ℕ) (root : ℕ) (old new new′ : List ℕ) (r s : Reported)
+    → Reporting (Pack N E root old new) (atRoot N E root) (told (r .answer)) (r .pairs)
+    → Reporting (Pack N E root old new′) (atRoot N E root) (told (s .answer)) (s .pairs) → (r ≡ s) × (new ≡ new′)
+one-pack-reported N E root old new new′ = one-written (bits.one-pack N E root old new new′) (λ a p. one-root N E root)
+
+pub one-whole-reported :
+    (N : ℕ) (E : List ℕ) (root : ℕ) (r s : ReportedNumber) → Reporting (Whole N E root) (atRoot N E root) (numbered (r .answer)) (r .pairs)
+    → Reporting (Whole N E root) (atRoot N E root) (numbered (s .answer)) (s .pairs) → r ≡ s
+one-whole-reported N E root = one-valued (bits.one-whole N E root) (λ a p. one-root N E root)
+
+pub one-fraction-reported :
+    (N : ℕ) (E : List ℕ) (root : ℕ) (r s : ReportedFraction) → Reporting (InFraction N E root) (atRoot N E root) (toldFraction (r .answer)) (r .pairs)
+    → Reporting (InFraction N E root) (atRoot N E root) (toldFraction (s .answer)) (s .pairs) → r ≡ s
+one-fraction-reported N E root r s x y =
+    let e = bits.one-fraction N E root (r .answer) (s .answer) (x .promised) (y .promised) in
+    ap₂ (λ (a : Fraction) (n : ℕ). record { answer = a; pairs = n }) e (one-number toldFraction (λ a p. one-root N E root) (r .answer) (s .answer) (r .pairs) (s .pairs) e x y)
+
+pub one-cam-by-code-reported :
+    (N : ℕ) (E old new new′ : List ℕ) (r s : Reported) → Reporting (CamByCode N E old new) (centredPairs N E) (told (r .answer)) (r .pairs)
+    → Reporting (CamByCode N E old new′) (centredPairs N E) (told (s .answer)) (s .pairs) → (r ≡ s) × (new ≡ new′)
+one-cam-by-code-reported N E old new new′ = one-written (matrix.one-cam-by-code N E old new new′) one-middles
+
+pub one-zero-a-by-code-reported :
+    (N : ℕ) (E : List ℕ) (r s : ReportedNumber) → Reporting (ZeroAByCode N E) (centredPairs N E) (numbered (r .answer)) (r .pairs)
+    → Reporting (ZeroAByCode N E) (centredPairs N E) (numbered (s .answer)) (s .pairs) → r ≡ s
+one-zero-a-by-code-reported N E = one-valued (matrix.one-zero-a-by-code N E) one-middles-value
+
+pub one-a-zero-by-code-reported :
+    (N : ℕ) (E : List ℕ) (r s : ReportedNumber) → Reporting (AZeroByCode N E) (centredPairs N E) (numbered (r .answer)) (r .pairs)
+    → Reporting (AZeroByCode N E) (centredPairs N E) (numbered (s .answer)) (s .pairs) → r ≡ s
+one-a-zero-by-code-reported N E = one-valued (matrix.one-a-zero-by-code N E) one-middles-value
+
+pub one-write-line-reported :
+    (N : ℕ) (E old new new′ : List ℕ) (r s : Reported) → Reporting (WriteLine N E old new) (centredPairs N E) (told (r .answer)) (r .pairs)
+    → Reporting (WriteLine N E old new′) (centredPairs N E) (told (s .answer)) (s .pairs) → (r ≡ s) × (new ≡ new′)
+one-write-line-reported N E old new new′ = one-written (text.one-write-line N E old new new′) one-middles
+
+pub one-equal-vertices-reported :
+    (N : ℕ) (E old new new′ : List ℕ) (r s : Reported) → Reporting (EqualVertices N E old new) (centredPairs N E) (told (r .answer)) (r .pairs)
+    → Reporting (EqualVertices N E old new′) (centredPairs N E) (told (s .answer)) (s .pairs) → (r ≡ s) × (new ≡ new′)
+one-equal-vertices-reported N E old new new′ = one-written (text.one-equal-vertices N E old new new′) one-middles
