@@ -26,7 +26,7 @@ static void labelled(void)
 }
 
 /* Every rooted tree of up to 12 vertices, from every skeleton at each of its vertices. The largest numbers of pairs by
- * size were counted by hand elsewhere. */
+ * size are those of a count that neither the library nor this program made. */
 static void rooted_trees(void)
 {
     static const uint64_t largest[] = {0, 0, 0, 1, 3, 6, 6, 7, 9, 12, 12, 15, 15};
