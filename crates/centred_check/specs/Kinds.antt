@@ -5,10 +5,9 @@ use mathlib.Core.Bool.{Bool, true, false}
 use Prim.Native.Nat.{ℕ, _+_, _-_, _%_, _≤_}
 use native.Mathlib.Omega.{arith}
 use Rattle.limits.specs.Atoms.{atomNames, atomBonds}
-use Rattle.skeleton.specs.Label.{Marks}
+use Rattle.skeleton.specs.Label.{Marks, more, fewer}
 use Rattle.skeleton.specs.Base.{base}
 use Rattle.skeleton.specs.Atoms.{Atom, C, N, O, rank, named, bonds, atoms, rank-named}
-use Rattle.centred_check.specs.Middle.{more, fewer}
 
 abbrev pub kinds : Bool → Marks
 kinds false = base

@@ -1,5 +1,6 @@
 -- A partner's edge list: its refusals, its table of neighbours, and what an accepted list is. Assumes nothing.
 pub mod Table
+pub mod Naming
 pub mod Prefix
 pub mod Joined
 pub mod Parts
@@ -7,5 +8,6 @@ pub mod Count
 pub mod Joins
 pub mod Bridge
 pub mod Tables
+pub mod Letters
 pub mod Theorems
 pub mod document

@@ -1,4 +1,4 @@
-// A partner's edge list: its refusals 3 and 5 to 9, and the table of its neighbours.
+// A partner's edge list: its refusals 3 and 5 to 9, and the table of its neighbours; the atoms that letters name.
 //
 // An edge list is flat, one byte for each end. Edges count from 1, as the places of the refusals do.
 use limits::SIZE;
@@ -15,8 +15,10 @@ ghost use Rattle.refusal.specs.Checks.{Answers};
 ghost use Rattle.limits.specs.document.Limits.{size};
 ghost use Rattle.limits.specs.Width.{width};
 ghost use Rattle.skeleton.specs.document.Skeleton.{IsSkeleton};
+ghost use Rattle.skeleton.specs.Atoms.{rank};
 ghost use Rattle.edge_list.specs.document.Edges.{Edge, firstEnd, secondEnd, row5-edges, row6, row7, row8, row9, edgeRows};
-ghost use Rattle.edge_list.specs.Table.{Shaped, IsTable};
+ghost use Rattle.edge_list.specs.document.Letters.{atomOf, atomAt};
+ghost use Rattle.edge_list.specs.Table.{Shaped, IsTable, Named};
 ghost use Rattle.edge_list.specs.Parts.{Parted, Links, Top, Room, Added};
 
 // A byte as a number that counts places.
@@ -242,5 +244,30 @@ pub fn fill(n: usize, edges: &[u8], rows: &mut [[u8; WIDTH]; SIZE], degs: &mut [
         add(rows, degs, a, b);
         add(rows, degs, b, a);
         p += 1;
+    }
+}
+
+// The rank of a letter's atom. A byte that is no letter stands for carbon.
+fn ranked(letter: u8) -> u8
+    ensures { λ r. ⌜ r ≡ rank (atomOf letter) ⌝ }
+{
+    if letter == b'N' {
+        return 1;
+    }
+    if letter == b'O' {
+        return 2;
+    }
+    0
+}
+
+// The atoms that letters name, one for each vertex.
+pub fn name(letters: &[u8], atoms: &mut [u8; SIZE])
+    requires { ⌜ (length (now letters) ≤ size) × (length (now atoms) ≡ size) ⌝ }
+    ensures { λ _. ⌜ Named (length (now (letters .entry))) (atomAt (now (letters .entry))) (now (atoms .exit)) ⌝ }
+{
+    let mut i = 0;
+    while i < letters.len() {
+        atoms[i] = ranked(letters[i]);
+        i += 1;
     }
 }

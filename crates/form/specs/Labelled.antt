@@ -17,6 +17,7 @@ use Rattle.skeleton.specs.Label.{Marks, rootedₗ, digits, labels, Keeps, IsRoo
 use Rattle.skeleton.specs.General.{code-length, decoded-tree, code-decode, equal-codes}
 use Rattle.longest_path.specs.Theorems.{centre-inside}
 use Rattle.form.specs.document.Form.{NTuple, Centred}
+use Rattle.form.specs.document.Root.{RootOf}
 use Rattle.form.specs.One.{one-n-tuple, one-centred, some-n-tuple, some-centred}
 use Rattle.form.specs.Carried.{rooted-carriedₗ, carry-n-tuple, carry-centred}
 
@@ -27,6 +28,10 @@ module _ (M : Marks) where
 
   abbrev pub centredₗ : ℕ → List ℕ → (ℕ → M .Label) → List ℕ → Type 0
   centredₗ N E l c = Centred N E (rootedₗ M l N E) c
+
+  -- r is the root of the centred code's numbering
+  abbrev pub CentredRootₗ : ℕ → List ℕ → (ℕ → M .Label) → ℕ → Type 0
+  CentredRootₗ N E l r = RootOf N E (rootedₗ M l N E) r
 
   -- c is the code of what it decodes to
   abbrev pub Own : (ℕ → List ℕ → (ℕ → M .Label) → List ℕ → Type 0) → List ℕ → Type 0

@@ -3,6 +3,8 @@ pub mod One
 pub mod Root
 pub mod Carried
 pub mod Labelled
+pub mod Rewritten
+pub mod Lettered
 pub mod Forms
 pub mod Accepted
 pub mod Theorems

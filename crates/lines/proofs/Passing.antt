@@ -19,7 +19,7 @@ use Rattle.edition.specs.document.Edition.{neighboursIn}
 use Rattle.lines.specs.document.Reading.{digitsLent, linesOf, LineRead, TextRead}
 use Rattle.lines.specs.Plain.{plain-once, plain-few}
 use Rattle.lines.specs.document.Judged.{digitTable}
-use Rattle.lines.proofs.Forming.{rest-is}
+use Rattle.lines.specs.Forming.{rest-is}
 
 module _ {t : List ℕ} {at e : ℕ} (l : at < length t) (u : UpTo (take (length t - at) (drop at t)) e) where
   pub behind-last : e ≡ length t - at → Behind t at (length t)

@@ -3,7 +3,8 @@
 -- marks there [..] are 2." "Its reader takes no other lines, and is lent 64 bytes more for each, for the letters."
 --
 -- In order: a record; a line as it is written; the form of a line that is read; row 21; the format; reading into two lent areas.
--- Which rows judge the digits with their letters, 10, 20 and 11 to 14, is a parameter here, and so is the largest N. Assumes nothing.
+-- Which rows judge the digits with their letters, 10, 20 and 11 to 14, is a parameter here, and so is the largest N; they are in `NamedTable`.
+-- Assumes nothing.
 use mathlib.Core.Path.{_≡_}
 use mathlib.Core.Logic.{_⊎_}
 use mathlib.Core.List.{List, [], _∷_, map}

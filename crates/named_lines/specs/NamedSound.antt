@@ -66,7 +66,7 @@ told (b ∷ t) l = go (l .0) (told t (l .1))
         let z = is 79 e in
         record { number = omega (arith, r .number); total = omega (arith, r .total) }
 
-marks-letters : (t : List ℕ) → Each Letter t → Marks t
+pub marks-letters : (t : List ℕ) → Each Letter t → Marks t
 marks-letters t l = each-follows {P = Letter} (λ a h. ⊎-elim (λ e. omega (arith, e)) (λ g. ⊎-elim (λ e. omega (arith, e)) (λ e. omega (arith, e)) g) h) t l
 
 -- ---- a text has the form in one way

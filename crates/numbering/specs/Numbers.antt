@@ -121,6 +121,14 @@ module _ (M : Marks) (N : ℕ) (E F : List ℕ) (r q : ℕ) (l k : ℕ → M .La
         },
       )
 
+-- trees with equal codes: the orders of their marks side by side are a renumbering that keeps the labels, root to root
+pub orders-besideₗ : (M : Marks) (N : ℕ) (E F : List ℕ) (r q : ℕ) (l k : ℕ → M .Label) → IsTree N E → 1 ≤ r → r ≤ N → IsTree N F → 1 ≤ q → q ≤ N → rootedₗ M l N E r ≡ rootedₗ M k N F q
+    → (ρ : Renumbering N E F) × (ρ .to r ≡ q) × Keeps M N E F l k ρ × ((i : ℕ) → i < N → ρ .to (getD (orderₗ M l N E r) i 0) ≡ getD (orderₗ M k N F q) i 0)
+orders-besideₗ M N E F r q l k t a b u i j e =
+    let (ρ, x) =
+    beside M N E F r q l k (markAt M l E r) (markAt M k F q) (orderₗ M l N E r) (orderₗ M k N F q) (orderₗ-numbers M l N E r t a b) (orderₗ-numbers M k N F q u i j) (rooted-tree N F q u i j) e in
+    (ρ, x .root, x .keeps, x .at)
+
 -- ---- document 01's codes
 
 module _ (N : ℕ) (E : List ℕ) (r : ℕ) where
@@ -153,7 +161,5 @@ pub orders-beside : (N : ℕ) (E F : List ℕ) (r q : ℕ) → IsTree N E → 1 
 unfolding order orderₗ
 orders-beside N E F r q t a b u i j e =
     let l : ℕ → base .Label = λ v. tt in
-    let (ρ, x) =
-    beside base N E F r q l l (markAt base l E r) (markAt base l F q) (order N E r) (order N F q) (orderₗ-numbers base l N E r t a b) (orderₗ-numbers base l N F q u i j) (rooted-tree N F q u i j)
-    (rooted-base l N E r ∙ e ∙ sym (rooted-base l N F q)) in
-    (ρ, x .root, x .at)
+    let (ρ, root, keeps, at) = orders-besideₗ base N E F r q l l t a b u i j (rooted-base l N E r ∙ e ∙ sym (rooted-base l N F q)) in
+    (ρ, root, at)

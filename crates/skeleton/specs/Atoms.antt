@@ -1,9 +1,9 @@
 -- Named atoms: a vertex is carbon, nitrogen or oxygen. Its mark is three times its digit and the atom's rank, so that marks are compared
 -- by the digit first and then by the atom (`by-digit-then-atom`), and every number is a mark. Assumes nothing.
-use mathlib.Core.Path.{_≡_, refl}
+use mathlib.Core.Path.{_≡_, refl, ap, sym, _∙_}
 use mathlib.Core.Logic.{_↔_, _⊎_, inl, inr, ⊎-elim}
 use Prim.Native.Nat.{ℕ, zero, suc, _+_, _*_, _/_, _%_, _<_}
-use native.Mathlib.Decide.{decLt}
+use native.Mathlib.Decide.{ℕ-discrete, decLt}
 use native.Mathlib.Omega.{arith}
 use Rattle.skeleton.specs.Label.{Marks}
 
@@ -43,6 +43,14 @@ pub named-rank : (a : Atom) → named (rank a) ≡ a
 named-rank C = refl
 named-rank N = refl
 named-rank O = refl
+
+-- whether two atoms are the same
+pub same-atom : (a b : Atom) → Dec (a ≡ b)
+same-atom a b = step (ℕ-discrete (rank a) (rank b))
+  where
+    step : Dec (rank a ≡ rank b) → Dec (a ≡ b)
+    step (yes e) = yes (sym (named-rank a) ∙ ap named e ∙ named-rank b)
+    step (no n) = no (λ e. n (ap rank e))
 
 abbrev pub atoms : Marks
 atoms = record {

@@ -25,6 +25,13 @@ pub record Marks : Type 1 where
   pub mark-of : (m : ℕ) → mark (arity m) (atom m) ≡ m
 
 module _ (M : Marks) where
+  -- a mark that tells of one child more, and of one fewer
+  abbrev pub more : ℕ → ℕ
+  more m = M .mark (suc (M .arity m)) (M .atom m)
+
+  abbrev pub fewer : ℕ → ℕ
+  fewer m = M .mark (M .arity m - 1) (M .atom m)
+
   -- the mark of a vertex with the label a, then its children's codes, largest first
   unfoldable pub joinₗ : M .Label → List (List ℕ) → List ℕ
   joinₗ a cs = M .mark (length cs) a ∷ flatten (sort cs)

@@ -33,7 +33,7 @@ pub marks-number : {b : List ℕ} {n : ℕ} → IsNumber b n → Marks b
 marks-number h = rw (h .parts) (marks-figures (h .digits))
 
 -- further digits say no less
-says-least : (a : ℕ) (ds : List ℕ) → a ≤ says a ds
+pub says-least : (a : ℕ) (ds : List ℕ) → a ≤ says a ds
 unfolding says
 says-least a [] = omega arith
 says-least a (d ∷ ds) = omega (arith, says-least (10 * a + d) ds)

@@ -42,7 +42,7 @@ unfoldable pub tally : ℕ → List ℕ → ℕ
 tally a [] = 0
 tally a (b ∷ t) = ite (ℕ-discrete b a) 1 0 + tally a t
 
-tally-join : (a : ℕ) (s t : List ℕ) → tally a (s ++ t) ≡ tally a s + tally a t
+pub tally-join : (a : ℕ) (s t : List ℕ) → tally a (s ++ t) ≡ tally a s + tally a t
 unfolding tally
 tally-join a [] t = omega arith
 tally-join a (b ∷ s) t = omega (arith, tally-join a s t)
@@ -57,7 +57,7 @@ one-space : (s t : List ℕ) → tally 32 (s ++ (32 ∷ t)) ≡ tally 32 s + suc
 unfolding tally
 one-space s t = omega (arith, tally-join 32 s (32 ∷ t), if-pos {C = ℕ} (ℕ-discrete 32 32) refl 1 0)
 
-no-space : (t : List ℕ) → Marks t → Free 32 t
+pub no-space : (t : List ℕ) → Marks t → Free 32 t
 no-space t m = each-follows {P = λ b. 32 < b} (λ a l e. omega arith) t m
 
 spaces : (f : List ℕ) (r : List (List ℕ)) → Marked (f ∷ r) → tally 32 (spaced f r) ≡ length r

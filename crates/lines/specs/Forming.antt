@@ -2,12 +2,13 @@
 use mathlib.Core.Path.{_≡_, refl, sym, ap, _∙_}
 use mathlib.Core.Bool.{Bool, true, false}
 use mathlib.Core.List.{List, [], _∷_, _++_}
-use Prim.Native.Nat.{ℕ, _+_, _*_, _-_, _≤_, _<_}
+use Prim.Native.Nat.{ℕ, zero, suc, _+_, _*_, _-_, _≤_, _<_}
 use native.Mathlib.Omega.{arith}
 use lib.ListN.{length, getD, take, drop, length-append, length-drop}
-use lib.Seq.{append-snoc, drop-cons, drop-at, take-all}
+use lib.Seq.{append-snoc, drop-cons, drop-at, take-all, take-nil}
 use Rattle.lines.specs.declared.Opening.{Opening}
 use Rattle.lines.specs.declared.Opening.the-variants.{At, Nothing}
+use Rattle.laws.specs.Part.{part}
 use Rattle.texts.specs.document.Numerals.{figures, Digits, IsCount, one-digit, two-digits}
 use Rattle.lines.specs.Form.{Value, values, Figured, all, not-all, Begins, Opens, begins, begins-not, Forms, formed, unformed}
 use Rattle.lines.specs.document.Marks.{WrittenDigit, WrittenDigits}
@@ -67,7 +68,7 @@ module _ {b : List ℕ} where
 -- ---- the form of a line
 
 -- written digits are what their values are written as
-figures-values : (t : List ℕ) → WrittenDigits t → (figures (values t) ≡ t) × Digits (values t)
+pub figures-values : (t : List ℕ) → WrittenDigits t → (figures (values t) ≡ t) × Digits (values t)
 unfolding figures values
 figures-values [] f = (refl, tt)
 figures-values (b ∷ t) f =
@@ -75,7 +76,7 @@ figures-values (b ∷ t) f =
     let e : 48 + (b - 48) ≡ b = omega (arith, f .0) in
     (cc, (omega (arith, f .0), h .1))
 
-are-figures : (ds : List ℕ) → Digits ds → WrittenDigits (figures ds)
+pub are-figures : (ds : List ℕ) → Digits ds → WrittenDigits (figures ds)
 unfolding figures
 are-figures [] h = tt
 are-figures (d ∷ ds) h = (omega (arith, h .0), are-figures ds (h .1))
@@ -83,6 +84,13 @@ are-figures (d ∷ ds) h = (omega (arith, h .0), are-figures ds (h .1))
 -- what `&b[s..]` holds
 pub rest-is : (b : List ℕ) (s : ℕ) → take (length b - s) (drop s b) ≡ drop s b
 rest-is b s = take-all (length b - s) (drop s b) (simp length-drop (omega arith))
+
+-- and what stands in front of e of it
+pub drop-take : (s e : ℕ) (l : List ℕ) → drop s (take e l) ≡ part s e l
+drop-take zero e l = let q : e - 0 ≡ e = omega arith in rw q
+drop-take (suc s) zero l = let q : 0 - suc s ≡ 0 = omega arith in rw q
+drop-take (suc s) (suc e) [] = sym (take-nil (suc e - suc s))
+drop-take (suc s) (suc e) (a ∷ l) = let q : suc e - suc s ≡ e - s = omega arith in rw q (drop-take s e l)
 
 -- what was found at the beginning
 pub opened : {b : List ℕ} {o : Opening} {n s : ℕ} → Opens b o → o ≡ At n s → Begins b n s
@@ -95,11 +103,11 @@ unopened (begins-not h) e =
     unformed (λ q f.
     h (q .count) (length (f .count) + 1) (record { count = f .count; rest = figures (q .digits); counts = f .counts; parts = f .parts; start = refl }))
 
-figured : {t : List ℕ} {r : Bool} → Figured t r → r ≡ true → (1 ≤ length t) × WrittenDigits t
+pub figured : {t : List ℕ} {r : Bool} → Figured t r → r ≡ true → (1 ≤ length t) × WrittenDigits t
 figured (all l f) e = (l, f)
 figured (not-all h) e = let z : _≡_ {A = ℕ} 0 1 = cc in absurd (let n : ⊥ = omega arith in n)
 
-unfigured : {t : List ℕ} {r : Bool} → Figured t r → r ≡ false → 1 ≤ length t → WrittenDigits t → ⊥
+pub unfigured : {t : List ℕ} {r : Bool} → Figured t r → r ≡ false → 1 ≤ length t → WrittenDigits t → ⊥
 unfigured (all l f) e = let z : _≡_ {A = ℕ} 0 1 = cc in absurd (let n : ⊥ = omega arith in n)
 unfigured (not-all h) e = h
 
@@ -108,7 +116,7 @@ module _ {b : List ℕ} {n s : ℕ} (h : Begins b n s) where
   begins-within = omega (arith, h .start, simp length-append at (ap length (h .parts)))
 
   -- what follows the space
-  follows : drop s b ≡ h .rest
+  pub follows : drop s b ≡ h .rest
   follows =
       ap (drop s) (h .parts ∙ sym (append-snoc (h .count) 32 (h .rest)))
       ∙ drop-at (h .count ++ (32 ∷ [])) (h .rest) s (simp length-append (sym (h .start)))

@@ -1,20 +1,20 @@
--- `lines::feed` meets its contract: the loop keeps that no byte passed is a line feed. Assumes nothing.
+-- `lines::until` meets its contract: the loop keeps that no byte passed is k. Assumes nothing.
 use Prim.Native.Nat.{_-_}
 use native.Mathlib.Omega.{arith}
 use lib.ListN.{length}
 use Rattle.texts.specs.document.Bytes.{Other}
 use Rattle.texts.specs.Each.{Passed, passed-more}
-use Rattle.lines.proofs.feed.Statement.{statement}
-use Rattle.lines.proofs.feed.Tie as tie
+use Rattle.lines.proofs.until.Statement.{statement}
+use Rattle.lines.proofs.until.Tie as tie
 
 abbrev Inv-loop : tie.InvT-loop
-Inv-loop text i₀ i = Passed (Other 10) text i
+Inv-loop k t i₀ i = Passed (Other k) t i
 
 abbrev μ-loop : tie.MeasureT-loop
-μ-loop text i₀ i = length text - i
+μ-loop k t i₀ i = length t - i
 
-pub feed-spec : {M : Type 1} → statement M
-feed-spec =
+pub until-spec : {M : Type 1} → statement M
+until-spec =
     tie.close
     (tie.spec
     Inv-loop

@@ -1,0 +1,120 @@
+// Whether digits with an atom letter for each are a centred code: what is refused of them, in the order of the table. Marks are made of digits and
+// letters in one pass, and a right code is told by `centred_check` in another; only what is none is looked at row by row.
+use centred_check::STARTS;
+use centred_check::judged;
+use centred_check::most;
+use centred_check::scan;
+use limits::ATOMS;
+use limits::BONDS;
+use limits::SIZE;
+use limits::VALENCE;
+use refusal::Check;
+ghost use mathlib.Core.Path.{_≡_};
+ghost use mathlib.Core.List.{[], _∷_, _++_};
+ghost use Prim.Native.Nat.{_≤_};
+ghost use lib.ListN.{length};
+ghost use Rattle.refusal.specs.document.Table.{row3};
+ghost use Rattle.refusal.specs.Checks.{Answers};
+ghost use Rattle.limits.specs.document.Limits.{size, valence};
+ghost use Rattle.digit_code.specs.Digits.{digits};
+ghost use Rattle.skeleton.specs.Label.{row20};
+ghost use Rattle.skeleton.specs.Atoms.{rank, bonds, atoms};
+ghost use Rattle.form.specs.Labelled.{centredₗ, row14ₗ};
+ghost use Rattle.form.specs.Lettered.{atomOf, namedDigitRows, letteredRows};
+ghost use Rattle.lettered_check.specs.Rows.{Made};
+
+// 20: a digit above what its mark's atom allows, at the root one more; those behind the code's end too.
+fn bonded(ds: &[u8], code: &[u8]) -> Check
+    requires { ⌜ now ds ≡ digits (atoms .arity) (now code) ⌝ }
+    ensures { λ r. ⌜ Answers (row20 atoms bonds (now (code .entry)) ∷ []) r ⌝ }
+{
+    let mut p = 1;
+    while p <= code.len() {
+        let limit = most(true, BONDS, code[p - 1]);
+        if digit_code::top(limit, p) < ds[p - 1] {
+            return Check::Refuse(20, p);
+        }
+        p += 1;
+    }
+    Check::Passed
+}
+
+// 10, 20 and 11 to 13, looked for in this order.
+fn refused(ds: &[u8], code: &[u8]) -> Check
+    requires { ⌜ now ds ≡ digits (atoms .arity) (now code) ⌝ }
+    requires { ⌜ length (now ds) ≤ size ⌝ }
+    ensures { λ r. ⌜ Answers (namedDigitRows valence (now (ds .entry)) (now (code .entry))) r ⌝ }
+{
+    if let Check::Refuse(k, p) = digit_code::capped(VALENCE, ds) {
+        return Check::Refuse(k, p);
+    }
+    if let Check::Refuse(k, p) = bonded(ds, code) {
+        return Check::Refuse(k, p);
+    }
+    if let Check::Refuse(k, p) = digit_code::ended(ds) {
+        return Check::Refuse(k, p);
+    }
+    digit_code::ordered_marks(true, ds, code)
+}
+
+// Digits and their marks that are to be a centred code: 10, 20, 11 to 13, and 14.
+fn check_marks(ds: &[u8], code: &[u8]) -> Check
+    requires { ⌜ now ds ≡ digits (atoms .arity) (now code) ⌝ }
+    requires { ⌜ 1 ≤ length (now ds) ⌝ }
+    requires { ⌜ length (now ds) ≤ size ⌝ }
+    ensures { λ r. ⌜ Answers (namedDigitRows valence (now (ds .entry)) (now (code .entry)) ++ (row14ₗ atoms (centredₗ atoms) (now (code .entry)) ∷ [])) r ⌝ }
+{
+    let mut hs = [0u8; SIZE];
+    let mut starts = [0u8; STARTS];
+    let from = scan(true, VALENCE, ds, code, &mut hs, &mut starts);
+    if SIZE < from {
+        return refused(ds, code);
+    }
+    judged(true, ds, code, &hs, from)
+}
+
+// The rank of the atom that a letter names.
+fn rank(b: u8) -> u8
+    ensures { λ r. ⌜ r ≡ rank (atomOf b) ⌝ }
+{
+    if b == 67 {
+        return 0;
+    }
+    if b == 78 {
+        return 1;
+    }
+    2
+}
+
+// The marks of digits and letters, to the start of what is lent; false where a digit is above VALENCE.
+fn marks(ds: &[u8], letters: &[u8], out: &mut [u8]) -> bool
+    requires { ⌜ length (now letters) ≡ length (now ds) ⌝ }
+    requires { ⌜ length (now ds) ≤ length (now out) ⌝ }
+    ensures { λ r. ⌜ Made (now (ds .entry)) (now (letters .entry)) (now (out .entry)) (now (out .exit)) r ⌝ }
+{
+    let mut i = 0;
+    while i < ds.len() {
+        let k = ds[i];
+        if VALENCE < k {
+            return false;
+        }
+        out[i] = ATOMS * k + rank(letters[i]);
+        i += 1;
+    }
+    true
+}
+
+// Digits with a letter for each that are to be a centred code: 3, 10, 20, 11 to 13, and 14.
+pub fn check(ds: &[u8], letters: &[u8]) -> Check
+    requires { ⌜ length (now letters) ≡ length (now ds) ⌝ }
+    ensures { λ r. ⌜ Answers (row3 size (length (now (ds .entry))) ∷ letteredRows valence (now (ds .entry)) (now (letters .entry))) r ⌝ }
+{
+    if let Check::Refuse(k, p) = refusal::sized(ds.len(), SIZE) {
+        return Check::Refuse(k, p);
+    }
+    let mut ms = [0u8; SIZE];
+    if !marks(ds, letters, &mut ms) {
+        return digit_code::capped(VALENCE, ds);
+    }
+    check_marks(ds, &ms[..ds.len()])
+}
