@@ -14,7 +14,8 @@ use Rattle.laws.specs.document.Order.{_≽_, insert}
 use Rattle.laws.specs.Part.{part}
 use Rattle.digit_code.specs.document.Code.{codes}
 use Rattle.digit_code.specs.Digits.{digits}
-use Rattle.skeleton.specs.Label.{Marks, more, fewer}
+use Rattle.skeleton.specs.document.Label.{Marks}
+use Rattle.skeleton.specs.Label.{more, fewer}
 
 -- the greatest, 0 where there is none
 unfoldable pub top : List ℕ → ℕ

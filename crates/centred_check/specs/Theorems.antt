@@ -9,12 +9,14 @@ use Rattle.digit_code.specs.document.Code.{plain, decode}
 use Rattle.digit_code.specs.Ends.{Ends, ends-sum}
 use Rattle.digit_code.specs.Ordered.{Ordered}
 use Rattle.skeleton.specs.document.Skeleton.{IsTree}
-use Rattle.skeleton.specs.Label.{Marks, rootedₗ, digits, labels, IsRootedₗ}
+use Rattle.skeleton.specs.document.Label.{Marks, rootedₗ, digits, labels}
+use Rattle.skeleton.specs.Label.{IsRootedₗ}
 use Rattle.skeleton.specs.Base.{base, digits-base}
 use Rattle.skeleton.specs.General.{decode-code, decoded-tree}
 use Rattle.skeleton.specs.Ordered.{code-orderedₗ}
 use Rattle.form.specs.document.Form.{centred}
-use Rattle.form.specs.Labelled.{centredₗ, Own, centred-formₗ, is-rootedₗ}
+use Rattle.form.specs.document.Labelled.{centredₗ, Own}
+use Rattle.form.specs.Labelled.{centred-formₗ, is-rootedₗ}
 use Rattle.form.specs.Forms.{own-base}
 use Rattle.centred_check.specs.Middle.{Middle}
 use Rattle.centred_check.specs.Root.{middle-iff, centred-at, at-centred}

@@ -15,7 +15,8 @@ use Rattle.laws.specs.document.Once.{Once}
 use Rattle.digit_code.specs.document.Code.{codes}
 use Rattle.skeleton.specs.Forest.{Forest, tree, vertices, hung, Rooted}
 use Rattle.skeleton.specs.Forests.{count-vertices, distinct-once}
-use Rattle.skeleton.specs.Label.{Marks, more, fewer, joinₗ, rootedₗ, digits}
+use Rattle.skeleton.specs.document.Label.{Marks, joinₗ, rootedₗ, digits}
+use Rattle.skeleton.specs.Label.{more, fewer}
 use Rattle.skeleton.specs.Codes.{branches, rooted-join}
 use Rattle.skeleton.specs.Decoding.{width, shape, marks, marks-digits}
 use Rattle.skeleton.specs.Ordered.{strings, strings-length, strings-marks, codes-forest, first-codes, Down, down-branches}

@@ -26,7 +26,7 @@ ghost use Rattle.digit_code.specs.Ordered.{Ordered};
 ghost use Rattle.digit_code.specs.Right.{Rightₗ};
 ghost use Rattle.digit_code.specs.Compare.{lex, pairsOf, further};
 ghost use Rattle.form.specs.document.Form.{centred, row14-form, formRows};
-ghost use Rattle.form.specs.Labelled.{centredₗ, row14ₗ};
+ghost use Rattle.form.specs.document.Labelled.{centredₗ, row14ₗ};
 ghost use Rattle.centred_check.specs.Kinds.{kinds, limits, unit};
 ghost use Rattle.centred_check.specs.Middle.{top, rest, turned, branch, Middle};
 ghost use Rattle.centred_check.specs.Skip.{Skips};
@@ -146,7 +146,14 @@ fn rooted(
 
 // Reads the marks from the last to the first. The trees behind a mark stand on a stack that grows down from the end of `hs` and `starts`:
 // how tall each is, and where it begins. The result is where the root's branches stand, above SIZE where the marks are no right code.
-pub fn scan(named: bool, limit: u8, ds: &[u8], code: &[u8], hs: &mut [u8], starts: &mut [u8]) -> usize
+pub fn scan(
+    named: bool,
+    limit: u8,
+    ds: &[u8],
+    code: &[u8],
+    hs: &mut [u8],
+    starts: &mut [u8],
+) -> usize
     requires { ⌜ now ds ≡ digits (kinds named .arity) (now code) ⌝ }
     requires { ⌜ 1 ≤ limit ⌝ }
     requires { ⌜ length (now hs) ≡ size ⌝ }

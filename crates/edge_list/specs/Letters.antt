@@ -1,65 +1,24 @@
 -- What an accepted edge list with letters is (`letters-accepted`), and one of carbon alone (`carbon-accepted`).
 --
--- In order: letters and their atoms; row 20 and the bound on neighbours; the tables; an edge list of carbon alone is refused as one without letters.
--- Assumes nothing.
-use mathlib.Core.Path.{_≡_, refl, ap}
+-- In order: the tables; an edge list of carbon alone is refused as one without letters. Assumes nothing.
+use mathlib.Core.Path.{_≡_, ap}
 use mathlib.Core.Logic.{_↔_, inl, inr, ⊎-elim}
-use mathlib.Core.List.{List, [], _∷_, _++_, List·Memᴰ, List·Memᴰ·head, List·Memᴰ·tail}
-use Prim.Native.Nat.{ℕ, zero, suc, _-_, _≤_}
-use native.Mathlib.Decide.{ℕ-discrete}
+use mathlib.Core.List.{List, [], _∷_, _++_}
+use Prim.Native.Nat.{ℕ, _≤_}
 use native.Mathlib.Omega.{arith}
-use lib.ListN.{length, getD}
+use lib.ListN.{length}
 use Rattle.refusal.specs.document.Table.{Row, Clear, FirstRefusal, row3}
 use Rattle.refusal.specs.Laws.{never, others, clear-one, clear-both, clear-left, clear-right, refusal-front, refusal-back, refusal-either, refusal-behind, refusal-before}
 use Rattle.skeleton.specs.document.Skeleton.{degree, IsSkeleton}
 use Rattle.skeleton.specs.Label.{Valences}
-use Rattle.skeleton.specs.Atoms.{Atom, C, N, O, bonds, atoms, same-atom}
+use Rattle.skeleton.specs.document.Atom.{C, bonds, atomAt}
+use Rattle.skeleton.specs.document.AtomMarks.{atoms}
+use Rattle.skeleton.specs.Atoms.{same-atom}
+use Rattle.letters.specs.document.Letters.{row2-letters, row21-letters, row14-atom}
+use Rattle.letters.specs.Lettered.{Lettered, each-letter, so-many, AllCarbon, carbon-at, carbon-letters}
 use Rattle.edge_list.specs.document.Edges.{firstEnd, secondEnd, row5-edges, row6, row7, row8, row9, edgeRows}
-use Rattle.edge_list.specs.document.Letters.{letter, atomOf, atomAt, row2-letters, row20-edges, row21-letters, row14-atom, letterRows, carbonRows}
+use Rattle.edge_list.specs.document.Letters.{row20-edges, letterRows, carbonRows}
 use Rattle.edge_list.specs.Bridge.{small, room-left, is-skeleton, is-clear}
-
--- ---- letters
-
--- the letters name atoms, one for each of n vertices
-pub record Lettered (n : ℕ) (s : List ℕ) : Type 0 where
-  pub many : length s ≡ n
-  pub each : (b : ℕ) → List·Memᴰ b s → (a : Atom) × (b ≡ letter a)
-
--- the letter of an atom is its own
-pub letter-atom : (a : Atom) → atomOf (letter a) ≡ a
-unfolding atomOf ℕ-discrete
-letter-atom C = refl
-letter-atom N = refl
-letter-atom O = refl
-
--- a byte is a letter, or is not
-pub letter? : (b : ℕ) → Dec ((a : Atom) × (b ≡ letter a))
-letter? b = step (ℕ-discrete b 67) (ℕ-discrete b 78) (ℕ-discrete b 79)
-  where
-    step : Dec (b ≡ 67) → Dec (b ≡ 78) → Dec (b ≡ 79) → Dec ((a : Atom) × (b ≡ letter a))
-    step (yes e) y z = yes (C, e)
-    step (no x) (yes e) z = yes (N, e)
-    step (no x) (no y) (yes e) = yes (O, e)
-    step (no x) (no y) (no z) = no none
-      where
-        none : (a : Atom) × (b ≡ letter a) → ⊥
-        none (C, e) = x e
-        none (N, e) = y e
-        none (O, e) = z e
-
-each-letter : (s : List ℕ) → ((p : ℕ) → row2-letters s .applies p → ⊥) → (b : ℕ) → List·Memᴰ b s → (a : Atom) × (b ≡ letter a)
-each-letter s c b m = step (letter? b)
-  where
-    step : Dec ((a : Atom) × (b ≡ letter a)) → (a : Atom) × (b ≡ letter a)
-    step (yes l) = l
-    step (no n) = absurd (c 0 (refl, (b, m, λ a e. n (a, e))))
-
-so-many : (n : ℕ) (s : List ℕ) → ((p : ℕ) → row21-letters n s .applies p → ⊥) → length s ≡ n
-so-many n s c = step (ℕ-discrete (length s) n)
-  where
-    step : Dec (length s ≡ n) → length s ≡ n
-    step (yes e) = e
-    step (no k) = absurd (c 0 (refl, k))
 
 -- ---- the table
 
@@ -89,7 +48,7 @@ module _ (most R n : ℕ) (E : List ℕ) (r : ℕ) (s : List ℕ) where
       back : IsSkeleton most R n E × ((1 ≤ r) × (r ≤ n)) × Lettered n s × ((v : ℕ) → 1 ≤ v → v ≤ n → degree E v ≤ bonds (atomAt s v)) → Clear (letterRows most R n E r s)
       back (k, i, l, d) =
           let c : Clear (edgeRows most R n E r) = is-clear most R n E r k i in
-          let few : (p : ℕ) → row2-letters s .applies p → ⊥ = λ p (z, (b, m, f)). let (a, e) = l .each b m in f a e in
+          let few : (p : ℕ) → row2-letters s .applies p → ⊥ = λ p (z, f). f (l .each) in
           clear-both (clear-one {r = row2-letters s} few)
           (clear-both (clear-one {r = row3 most n} (never c))
           (clear-both (clear-one {r = row5-edges n E} (never (others c)))
@@ -109,24 +68,11 @@ module _ (most R n : ℕ) (E : List ℕ) (r : ℕ) (s : List ℕ) where
 
 -- ---- carbon alone
 
--- every letter is C
-abbrev pub AllCarbon : List ℕ → Type 0
-AllCarbon s = (b : ℕ) → List·Memᴰ b s → b ≡ letter C
-
-pub carbon-at : (s : List ℕ) → AllCarbon s → (v : ℕ) → atomAt s v ≡ C
-unfolding atomOf ℕ-discrete
-carbon-at s h v = at s h (v - 1)
-  where
-    at : (s : List ℕ) → AllCarbon s → (i : ℕ) → atomOf (getD s i 0) ≡ C
-    at [] h i = refl
-    at (x ∷ s) h zero = ap atomOf (h x (List·Memᴰ·head refl))
-    at (x ∷ s) h (suc i) = at s (λ b m. h b (List·Memᴰ·tail m)) i
-
 -- Letters that are all C refuse nothing where a vertex may have up to four neighbours: the list is refused as one without letters.
 module _ (most R n : ℕ) (E : List ℕ) (r : ℕ) (s : List ℕ) (low : R ≤ 4) (many : length s ≡ n) (h : AllCarbon s) where
   -- rows 2 and 21; then 20 and 14, which apply nowhere where 9 does not
   two : Clear (row2-letters s ∷ [])
-  two = clear-one {r = row2-letters s} (λ p (z, (b, m, f)). f C (h b m))
+  two = clear-one {r = row2-letters s} (λ p (z, f). f (carbon-letters s h))
 
   many-letters : Clear (row21-letters n s ∷ [])
   many-letters = clear-one {r = row21-letters n s} (λ p (z, f). f many)

@@ -1,9 +1,9 @@
 -- A partner's edge list: its refusals, its table of neighbours, and what an accepted list is. Assumes nothing.
 pub mod Table
-pub mod Naming
 pub mod Prefix
 pub mod Joined
 pub mod Parts
+pub mod Limited
 pub mod Count
 pub mod Joins
 pub mod Bridge

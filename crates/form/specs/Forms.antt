@@ -11,11 +11,12 @@ use Rattle.digit_code.specs.document.Code.{decode}
 use Rattle.digit_code.specs.Ends.{Ends}
 use Rattle.skeleton.specs.document.Skeleton.{IsTree, rooted, Renumbering}
 use Rattle.skeleton.specs.IsRooted.{IsRooted}
-use Rattle.skeleton.specs.Label.{rootedₗ, digits, labels}
+use Rattle.skeleton.specs.document.Label.{rootedₗ, digits, labels}
 use Rattle.skeleton.specs.Base.{base, rooted-base, digits-base}
 use Rattle.skeleton.specs.Theorems.{decode-code}
 use Rattle.form.specs.document.Form.{NTuple, Centred, nTuple, centred}
-use Rattle.form.specs.Labelled.{centredₗ, Own, IsFormₗ, n-tuple-formₗ, centred-formₗ, form-sizeₗ, form-decodedₗ, form-againₗ, form-verdictₗ}
+use Rattle.form.specs.document.Labelled.{centredₗ, Own}
+use Rattle.form.specs.Labelled.{IsFormₗ, n-tuple-formₗ, centred-formₗ, form-sizeₗ, form-decodedₗ, form-againₗ, form-verdictₗ}
 
 -- c is the rooted code of the tree at one of its vertices
 abbrev pub AtRoot : ℕ → List ℕ → List ℕ → Type 0

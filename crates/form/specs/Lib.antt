@@ -4,7 +4,6 @@ pub mod Root
 pub mod Carried
 pub mod Labelled
 pub mod Rewritten
-pub mod Lettered
 pub mod Forms
 pub mod Accepted
 pub mod Theorems

@@ -9,14 +9,15 @@ use Prim.Native.Nat.{ℕ}
 use Rattle.laws.specs.document.Order.{_≽_}
 use Rattle.laws.specs.Rising.{Rising, lists-back, same-order}
 use Rattle.skeleton.specs.document.Skeleton.{rooted}
-use Rattle.skeleton.specs.Label.{Marks, rootedₗ}
-use Rattle.skeleton.specs.Atoms.{atoms}
+use Rattle.skeleton.specs.document.Label.{Marks, rootedₗ}
+use Rattle.skeleton.specs.document.AtomMarks.{atoms}
 use Rattle.skeleton.specs.Rewritten.{Rewritten, rooted-rewritten}
 use Rattle.skeleton.specs.Carbon.{carbon, carbonMark, carbon-marks, all-carbon}
 use Rattle.form.specs.document.Form.{NTuple, Centred, nTuple, centred}
 use Rattle.form.specs.document.Root.{RootOf}
 use Rattle.form.specs.Root.{CentredRoot}
-use Rattle.form.specs.Labelled.{nTupleₗ, centredₗ, CentredRootₗ}
+use Rattle.form.specs.document.Labelled.{nTupleₗ, centredₗ}
+use Rattle.form.specs.Labelled.{CentredRootₗ}
 
 -- where d is to the codes `at` what c is to the codes `on`, it is of the form if c is
 module _ {N : ℕ} {E : List ℕ} {at on : ℕ → List ℕ} {c d : List ℕ} (is : (v : ℕ) → c ≡ on v → d ≡ at v) (above : (v : ℕ) → c ≽ on v → d ≽ at v) where

@@ -21,11 +21,13 @@ use Rattle.digit_code.specs.document.Code.{digit, cap, decode}
 use Rattle.digit_code.specs.Ends.{Ends}
 use Rattle.digit_code.specs.Right.{RightCode}
 use Rattle.skeleton.specs.document.Skeleton.{IsSkeleton}
-use Rattle.skeleton.specs.Label.{digits, labels}
-use Rattle.skeleton.specs.Atoms.{Atom, atoms}
+use Rattle.skeleton.specs.document.Label.{digits, labels}
+use Rattle.skeleton.specs.document.Atom.{Atom}
+use Rattle.skeleton.specs.document.AtomMarks.{atoms}
 use Rattle.skeleton.specs.Carbon.{carbon, carbonMark, carbon-digits, carbon-labels}
 use Rattle.form.specs.document.Form.{nTuple, row14-form}
-use Rattle.form.specs.Labelled.{nTupleₗ, Own, row14ₗ, IsFormₗ}
+use Rattle.form.specs.document.Labelled.{nTupleₗ, Own, row14ₗ}
+use Rattle.form.specs.Labelled.{IsFormₗ}
 use Rattle.form.specs.Rewritten.{n-tuple-carbon}
 use Rattle.form_coder.proofs.Written.{n-tuple-told}
 

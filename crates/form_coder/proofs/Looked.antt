@@ -10,7 +10,8 @@ use native.Mathlib.Omega.{arith}
 use Rattle.limits.specs.document.Limits.{size}
 use Rattle.limits.specs.Width.{width}
 use Rattle.skeleton.specs.document.Skeleton.{degree, IsSkeleton}
-use Rattle.skeleton.specs.Atoms.{Atom, atoms}
+use Rattle.skeleton.specs.document.Atom.{Atom}
+use Rattle.skeleton.specs.document.AtomMarks.{atoms}
 use Rattle.longest_path.specs.document.Path.{IsCentre}
 use Rattle.numbering.specs.Numbers.{pairsₗ}
 use Rattle.form_coder.specs.document.Pairs.{OverMiddles, ofDegree}

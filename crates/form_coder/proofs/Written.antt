@@ -19,16 +19,17 @@ use Rattle.refusal.specs.document.Table.{Writes}
 use Rattle.refusal.specs.Giving.{written}
 use Rattle.limits.specs.document.Limits.{size}
 use Rattle.skeleton.specs.document.Skeleton.{IsTree, rooted}
-use Rattle.skeleton.specs.Label.{rootedₗ, digits}
-use Rattle.skeleton.specs.Atoms.{Atom, atoms}
+use Rattle.skeleton.specs.document.Label.{rootedₗ, digits}
+use Rattle.skeleton.specs.document.Atom.{Atom}
+use Rattle.skeleton.specs.document.AtomMarks.{atoms}
 use Rattle.skeleton.specs.Carbon.{carbon, carbonMark, carbon-digits, all-carbon-digits}
 use Rattle.skeleton.specs.General.{code-length}
-use Rattle.edge_list.specs.Table.{Ranked, carbon-named}
+use Rattle.letters.specs.Named.{Ranked, carbon-named}
 use Rattle.numbering.specs.Rewritten.{order-carbon}
 use Rattle.longest_path.specs.document.Path.{IsCentre}
 use Rattle.longest_path.specs.Theorems.{centre-inside}
 use Rattle.form.specs.document.Form.{nTuple, centred}
-use Rattle.form.specs.Labelled.{nTupleₗ}
+use Rattle.form.specs.document.Labelled.{nTupleₗ}
 use Rattle.form.specs.One.{at-first, at-second}
 use Rattle.form.specs.Root.{root-first, root-second}
 use Rattle.form.specs.Rewritten.{n-tuple-carbon, centred-carbon, root-carbon}

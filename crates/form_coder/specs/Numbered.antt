@@ -6,8 +6,9 @@ use lib.ListN.{getD}
 use Rattle.laws.specs.Places.{place}
 use Rattle.digit_code.specs.document.Code.{decode}
 use Rattle.skeleton.specs.document.Skeleton.{rooted, Renumbering}
-use Rattle.skeleton.specs.Label.{rootedₗ}
-use Rattle.skeleton.specs.Atoms.{Atom, atoms}
+use Rattle.skeleton.specs.document.Label.{rootedₗ}
+use Rattle.skeleton.specs.document.Atom.{Atom}
+use Rattle.skeleton.specs.document.AtomMarks.{atoms}
 use Rattle.numbering.specs.document.Order as numbers
 use Rattle.numbering.specs.Numbers.{orderₗ}
 use Rattle.form.specs.document.Form.{Centred, centred}

@@ -16,7 +16,8 @@ use Rattle.longest_path.specs.document.Path.{IsCentre}
 use Rattle.longest_path.specs.Theorems.{one-centre, centre-inside}
 use Rattle.numbering.specs.document.Pairs.{rootedPairs, log2}
 use Rattle.skeleton.specs.Base.{base}
-use Rattle.skeleton.specs.Atoms.{Atom, atoms}
+use Rattle.skeleton.specs.document.Atom.{Atom}
+use Rattle.skeleton.specs.document.AtomMarks.{atoms}
 use Rattle.skeleton.specs.Carbon.{carbon}
 use Rattle.numbering.specs.Numbers.{pairsₗ}
 use Rattle.numbering.specs.Rewritten.{carbon-counted}

@@ -9,4 +9,5 @@ pub mod Places
 pub mod Part
 pub mod Falling
 pub mod Tells
+pub mod Each
 pub mod document

@@ -10,10 +10,12 @@ use Rattle.laws.specs.document.Order.{_≽_, dec≽, insert}
 use Rattle.refusal.specs.document.Table.{FirstRefusal}
 use Rattle.refusal.specs.Laws.{clear-one, first-place, refusal-front, refusal-back}
 use Rattle.digit_code.specs.document.Code.{codes, row10, row11, row12, row13}
-use Rattle.skeleton.specs.Label.{digits, row20}
-use Rattle.skeleton.specs.Atoms.{atoms, bonds}
-use Rattle.form.specs.Labelled.{centredₗ, Own, row14ₗ}
-use Rattle.form.specs.Lettered.{atomOf, marksOf, letteredRows}
+use Rattle.skeleton.specs.document.Label.{digits, row20}
+use Rattle.skeleton.specs.document.Atom.{bonds}
+use Rattle.skeleton.specs.document.AtomMarks.{atoms}
+use Rattle.form.specs.document.Labelled.{centredₗ, Own, row14ₗ}
+use Rattle.skeleton.specs.document.Atom.{atomOf}
+use Rattle.lettered_check.specs.document.Lettered.{marksOf, letteredRows}
 use Rattle.centred_check.specs.Middle.{top, peak, second, heights, branch, rest, turned, other, Middle}
 use Rattle.centred_check.specs.Theorems.{rooted-centredₗ}
 

@@ -16,10 +16,13 @@ use Rattle.refusal.specs.declared.Check.{Check}
 use Rattle.digit_code.specs.document.Code.{cap, row10}
 use Rattle.digit_code.specs.Digits as CodeSaid
 use Rattle.digit_code.specs.Right.{Rightₗ}
-use Rattle.skeleton.specs.Label.{digits, markRows}
-use Rattle.skeleton.specs.Atoms.{Atom, C, N, O, rank, bonds, atoms}
+use Rattle.skeleton.specs.document.Label.{digits}
+use Rattle.skeleton.specs.Label.{markRows}
+use Rattle.skeleton.specs.document.Atom.{Atom, C, N, O, rank, bonds}
+use Rattle.skeleton.specs.document.AtomMarks.{atoms}
 use Rattle.skeleton.specs.Accepted.{right-marks}
-use Rattle.form.specs.Lettered.{atomOf, marksOf, namedDigitRows}
+use Rattle.skeleton.specs.document.Atom.{atomOf}
+use Rattle.lettered_check.specs.document.Lettered.{marksOf, namedDigitRows}
 use Rattle.centred_check.specs.Kinds.{limits}
 
 bonds-most : (a : Atom) → bonds a ≤ valence
@@ -57,18 +60,6 @@ pub clear-on : {xs ys : List Row} {r : Check} → Clear xs → Answers ys r → 
 clear-on k a = goes-on (passes k) refl a
 
 -- ---- marks of digits and letters
-
-pub rank-c : (b : ℕ) → b ≡ 67 → 0 ≡ rank (atomOf b)
-unfolding atomOf
-rank-c b e = ap rank (sym (if-pos {C = Atom} (ℕ-discrete b 67) e C _))
-
-pub rank-n : (b : ℕ) → (b ≡ 67 → ⊥) → b ≡ 78 → 1 ≡ rank (atomOf b)
-unfolding atomOf
-rank-n b n e = ap rank (sym (if-neg {C = Atom} (ℕ-discrete b 67) n C _ ∙ if-pos {C = Atom} (ℕ-discrete b 78) e N O))
-
-pub rank-o : (b : ℕ) → (b ≡ 67 → ⊥) → (b ≡ 78 → ⊥) → 2 ≡ rank (atomOf b)
-unfolding atomOf
-rank-o b n m = ap rank (sym (if-neg {C = Atom} (ℕ-discrete b 67) n C _ ∙ if-neg {C = Atom} (ℕ-discrete b 78) m N O))
 
 -- r tells whether the marks of ds and ls are written from the start; where they are not, row 10 applies to a digit
 pub record Made (ds ls old new : List ℕ) (r : Bool) : Type 0 where

@@ -17,10 +17,12 @@ ghost use Rattle.refusal.specs.document.Table.{row3};
 ghost use Rattle.refusal.specs.Checks.{Answers};
 ghost use Rattle.limits.specs.document.Limits.{size, valence};
 ghost use Rattle.digit_code.specs.Digits.{digits};
-ghost use Rattle.skeleton.specs.Label.{row20};
-ghost use Rattle.skeleton.specs.Atoms.{rank, bonds, atoms};
-ghost use Rattle.form.specs.Labelled.{centredₗ, row14ₗ};
-ghost use Rattle.form.specs.Lettered.{atomOf, namedDigitRows, letteredRows};
+ghost use Rattle.skeleton.specs.document.Label.{row20};
+ghost use Rattle.skeleton.specs.document.Atom.{rank, bonds};
+ghost use Rattle.skeleton.specs.document.AtomMarks.{atoms};
+ghost use Rattle.form.specs.document.Labelled.{centredₗ, row14ₗ};
+ghost use Rattle.skeleton.specs.document.Atom.{atomOf};
+ghost use Rattle.lettered_check.specs.document.Lettered.{namedDigitRows, letteredRows};
 ghost use Rattle.lettered_check.specs.Rows.{Made};
 
 // 20: a digit above what its mark's atom allows, at the root one more; those behind the code's end too.
@@ -73,19 +75,6 @@ fn check_marks(ds: &[u8], code: &[u8]) -> Check
     judged(true, ds, code, &hs, from)
 }
 
-// The rank of the atom that a letter names.
-fn rank(b: u8) -> u8
-    ensures { λ r. ⌜ r ≡ rank (atomOf b) ⌝ }
-{
-    if b == 67 {
-        return 0;
-    }
-    if b == 78 {
-        return 1;
-    }
-    2
-}
-
 // The marks of digits and letters, to the start of what is lent; false where a digit is above VALENCE.
 fn marks(ds: &[u8], letters: &[u8], out: &mut [u8]) -> bool
     requires { ⌜ length (now letters) ≡ length (now ds) ⌝ }
@@ -98,7 +87,7 @@ fn marks(ds: &[u8], letters: &[u8], out: &mut [u8]) -> bool
         if VALENCE < k {
             return false;
         }
-        out[i] = ATOMS * k + rank(letters[i]);
+        out[i] = ATOMS * k + letters::ranked(letters[i]);
         i += 1;
     }
     true

@@ -14,7 +14,7 @@ use Rattle.lines.specs.Form.{Value, values, Figured, all, not-all, Begin
 use Rattle.lines.specs.document.Marks.{WrittenDigit, WrittenDigits}
 use Rattle.texts.specs.Cuts.{cut-once}
 use Rattle.texts.specs.Numerals.{length-figures, count-free}
-use Rattle.texts.specs.Each.{each-at}
+use Rattle.laws.specs.Each.{each-at}
 use Rattle.lines.specs.Taking.{length-values}
 
 pub value-digit : {b v : ℕ} → Value b v → (v ≡ 10 → ⊥) → (v ≤ 9) × (b ≡ 48 + v)

@@ -11,7 +11,7 @@ use Rattle.digit_code.specs.Ends.{ends-iff, ends-sum}
 use Rattle.refusal.specs.document.Table.{Row, Clear}
 use Rattle.refusal.specs.Laws.{never, others}
 use Rattle.texts.specs.document.Numerals.{Digit, Digits}
-use Rattle.texts.specs.Each.{each-of}
+use Rattle.laws.specs.Each.{each-of}
 
 -- a code that these rows do not refuse
 pub record Code (c : List ℕ) : Type 0 where

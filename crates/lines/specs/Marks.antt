@@ -9,10 +9,11 @@ use native.Mathlib.Omega.{arith}
 use lib.ListN.{length}
 use Rattle.refusal.specs.document.Table.{Outcome, refuses, left}
 use Rattle.limits.specs.document.Limits.{size}
-use Rattle.texts.specs.document.Bytes.{Each, Cut}
+use Rattle.laws.specs.document.Each.{Each}
+use Rattle.texts.specs.document.Bytes.{Cut}
 use Rattle.texts.specs.document.Numerals.{figures, Digits, IsCount, one-digit, two-digits}
 use Rattle.texts.specs.document.Text.{LineAnswers}
-use Rattle.texts.specs.Each.{each-join, each-right, each-follows}
+use Rattle.laws.specs.Each.{each-join, each-right, each-follows}
 use Rattle.texts.specs.Answered.{unformed-2, answered-once}
 use Rattle.texts.specs.Taking.{read-once}
 use Rattle.lines.specs.document.Line.{body, line, Front, front, Formed, plainLines, Reply}

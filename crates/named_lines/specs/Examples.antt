@@ -6,16 +6,17 @@ use Prim.Native.Nat.{ℕ}
 use native.Mathlib.Decide.{decLt, ℕ-discrete}
 use native.Mathlib.Omega.{arith}
 use Rattle.refusal.specs.document.Table.{FirstRefusal}
+use Rattle.skeleton.specs.document.Atom.{C, O}
 use Rattle.refusal.specs.Laws.{clear-one, clear-both, first-place, refusal-front, refusal-back}
 use Rattle.texts.specs.document.Bytes.{Cut}
-use Rattle.texts.specs.document.Numerals.{figures, decimal, one-digit}
+use Rattle.texts.specs.document.Numerals.{figures, decimal, one-digit, says}
 use Rattle.texts.specs.document.Text.{PartRow, through, lineRows}
 use Rattle.texts.specs.Judging.{judging, judged, none}
 use Rattle.texts.specs.Answered.{line-refuses}
-use Rattle.texts.specs.Spaced.{spaced, tally}
-use Rattle.texts.specs.Numbers.{says, count-number}
+use Rattle.texts.specs.document.Parts.{spaced, tally}
+use Rattle.texts.specs.Numbers.{count-number}
 use Rattle.lines.specs.document.Line.{front, row3-line, row5-line}
-use Rattle.named_lines.specs.Named.{Named, namedBody, Parts, NamedFormed, Matches, row21, carried, namedLines}
+use Rattle.named_lines.specs.document.Named.{Named, namedBody, Parts, NamedFormed, Matches, row21, carried, namedLines}
 use Rattle.named_lines.specs.NamedSound.{named-once}
 
 -- methanol, 2 10 OC 1 0 1
@@ -43,7 +44,7 @@ has-form =
       some = omega arith;
       digits = (omega arith, (omega arith, tt));
       some-letters = omega arith;
-      lettered = (inr (inr refl), (inl refl, tt));
+      lettered = ((O, refl), ((C, refl), tt));
       says-c = count-number (one-digit (omega arith) refl);
       says-n = count-number (one-digit (omega arith) refl);
       says-o =

@@ -13,11 +13,13 @@ use lib.Seq.{take-suc, drop-drop, length-take-le}
 use Rattle.laws.specs.Part.{part}
 use Rattle.laws.specs.Tells.{Tells, was-held, was-denied}
 use Rattle.limits.specs.document.Limits.{size}
-use Rattle.texts.specs.document.Bytes.{Each, Free, Cut}
-use Rattle.texts.specs.document.Numerals.{figures, Digits}
+use Rattle.laws.specs.document.Each.{Each}
+use Rattle.texts.specs.document.Bytes.{Free, Cut}
+use Rattle.texts.specs.document.Numerals.{figures, Digits, IsNumber, Leads, says}
 use Rattle.texts.specs.Numerals.{length-figures, count-free, marks-figures}
-use Rattle.texts.specs.Numbers.{IsNumber, Leads, says, says-least, marks-number}
-use Rattle.texts.specs.Spaced.{spaced, tally, tally-join, no-space}
+use Rattle.texts.specs.Numbers.{says-least, marks-number}
+use Rattle.texts.specs.document.Parts.{spaced, tally}
+use Rattle.texts.specs.Spaced.{tally-join, no-space}
 use Rattle.texts.specs.Cuts.{not-free, cut-once}
 use Rattle.texts.specs.Ending.{Until, unfed, fed-cut}
 use Rattle.lines.specs.document.Line.{front}
@@ -31,7 +33,8 @@ use Rattle.named_lines.specs.declared.Lettering.{Lettering}
 use Rattle.named_lines.specs.declared.Lettering.the-variants as lettering
 use Rattle.named_lines.specs.declared.Layout.{Layout}
 use Rattle.named_lines.specs.declared.Layout.the-variants as layout
-use Rattle.named_lines.specs.Named.{Letter, Parts, NamedFormed}
+use Rattle.skeleton.specs.document.Atom.{Letter}
+use Rattle.named_lines.specs.document.Named.{Parts, NamedFormed}
 use Rattle.named_lines.specs.NamedSound.{marks-letters}
 use Rattle.named_lines.specs.NamedForm.{Near, NumberRead, number, no-number, Three, Tallies, Compared, CountsRead, counts, no-counts, TailForm, TailAt, TailRead, tail-at, no-tail, ShapeAt, ShapeRead, shape-at, no-shape}
 

@@ -7,10 +7,10 @@ use lib.ListN.{length, take, drop}
 use Rattle.laws.specs.Part.{part}
 use Rattle.limits.specs.document.Limits.{size}
 use Rattle.refusal.specs.document.Table.{FirstRefusal}
-use Rattle.texts.specs.document.Bytes.{Each}
+use Rattle.laws.specs.document.Each.{Each}
 use Rattle.texts.specs.document.Text.{PartRow, Shaped, lineRows}
-use Rattle.texts.specs.Spaced.{spaced, tally}
-use Rattle.texts.specs.Numbers.{IsNumber}
+use Rattle.texts.specs.document.Parts.{spaced, tally}
+use Rattle.texts.specs.document.Numerals.{IsNumber}
 use Rattle.lines.specs.declared.Span.{Span}
 use Rattle.lines.specs.declared.Span.the-variants.{Digits, Refused}
 use Rattle.lines.specs.document.Line.{front}
@@ -20,7 +20,8 @@ use Rattle.named_lines.specs.declared.Lettering.{Lettering}
 use Rattle.named_lines.specs.declared.Lettering.the-variants as lettering
 use Rattle.named_lines.specs.declared.Layout.{Layout}
 use Rattle.named_lines.specs.declared.Layout.the-variants as layout
-use Rattle.named_lines.specs.Named.{Named, Letter, Parts, NamedFormed, partsOf, namedLines}
+use Rattle.skeleton.specs.document.Atom.{Letter}
+use Rattle.named_lines.specs.document.Named.{Named, Parts, NamedFormed, partsOf, namedLines}
 
 -- r is n up to 99, and above 99 where n is
 abbrev pub Near : ℕ → ℕ → Type 0

@@ -4,7 +4,7 @@
 -- Of an accepted code this uses the sum of its digits, and rows 5 and 21. From the digits the count, from the count the digits' number and, by
 -- the rows, their sum; from the letters their counts, and from the counts the letters' number and sum. Assumes nothing.
 use mathlib.Core.Path.{_≡_, refl, sym, ap, ap₂, subst, _∙_}
-use mathlib.Core.Logic.{inl, inr, ⊎-elim, if-pos, if-neg}
+use mathlib.Core.Logic.{inr, ⊎-elim, if-pos, if-neg}
 use mathlib.Core.List.{List, [], _∷_, _++_}
 use Prim.Native.Nat.{ℕ, _+_, _*_, _≤_, _<_}
 use native.Mathlib.Decide.{ℕ-discrete}
@@ -13,23 +13,25 @@ use lib.ListN.{length}
 use Rattle.digit_code.specs.document.Code.{sum}
 use Rattle.refusal.specs.document.Table.{Row, Clear, Outcome}
 use Rattle.refusal.specs.Laws.{never, others, clear-one, clear-both}
-use Rattle.texts.specs.document.Bytes.{Each}
+use Rattle.laws.specs.document.Each.{Each}
 use Rattle.texts.specs.document.Numerals.{figures, decimal, Digits, IsCount}
 use Rattle.texts.specs.document.Text.{PartRow, through, textOf, TextAnswers}
 use Rattle.texts.specs.document.Damage.{Change}
 use Rattle.texts.specs.Judging.{judged, judged-through, none}
 use Rattle.texts.specs.Damage.{Accept, Accepted, Robust, Recovers}
 use Rattle.texts.specs.Sound.{Once, Reads, Sound}
-use Rattle.texts.specs.Each.{each-follows}
+use Rattle.laws.specs.Each.{each-follows}
 use Rattle.texts.specs.Numerals.{length-figures, sum-figures, same-figures, decimal-counts, count-decimal, count-some, one-count, marks-figures, marks-count}
 use Rattle.texts.specs.Numbers.{one-number, number-decimal, decimal-number, marks-number}
-use Rattle.texts.specs.Spaced.{spaced, Marks, Marked, Alike, Tied, tally, same-parts}
+use Rattle.texts.specs.document.Parts.{spaced, tally}
+use Rattle.texts.specs.Spaced.{Marks, Marked, Alike, Tied, same-parts}
 use Rattle.texts.specs.Parted.{parted-sound}
 use Rattle.texts.specs.Theorems as Texts
 use Rattle.texts.specs.Turns.{AllRoom}
 use Rattle.lines.specs.document.Line.{Front, row3-line, row5-line}
 use Rattle.lines.specs.Plain.{same-front}
-use Rattle.named_lines.specs.Named.{Named, Letter, namedBody, Parts, NamedFormed, Matches, row21, carried, partsOf, namedLines, namedLent, NamedTextRead}
+use Rattle.skeleton.specs.document.Atom.{Atom, C, N, O, letter, Letter}
+use Rattle.named_lines.specs.document.Named.{Named, namedBody, Parts, NamedFormed, Matches, row21, carried, partsOf, namedLines, namedLent, NamedTextRead}
 
 -- ---- the letters and their counts
 
@@ -50,24 +52,29 @@ told (b ∷ t) l = go (l .0) (told t (l .1))
     not a n = omega (arith, if-neg {C = ℕ} (ℕ-discrete b a) n 1 0)
 
     go : Letter b → Told t → Told (b ∷ t)
-    go (inl e) r =
+    go (C, e) r =
         let x = is 67 e in
         let y = not 78 (λ q. omega arith) in
         let z = not 79 (λ q. omega arith) in
         record { number = omega (arith, r .number); total = omega (arith, r .total) }
-    go (inr (inl e)) r =
+    go (N, e) r =
         let x = not 67 (λ q. omega arith) in
         let y = is 78 e in
         let z = not 79 (λ q. omega arith) in
         record { number = omega (arith, r .number); total = omega (arith, r .total) }
-    go (inr (inr e)) r =
+    go (O, e) r =
         let x = not 67 (λ q. omega arith) in
         let y = not 78 (λ q. omega arith) in
         let z = is 79 e in
         record { number = omega (arith, r .number); total = omega (arith, r .total) }
 
 pub marks-letters : (t : List ℕ) → Each Letter t → Marks t
-marks-letters t l = each-follows {P = Letter} (λ a h. ⊎-elim (λ e. omega (arith, e)) (λ g. ⊎-elim (λ e. omega (arith, e)) (λ e. omega (arith, e)) g) h) t l
+marks-letters t l = each-follows {P = Letter} (λ b h. above (h .0) b (h .1)) t l
+  where
+    above : (a : Atom) (b : ℕ) → b ≡ letter a → 32 < b
+    above C b e = omega (arith, e)
+    above N b e = omega (arith, e)
+    above O b e = omega (arith, e)
 
 -- ---- a text has the form in one way
 

@@ -15,8 +15,8 @@ use Rattle.texts.specs.Taking.{FoundLine, line-read}
 use Rattle.texts.specs.Turns.{read-none, read-more, read-lengths}
 use Rattle.lines.specs.Form.{Room}
 use Rattle.lines.specs.Forming.{rest-is}
-use Rattle.named_lines.specs.Named.{namedLines, namedLent, NamedLineRead, NamedTextRead}
-use Rattle.named_lines.specs.NamedTable.{namedTable}
+use Rattle.named_lines.specs.document.Named.{namedLines, namedLent, NamedLineRead, NamedTextRead}
+use Rattle.named_lines.specs.document.Named.{namedTable}
 use Rattle.named_lines.specs.NamedSound.{named-once, named-room}
 
 -- r lines find room: `size` bytes of digits, as many of letters, a number and a place for each; and no further line does

@@ -10,9 +10,9 @@ use Rattle.laws.specs.Laid.{laid-length}
 use Rattle.laws.specs.document.Laid.{laidOver, Laid}
 use Rattle.laws.specs.Laying.{laid-more, laid-part}
 use Rattle.texts.specs.document.Numerals.{figures, decimal}
-use Rattle.texts.specs.Spaced.{spaced, tally}
+use Rattle.texts.specs.document.Parts.{spaced, tally}
 use Rattle.lines.specs.document.Line.{body, line}
-use Rattle.named_lines.specs.Named.{namedBody}
+use Rattle.named_lines.specs.document.Named.{namedBody}
 
 -- ys is written behind the first `at` bytes, and r is the place behind it: whatever w stands in these over what was lent, base
 pub record Appends (ys old new : List ℕ) (at r : ℕ) : Type 0 where

@@ -12,13 +12,13 @@ use Rattle.laws.specs.Part.{part, part-length}
 use Rattle.limits.specs.document.Limits.{size, valence}
 use Rattle.refusal.specs.document.Table.{Row, Clear, FirstRefusal, Outside, gives, refuses, left, row3}
 use Rattle.refusal.specs.Laws.{clear-one, first-place, others, refusal-front, refusal-back, refusal-behind, size-clear}
-use Rattle.form.specs.Lettered.{letteredRows}
+use Rattle.lettered_check.specs.document.Lettered.{letteredRows}
 use Rattle.texts.specs.document.Text.{PartRow, through, Shaped, row1, lineRows}
 use Rattle.texts.specs.document.Lent.{lineRow15}
-use Rattle.texts.specs.Judging.{judging, judged}
+use Rattle.texts.specs.Judging.{judging, judged, none}
 use Rattle.texts.specs.Answered.{line-refuses, unformed-2}
 use Rattle.texts.specs.Ending.{UpTo, unfed, fed-cut}
-use Rattle.texts.specs.Spaced.{tally}
+use Rattle.texts.specs.document.Parts.{tally}
 use Rattle.texts.specs.Taking as Taking
 use Rattle.lines.specs.declared.Span.{Span}
 use Rattle.lines.specs.declared.Span.the-variants.{Digits, Refused}
@@ -29,8 +29,8 @@ use Rattle.lines.specs.Plain.{same-front}
 use Rattle.lines.specs.Taking.{length-values}
 use Rattle.named_lines.specs.declared.Layout.{Layout}
 use Rattle.named_lines.specs.declared.Layout.the-variants as layout
-use Rattle.named_lines.specs.Named.{Named, Parts, NamedFormed, Matches, row21, partsOf, namedLines, namedLent, NamedLineRead}
-use Rattle.named_lines.specs.NamedTable.{namedTable}
+use Rattle.named_lines.specs.document.Named.{Named, Parts, NamedFormed, Matches, row21, partsOf, namedLines, namedLent, NamedLineRead}
+use Rattle.named_lines.specs.document.Named.{namedTable}
 use Rattle.named_lines.specs.NamedSound.{same-named, named-once, named-accept}
 use Rattle.named_lines.specs.NamedForm.{ShapeAt, ShapeRead, shape-at, no-shape, standing, NamedStands, NamedLocated, stands, refused}
 
@@ -91,7 +91,7 @@ module _ (most : ℕ) (rows : List (PartRow Named)) {t : List ℕ} {end : ℕ} (
 
       pub not-sized : Outside most m → FirstRefusal (lineRows (namedLines most rows) t) 3 0
       not-sized o =
-          line-refuses (namedLines most rows) named-once shaped
+          line-refuses (namedLines most rows) named-once none shaped
           (refusal-front {xs = threes} (judged (drop 1 (namedLines most rows .rows)) shown)
           (first-place {r = judging shown (through (λ q. q .front) (row3-line most))} (refl, o) (λ q l b. absurd (omega arith))))
 
@@ -101,7 +101,7 @@ module _ (most : ℕ) (rows : List (PartRow Named)) {t : List ℕ} {end : ℕ} (
 
         pub not-as-many : (e - s ≡ m → ⊥) → FirstRefusal (lineRows (namedLines most rows) t) 5 0
         not-as-many d =
-            line-refuses (namedLines most rows) named-once shaped
+            line-refuses (namedLines most rows) named-once none shaped
             (refusal-back {xs = threes} sized
             (refusal-front {xs = fives} (judged (drop 2 (namedLines most rows .rows)) shown)
             (first-place {r = judging shown (through (λ q. q .front) row5-line)} (refl, λ q. d (sym many ∙ q)) (λ q l b. absurd (omega arith)))))
@@ -109,7 +109,7 @@ module _ (most : ℕ) (rows : List (PartRow Named)) {t : List ℕ} {end : ℕ} (
         module _ (d : e - s ≡ m) where
           refused-21 : (Matches shown → ⊥) → FirstRefusal (lineRows (namedLines most rows) t) 21 0
           refused-21 h =
-              line-refuses (namedLines most rows) named-once shaped
+              line-refuses (namedLines most rows) named-once none shaped
               (refusal-back {xs = threes} sized
               (refusal-back {xs = fives} (clear-one (λ p b. b .1 (many ∙ d)))
               (refusal-front {xs = judged (row21 ∷ []) shown} (judged (drop 3 (namedLines most rows .rows)) shown)
@@ -190,8 +190,8 @@ module _ {t : List ℕ} {s e : ℕ} (h : NamedStands size t s e) where
 
   read-rows : {k p : ℕ} → FirstRefusal checked k p → FirstRefusal (lineRows (namedLines size namedTable) t) k p
   read-rows l =
-      line-refuses (namedLines size namedTable) named-once (h .shape)
-      (refusal-back {xs = judged (namedLines size [] .rows) (partsOf (standing t s e))} (accepted [] (record { nowhere = λ k p a. a }))
+      line-refuses (namedLines size namedTable) named-once none (h .shape)
+      (refusal-back {xs = judged (namedLines size [] .rows) (partsOf (standing t s e))} (accepted [] none)
       (refusal-behind (row3 size (length ds) ∷ []) (letteredRows valence ds ls) (size-clear (omega (arith, as-many, h .some)) (omega (arith, as-many, h .few))) l))
 
   module _ (old lets : List ℕ) where
@@ -203,7 +203,7 @@ module _ {t : List ℕ} {s e : ℕ} (h : NamedStands size t s e) where
     pub read-short : Clear checked → (length old < e - s) ⊎ (length lets < e - s) → NamedLineRead size namedTable t old lets old lets (refuses 15 (e - s))
     read-short c l =
         subst (λ (n : ℕ). NamedLineRead size namedTable t old lets old lets (refuses 15 n)) as-many
-        (Taking.read-short (namedLines size namedTable) (namedLent size) named-once (h .shape) (accepted namedTable (others c)) (old ∷ lets ∷ [])
+        (Taking.read-short (namedLines size namedTable) (namedLent size) named-once none (h .shape) (accepted namedTable (others c)) (old ∷ lets ∷ [])
         (⊎-elim (λ a. inl (rw as-many a)) (λ a. inr (inl (rw as-many a))) l))
 
     -- digits and letters
@@ -212,5 +212,5 @@ module _ {t : List ℕ} {s e : ℕ} (h : NamedStands size t s e) where
         → NamedLineRead size namedTable t old lets old′ lets′ (gives (e - s))
     read-line {old′} {lets′} c l m q r =
         subst (λ (n : ℕ). NamedLineRead size namedTable t old lets old′ lets′ (gives n)) as-many
-        (Taking.read-record (namedLines size namedTable) (namedLent size) named-once (h .shape) (accepted namedTable (others c)) (old ∷ lets ∷ [])
+        (Taking.read-record (namedLines size namedTable) (namedLent size) named-once none (h .shape) (accepted namedTable (others c)) (old ∷ lets ∷ [])
         (rw as-many l, (rw as-many m, tt)) (q, (r, tt)))

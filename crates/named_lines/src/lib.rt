@@ -15,14 +15,15 @@ ghost use Rattle.limits.specs.document.Limits.{size, valence};
 ghost use Rattle.refusal.specs.document.Table.{row3};
 ghost use Rattle.refusal.specs.Checks.{Answers};
 ghost use Rattle.refusal.specs.document.Outcome.{told};
-ghost use Rattle.form.specs.Lettered.{letteredRows};
+ghost use Rattle.lettered_check.specs.document.Lettered.{letteredRows};
 ghost use Rattle.lines.specs.document.Marks.{WrittenDigits};
 ghost use Rattle.lines.specs.Form.{values};
 ghost use Rattle.laws.specs.Tells.{Tells};
-ghost use Rattle.texts.specs.document.Bytes.{Each};
-ghost use Rattle.texts.specs.Spaced.{tally};
-ghost use Rattle.named_lines.specs.Named.{Letter, NamedLineRead, NamedTextRead};
-ghost use Rattle.named_lines.specs.NamedTable.{namedTable};
+ghost use Rattle.skeleton.specs.document.Atom.{Letter};
+ghost use Rattle.laws.specs.document.Each.{Each};
+ghost use Rattle.texts.specs.document.Parts.{tally};
+ghost use Rattle.named_lines.specs.document.Named.{NamedLineRead, NamedTextRead};
+ghost use Rattle.named_lines.specs.document.Named.{namedTable};
 ghost use Rattle.laws.specs.document.Laid.{laidOver};
 ghost use Rattle.texts.specs.document.Numerals.{decimal};
 ghost use Rattle.named_lines.specs.NamedText.{NamedRoom};
@@ -130,22 +131,6 @@ fn counts(t: &[u8], letters: &[u8]) -> u8
     21
 }
 
-// Whether b is C, N or O.
-fn letter(b: u8) -> bool
-    ensures { λ r. ⌜ Tells (Letter b) r ⌝ }
-{
-    if b == 67 {
-        return true;
-    }
-    if b == 78 {
-        return true;
-    }
-    if b == 79 {
-        return true;
-    }
-    false
-}
-
 // Whether `t` is one or more letters.
 fn lettered(t: &[u8]) -> bool
     ensures { λ r. ⌜ Tells ((1 ≤ length (now (t .entry))) × Each Letter (now (t .entry))) r ⌝ }
@@ -155,7 +140,7 @@ fn lettered(t: &[u8]) -> bool
     }
     let mut i = 0;
     while i < t.len() {
-        if !letter(t[i]) {
+        if !letters::is_letter(t[i]) {
             return false;
         }
         i += 1;

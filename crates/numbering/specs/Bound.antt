@@ -18,7 +18,7 @@ use Rattle.digit_code.specs.document.Code.{sum}
 use Rattle.skeleton.specs.document.Skeleton.{arcs, neighbours, degree, children, IsTree, Degrees, IsSkeleton}
 use Rattle.skeleton.specs.Arcs.{near-arc}
 use Rattle.skeleton.specs.Walks.{turn, arc-end}
-use Rattle.skeleton.specs.Label.{Marks}
+use Rattle.skeleton.specs.document.Label.{Marks}
 use Rattle.skeleton.specs.Base.{base}
 use Rattle.numbering.specs.document.Order.{orderBy}
 use Rattle.numbering.specs.Order.{pairsBy}

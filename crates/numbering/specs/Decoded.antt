@@ -14,7 +14,8 @@ use Rattle.digit_code.specs.Two.{map-take, map-drop, codes-digits, digit-at}
 use Rattle.skeleton.specs.document.Skeleton.{Arc, arcs, neighbours, children}
 use Rattle.skeleton.specs.IsRooted.{IsRooted}
 use Rattle.skeleton.specs.Forest.{Forest, none, tree, count}
-use Rattle.skeleton.specs.Label.{Marks, codeₗ, digits, labels, IsRootedₗ}
+use Rattle.skeleton.specs.document.Label.{Marks, codeₗ, digits, labels}
+use Rattle.skeleton.specs.Label.{IsRootedₗ}
 use Rattle.skeleton.specs.Codes.{roots, codes-of}
 use Rattle.skeleton.specs.Decoding.{width, shape, shape-length, number, number-count, edgesOf}
 use Rattle.skeleton.specs.Right.{read-code}

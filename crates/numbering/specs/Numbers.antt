@@ -16,7 +16,7 @@ use Rattle.digit_code.specs.document.Code.{decode}
 use Rattle.skeleton.specs.document.Skeleton.{arcs, degree, children, IsTree, rooted, Renumbering}
 use Rattle.skeleton.specs.Forest.{Rooted}
 use Rattle.skeleton.specs.Grow.{rooted-tree}
-use Rattle.skeleton.specs.Label.{Marks, rootedₗ, digits, labels, Keeps}
+use Rattle.skeleton.specs.document.Label.{Marks, rootedₗ, digits, labels, Keeps}
 use Rattle.skeleton.specs.Base.{base, rooted-base, digits-base}
 use Rattle.skeleton.specs.Renumber.{rooted-within, back, after}
 use Rattle.skeleton.specs.Numbered.{ToldBy, getD-map-in}

@@ -11,9 +11,9 @@ use Rattle.laws.specs.Rising.{Rising, same-order}
 use Rattle.digit_code.specs.document.Code.{sum}
 use Rattle.digit_code.specs.Compare.{looked, looked-risen}
 use Rattle.skeleton.specs.document.Skeleton.{arcs, children, IsTree}
-use Rattle.skeleton.specs.Label.{Marks}
+use Rattle.skeleton.specs.document.Label.{Marks}
 use Rattle.skeleton.specs.Base.{base}
-use Rattle.skeleton.specs.Atoms.{atoms}
+use Rattle.skeleton.specs.document.AtomMarks.{atoms}
 use Rattle.skeleton.specs.Rewritten.{Rewritten}
 use Rattle.skeleton.specs.Carbon.{carbon, carbon-marks}
 use Rattle.numbering.specs.document.Order.{insertBy, sortBy, orderBy, kidsOf, order}

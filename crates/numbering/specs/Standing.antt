@@ -14,7 +14,7 @@ use Rattle.digit_code.specs.Ordered.{Ordered}
 use Rattle.digit_code.specs.Two.{map-drop, digit-at}
 use Rattle.skeleton.specs.document.Skeleton.{Arc, arcs, neighbours, children}
 use Rattle.skeleton.specs.Forest.{Forest, none, tree, vertices, count, hung}
-use Rattle.skeleton.specs.Label.{Marks, digits, labels}
+use Rattle.skeleton.specs.document.Label.{Marks, digits, labels}
 use Rattle.skeleton.specs.Codes.{roots, root-in, neighbours-none, neighbours-past, neighbours-append, far, near, full, Good, but, but-none, but-first}
 use Rattle.skeleton.specs.Decoding.{width, shape, shape-length, number, number-count, edgesOf, edges-hung, decode-forest, marks}
 use Rattle.skeleton.specs.Right.{number-in, edges-length}

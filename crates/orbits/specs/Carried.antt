@@ -12,14 +12,15 @@ use lib.ListN.{length, getD}
 use Rattle.laws.specs.Perms.{perm-in}
 use Rattle.digit_code.specs.document.Code.{decode}
 use Rattle.skeleton.specs.document.Skeleton.{Arc, arcs, IsTree, Renumbering}
-use Rattle.skeleton.specs.Label.{Marks, rootedₗ, digits, labels, Keeps, IsRootedₗ}
+use Rattle.skeleton.specs.document.Label.{Marks, rootedₗ, digits, labels, Keeps}
+use Rattle.skeleton.specs.Label.{IsRootedₗ}
 use Rattle.skeleton.specs.Base.{base}
 use Rattle.skeleton.specs.Renumber.{carry, one-to-one}
 use Rattle.skeleton.specs.General.{decode-code, equal-codes}
 use Rattle.skeleton.specs.Walks.{turn}
 use Rattle.longest_path.specs.document.Path.{Joined, middle₁, middle₂, IsCentre}
 use Rattle.longest_path.specs.Theorems.{one-centre, centre-inside, centre-carried}
-use Rattle.form.specs.Labelled.{centredₗ}
+use Rattle.form.specs.document.Labelled.{centredₗ}
 use Rattle.numbering.specs.document.Decoded.{parent}
 use Rattle.orbits.specs.document.Carried.{Carried}
 use Rattle.orbits.specs.Parents.{root-parent, has-parent, tree-ofₗ, parent-lowₗ, parent-arc, arc-parent}

@@ -12,11 +12,13 @@ use native.Mathlib.Omega.{arith}
 use lib.ListN.{length, length-append}
 use Rattle.digit_code.specs.document.Code.{decode}
 use Rattle.digit_code.specs.Ends.{Ends}
-use Rattle.skeleton.specs.Label.{Marks, rootedₗ, digits, labels, IsRootedₗ}
+use Rattle.skeleton.specs.document.Label.{Marks, rootedₗ, digits, labels}
+use Rattle.skeleton.specs.Label.{IsRootedₗ}
 use Rattle.skeleton.specs.Base.{base, digits-base}
 use Rattle.skeleton.specs.General.{decoded-tree}
 use Rattle.form.specs.document.Form.{centred}
-use Rattle.form.specs.Labelled.{centredₗ, Own, centred-formₗ, is-rootedₗ}
+use Rattle.form.specs.document.Labelled.{centredₗ, Own}
+use Rattle.form.specs.Labelled.{centred-formₗ, is-rootedₗ}
 use Rattle.form.specs.Forms.{own-base}
 use Rattle.numbering.specs.document.Decoded.{parent}
 use Rattle.orbits.specs.document.Carried.{Carried, ClassesOf}

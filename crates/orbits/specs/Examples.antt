@@ -4,7 +4,7 @@ use mathlib.Core.Logic.{Dec·and}
 use mathlib.Core.List.{[], _∷_, flatten}
 use native.Mathlib.Decide.{ℕ-discrete}
 use Rattle.digit_code.specs.document.Code.{codes, edgesFrom, decode}
-use Rattle.skeleton.specs.Atoms.{atoms}
+use Rattle.skeleton.specs.document.AtomMarks.{atoms}
 use Rattle.numbering.specs.document.Decoded.{parent}
 use Rattle.orbits.specs.Found.{greatest, classOf, same?}
 use Rattle.orbits.specs.Classes.{testₗ, toldₗ, classesₗ, classes}

@@ -16,7 +16,8 @@ use Rattle.digit_code.specs.document.Code.{digit, codes, childCodes, decode}
 use Rattle.digit_code.specs.Ends.{Ends}
 use Rattle.digit_code.specs.Parts.{flatten-append, flatten-codes, codes-count}
 use Rattle.skeleton.specs.document.Skeleton.{arcs}
-use Rattle.skeleton.specs.Label.{Marks, fewer, joinₗ, codeₗ, digits, labels, IsRootedₗ}
+use Rattle.skeleton.specs.document.Label.{Marks, joinₗ, codeₗ, digits, labels}
+use Rattle.skeleton.specs.Label.{fewer, IsRootedₗ}
 use Rattle.skeleton.specs.Decoding.{number}
 use Rattle.skeleton.specs.Base.{base}
 use Rattle.skeleton.specs.Ordered.{down-branches, code-orderedₗ}

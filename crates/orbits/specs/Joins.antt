@@ -14,7 +14,7 @@ use Rattle.laws.specs.document.Order.{_≽_, dec≽, insert, sort}
 use Rattle.laws.specs.Sorting.{refl≽, insert-self, sort-self}
 use Rattle.laws.specs.Perms.{perm-in, perm-length}
 use Rattle.digit_code.specs.Ends.{Ends}
-use Rattle.skeleton.specs.Label.{Marks, joinₗ, digits}
+use Rattle.skeleton.specs.document.Label.{Marks, joinₗ, digits}
 
 -- ---- codes one behind the other
 

@@ -17,7 +17,8 @@ use Rattle.digit_code.specs.Ordered.{by-places}
 use Rattle.digit_code.specs.Siblings.{child-codes}
 use Rattle.skeleton.specs.document.Skeleton.{Arc, arcs, neighbours, children, IsTree}
 use Rattle.skeleton.specs.IsRooted.{IsRooted}
-use Rattle.skeleton.specs.Label.{Marks, joinₗ, codeₗ, digits, labels, IsRootedₗ}
+use Rattle.skeleton.specs.document.Label.{Marks, joinₗ, codeₗ, digits, labels}
+use Rattle.skeleton.specs.Label.{IsRootedₗ}
 use Rattle.skeleton.specs.Base.{base, digits-base, is-rooted}
 use Rattle.skeleton.specs.General.{decoded-tree}
 use Rattle.skeleton.specs.Arcs.{near-arc, arc-near}

@@ -9,9 +9,10 @@ use native.Mathlib.Omega.{arith}
 use lib.ListN.{length}
 use Rattle.digit_code.specs.document.Code.{decode}
 use Rattle.skeleton.specs.document.Skeleton.{arcs}
-use Rattle.skeleton.specs.Label.{Marks, joinₗ, codeₗ, rootedₗ, digits, labels, IsRootedₗ}
+use Rattle.skeleton.specs.document.Label.{Marks, joinₗ, codeₗ, rootedₗ, digits, labels}
+use Rattle.skeleton.specs.Label.{IsRootedₗ}
 use Rattle.skeleton.specs.Walks.{turn}
-use Rattle.form.specs.Labelled.{centredₗ}
+use Rattle.form.specs.document.Labelled.{centredₗ}
 use Rattle.numbering.specs.document.Decoded.{parent}
 use Rattle.orbits.specs.Joins.{far-end, near-side, two-sides}
 use Rattle.orbits.specs.Sides.{Edge, edge}

@@ -14,7 +14,7 @@ use Rattle.skeleton.specs.Forests.{gather, gather-vertices, gather-hung, count-
 use Rattle.skeleton.specs.Grow.{rooted-tree}
 use Rattle.skeleton.specs.Walks.{turn, arc-end}
 use Rattle.skeleton.specs.Arcs.{arc-near}
-use Rattle.skeleton.specs.Label.{Marks, joinₗ, codeₗ, rootedₗ}
+use Rattle.skeleton.specs.document.Label.{Marks, joinₗ, codeₗ, rootedₗ}
 use Rattle.skeleton.specs.Codes.{roots, near, neighbours-perm, good, branches, codes-of, rooted-join}
 use Rattle.orbits.specs.Joins.{Ones, ones-more, join-ends}
 

@@ -7,12 +7,13 @@ use Prim.Native.Nat.{ℕ, _≤_}
 use lib.ListN.{length, length-map}
 use Rattle.digit_code.specs.document.Code.{decode}
 use Rattle.skeleton.specs.document.Skeleton.{IsTree}
-use Rattle.skeleton.specs.Label.{Marks, digits, labels}
+use Rattle.skeleton.specs.document.Label.{Marks, digits, labels}
 use Rattle.skeleton.specs.General.{decode-code}
-use Rattle.skeleton.specs.Atoms.{atoms}
+use Rattle.skeleton.specs.document.AtomMarks.{atoms}
 use Rattle.skeleton.specs.Carbon.{carbonMark, carbon-digits, carbon-labels}
 use Rattle.form.specs.document.Form.{centred}
-use Rattle.form.specs.Labelled.{centredₗ, centred-formₗ, is-rootedₗ, form-againₗ}
+use Rattle.form.specs.document.Labelled.{centredₗ}
+use Rattle.form.specs.Labelled.{centred-formₗ, is-rootedₗ, form-againₗ}
 use Rattle.form.specs.Forms.{centred-form, form-again, form-ends}
 use Rattle.orbits.specs.document.Carried.{Carried, ClassesOf}
 use Rattle.orbits.specs.document.Numbering.{class, ByAppearance}

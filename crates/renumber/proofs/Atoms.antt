@@ -9,9 +9,10 @@ use lib.ListN.{getD, replicate, length-replicate, getD-replicate, List·getD-eq-
 use Rattle.refusal.specs.document.Table.{Outside}
 use Rattle.refusal.specs.Laws.{Alike}
 use Rattle.limits.specs.document.Limits.{size}
-use Rattle.skeleton.specs.Atoms.{Atom, rank, named, named-rank}
+use Rattle.skeleton.specs.document.Atom.{Atom, rank, named}
+use Rattle.skeleton.specs.Atoms.{named-rank}
 use Rattle.skeleton.specs.Carbon.{carbon}
-use Rattle.edge_list.specs.Table.{rankAt, Named, Ranked}
+use Rattle.letters.specs.Named.{rankAt, Named, Ranked}
 use Rattle.renumber.specs.document.Map.{mapRows}
 use Rattle.renumber.specs.document.Kept.{keptRows}
 

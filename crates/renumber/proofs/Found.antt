@@ -7,8 +7,9 @@ use lib.ListN.{length, take}
 use Rattle.refusal.specs.document.Table.{Outcome, gives, refuses, Writes}
 use Rattle.refusal.specs.Giving.{written}
 use Rattle.skeleton.specs.document.Skeleton.{IsTree}
-use Rattle.skeleton.specs.Label.{rootedₗ}
-use Rattle.skeleton.specs.Atoms.{Atom, atoms}
+use Rattle.skeleton.specs.document.Label.{rootedₗ}
+use Rattle.skeleton.specs.document.Atom.{Atom}
+use Rattle.skeleton.specs.document.AtomMarks.{atoms}
 use Rattle.skeleton.specs.Carbon.{carbon, carbonMark}
 use Rattle.form.specs.Labelled.{centred-formₗ}
 use Rattle.form.specs.Rewritten.{centred-carbon}

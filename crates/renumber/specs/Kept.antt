@@ -12,8 +12,8 @@ use Rattle.laws.specs.Rising.{lists-back}
 use Rattle.refusal.specs.document.Table.{Clear, Writes}
 use Rattle.refusal.specs.Laws.{never, others, clear-one, clear-both, Alike, alike-clear}
 use Rattle.skeleton.specs.document.Skeleton.{IsTree, rooted, Renumbering}
-use Rattle.skeleton.specs.Label.{Marks, rootedₗ, Keeps}
-use Rattle.skeleton.specs.Atoms.{atoms}
+use Rattle.skeleton.specs.document.Label.{Marks, rootedₗ, Keeps}
+use Rattle.skeleton.specs.document.AtomMarks.{atoms}
 use Rattle.skeleton.specs.Carbon.{carbon, carbonMark, carbon-marks, all-carbon}
 use Rattle.numbering.specs.Numbering.{Orders}
 use Rattle.numbering.specs.Numbers.{markAt, orderₗ, orderₗ-numbers, orders-besideₗ}

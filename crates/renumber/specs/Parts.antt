@@ -7,10 +7,11 @@ use mathlib.Core.List.{List, List·Memᴰ}
 use Prim.Native.Nat.{ℕ, _+_, _-_, _≤_, _<_}
 use lib.ListN.{length, getD, drop}
 use Rattle.refusal.specs.document.Table.{Outcome, gives, refuses, Writes}
-use Rattle.skeleton.specs.Atoms.{Atom, atoms}
+use Rattle.skeleton.specs.document.Atom.{Atom}
+use Rattle.skeleton.specs.document.AtomMarks.{atoms}
 use Rattle.numbering.specs.Numbers.{pairsₗ}
 use Rattle.form.specs.document.Form.{centred}
-use Rattle.form.specs.Labelled.{centredₗ}
+use Rattle.form.specs.document.Labelled.{centredₗ}
 use Rattle.form_coder.specs.document.Pairs.{OverMiddles, centredPairs}
 use Rattle.renumber.specs.document.Map.{Entry, image, HandedOut}
 use Rattle.renumber.specs.document.Kept.{HandedKept}

@@ -12,10 +12,13 @@ use Rattle.laws.specs.Places.{at-in}
 use Rattle.limits.specs.document.Limits.{size}
 use Rattle.limits.specs.Width.{width}
 use Rattle.skeleton.specs.document.Skeleton.{arcs, neighbours, degree, Degrees, IsTree, children}
-use Rattle.skeleton.specs.Label.{Marks}
-use Rattle.skeleton.specs.Atoms.{Atom, atoms, rank-under}
+use Rattle.skeleton.specs.document.Label.{Marks}
+use Rattle.skeleton.specs.document.Atom.{Atom}
+use Rattle.skeleton.specs.document.AtomMarks.{atoms}
+use Rattle.skeleton.specs.Atoms.{rank-under}
 use Rattle.skeleton.specs.Grow.{rooted-tree}
-use Rattle.edge_list.specs.Table.{IsTable, Held, deg, rankAt, Named, Ranked}
+use Rattle.letters.specs.Named.{rankAt, Named, Ranked}
+use Rattle.edge_list.specs.Table.{IsTable, Held, deg}
 use Rattle.numbering.specs.Numbering.{Reads, Orders, tree-numbering}
 use Rattle.numbering.specs.Numbers.{orderₗ, pairsₗ, markAt, reads-tree}
 use Rattle.numbering.specs.Same.{Same, one-order}

@@ -16,8 +16,9 @@ use Rattle.digit_code.specs.Compare.{looked}
 use Rattle.limits.specs.document.Limits.{size}
 use Rattle.limits.specs.Width.{width}
 use Rattle.skeleton.specs.document.Skeleton as tree
-use Rattle.skeleton.specs.Label.{Marks, rootedₗ}
-use Rattle.edge_list.specs.Table.{deg, rankAt}
+use Rattle.skeleton.specs.document.Label.{Marks, rootedₗ}
+use Rattle.letters.specs.Named.{rankAt}
+use Rattle.edge_list.specs.Table.{deg}
 use Rattle.numbering.specs.Numbers as numbers
 use Rattle.numbering.specs.document.Order.{sortBy, orderBy}
 use Rattle.numbering.specs.Order.{place, pairs, pairsBy}

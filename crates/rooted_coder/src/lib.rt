@@ -16,10 +16,11 @@ ghost use Rattle.limits.specs.document.Limits.{size};
 ghost use Rattle.limits.specs.Width.{width};
 ghost use Rattle.digit_code.specs.Compare.{lex};
 ghost use Rattle.skeleton.specs.document.Skeleton as tree;
-ghost use Rattle.skeleton.specs.Label.{rootedₗ};
-ghost use Rattle.skeleton.specs.Atoms as names;
-ghost use Rattle.skeleton.specs.Atoms.{Atom};
-ghost use Rattle.edge_list.specs.Table.{IsTable, Held, Named, Ranked};
+ghost use Rattle.skeleton.specs.document.Label.{rootedₗ};
+ghost use Rattle.skeleton.specs.document.AtomMarks as names;
+ghost use Rattle.skeleton.specs.document.Atom.{Atom};
+ghost use Rattle.letters.specs.Named.{Named, Ranked};
+ghost use Rattle.edge_list.specs.Table.{IsTable, Held};
 ghost use Rattle.numbering.specs.Numbers as numbers;
 ghost use Rattle.rooted_coder.specs.Ordered.{marked, markOf, cell, kids, ordered, compared, Rows, Stand, Standing, Spot, met, Exchanged, Waits, Waiting, Settles, endOf, Arranges, Several, Hangs, Covers, Small, Fills, Placed};
 

@@ -6,9 +6,11 @@ use Prim.Native.Nat.{ℕ, zero, suc, _-_, _*_, _/_, _%_, _≤_, _<_}
 use native.Mathlib.Omega.{arith}
 use lib.ListN.{length, getD}
 use Rattle.skeleton.specs.document.Skeleton.{rooted}
-use Rattle.skeleton.specs.Label.{rootedₗ, digits, labels}
+use Rattle.skeleton.specs.document.Label.{rootedₗ, digits, labels}
 use Rattle.skeleton.specs.Base.{base, rooted-base, digits-base}
-use Rattle.skeleton.specs.Atoms.{Atom, C, rank, named, atoms, rank-named}
+use Rattle.skeleton.specs.document.Atom.{Atom, C, rank, named}
+use Rattle.skeleton.specs.document.AtomMarks.{atoms}
+use Rattle.skeleton.specs.Atoms.{rank-named}
 use Rattle.skeleton.specs.Rewritten.{Rewritten, rooted-rewritten, digits-rewritten}
 
 -- every vertex is carbon

@@ -7,8 +7,9 @@ use native.Mathlib.Decide.{ℕ-discrete, decLt}
 use Rattle.laws.specs.document.Order.{dec≽, insert, sort}
 use Rattle.digit_code.specs.document.Code.{edgesFrom, decode}
 use Rattle.skeleton.specs.document.Skeleton.{arcs, neighbours, children, join, codeAt, rooted}
-use Rattle.skeleton.specs.Label.{joinₗ, codeₗ, rootedₗ, digits, labels}
-use Rattle.skeleton.specs.Atoms.{Atom, C, O, atoms}
+use Rattle.skeleton.specs.document.Label.{joinₗ, codeₗ, rootedₗ, digits, labels}
+use Rattle.skeleton.specs.document.Atom.{Atom, C, O}
+use Rattle.skeleton.specs.document.AtomMarks.{atoms}
 
 -- 3-methylhexane in 001's numbering, at its centre and at the other middle vertex
 centre : rooted 7 (1 ∷ 2 ∷ 2 ∷ 3 ∷ 2 ∷ 4 ∷ 3 ∷ 5 ∷ 1 ∷ 6 ∷ 6 ∷ 7 ∷ []) 2 ≡ 3 ∷ 1 ∷ 1 ∷ 0 ∷ 1 ∷ 0 ∷ 0 ∷ []

@@ -17,7 +17,8 @@ use Rattle.digit_code.specs.Ends.{Ends}
 use Rattle.digit_code.specs.Ordered.{Ordered}
 use Rattle.skeleton.specs.IsRooted.{IsRooted}
 use Rattle.skeleton.specs.Forest.{Forest, none, tree, count, Rooted}
-use Rattle.skeleton.specs.Label.{Marks, joinₗ, rootedₗ, digits, labels, IsRootedₗ}
+use Rattle.skeleton.specs.document.Label.{Marks, joinₗ, rootedₗ, digits, labels}
+use Rattle.skeleton.specs.Label.{IsRootedₗ}
 use Rattle.skeleton.specs.Codes.{branches, rooted-join}
 use Rattle.skeleton.specs.Decoding.{width, shape, shape-length, number, number-count, edgesOf, marks, marks-digits}
 use Rattle.skeleton.specs.Sorted.{Sorted, sorted, sorted-below, sorted-falling, rooted-marks}

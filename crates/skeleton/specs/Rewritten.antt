@@ -8,7 +8,7 @@ use Rattle.laws.specs.document.Order.{sort}
 use Rattle.laws.specs.Rising.{Rising, sort-risen}
 use Rattle.digit_code.specs.Two.{map-flatten}
 use Rattle.skeleton.specs.document.Skeleton.{Arc, arcs, children}
-use Rattle.skeleton.specs.Label.{Marks, joinₗ, codeₗ, rootedₗ, digits}
+use Rattle.skeleton.specs.document.Label.{Marks, joinₗ, codeₗ, rootedₗ, digits}
 
 -- φ writes the marks of M with the labels l as those of P with the labels k, in the same order, and keeps their digits
 pub record Rewritten (M P : Marks) (l : ℕ → M .Label) (k : ℕ → P .Label) (φ : ℕ → ℕ) : Type 0 where

@@ -4,7 +4,6 @@
 pub mod Damage
 pub mod Sound
 pub mod Theorems
-pub mod Each
 pub mod Cuts
 pub mod Edits
 pub mod Judging

@@ -10,7 +10,8 @@ use lib.ListN.{length, getD, take, length-map}
 use lib.Seq.{getD-at}
 use Rattle.refusal.specs.document.Table.{Outcome, gives, refuses}
 use Rattle.refusal.specs.Giving.{gave}
-use Rattle.texts.specs.document.Bytes.{Each, Cut}
+use Rattle.laws.specs.document.Each.{Each}
+use Rattle.texts.specs.document.Bytes.{Cut}
 use Rattle.texts.specs.document.Text.{TextAnswers, none}
 use Rattle.texts.specs.document.Lent.{counted}
 use Rattle.texts.specs.Texts.{first, halves}

@@ -14,9 +14,10 @@ use Rattle.refusal.specs.Checks.{Answers}
 use Rattle.refusal.specs.Giving.{written-length}
 use Rattle.refusal.specs.declared.Check.the-variants.{Passed, Refuse}
 use Rattle.limits.specs.document.Limits.{size}
-use Rattle.skeleton.specs.Label.{labels}
-use Rattle.skeleton.specs.Atoms.{atoms}
-use Rattle.form.specs.Labelled.{nTupleₗ, row14ₗ, n-tuple-formₗ}
+use Rattle.skeleton.specs.document.Label.{labels}
+use Rattle.skeleton.specs.document.AtomMarks.{atoms}
+use Rattle.form.specs.document.Labelled.{nTupleₗ, row14ₗ}
+use Rattle.form.specs.Labelled.{n-tuple-formₗ}
 use Rattle.form_coder.proofs.Again.{digits-few, edges-fit, skeleton-again, front-length, judged-same, judged-other}
 use Rattle.form_coder.proofs.n_tuple_judged.Statement.{statement}
 use Rattle.form_coder.proofs.n_tuple_judged.Tie as tie

@@ -10,9 +10,11 @@ use borrow.Author.Needs.{needs}
 use Rattle.limits.specs.document.Limits.{size}
 use Rattle.laws.specs.document.Laid.{laidOver}
 use Rattle.skeleton.specs.document.Skeleton.{degree}
-use Rattle.skeleton.specs.Label.{rootedₗ}
-use Rattle.skeleton.specs.Atoms.{Atom, atoms}
-use Rattle.edge_list.specs.Table.{Held, Named}
+use Rattle.skeleton.specs.document.Label.{rootedₗ}
+use Rattle.skeleton.specs.document.Atom.{Atom}
+use Rattle.skeleton.specs.document.AtomMarks.{atoms}
+use Rattle.letters.specs.Named.{Named}
+use Rattle.edge_list.specs.Table.{Held}
 use Rattle.form_coder.proofs.Written.{codes-of}
 use Rattle.form_coder.proofs.Largest.{Best, best-first, best-past, coded-long, best-next, degree-at, n-tuple-written, n-tuple-summed}
 use Rattle.form_coder.proofs.Looked.{coding, Summed, summed-none, summed-past, summed-next, few-at}

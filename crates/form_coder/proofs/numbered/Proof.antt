@@ -2,7 +2,7 @@
 use borrow.Author.Needs.{needs}
 use denote.Ref.{now}
 use Rattle.skeleton.specs.Carbon.{carbon}
-use Rattle.edge_list.specs.Table.{carbon-named}
+use Rattle.letters.specs.Named.{carbon-named}
 use Rattle.form_coder.specs.Sums.{middles-carbon}
 use Rattle.form_coder.proofs.Written.{digits-written, all-ranked, numbered-told}
 use Rattle.form_coder.proofs.numbered.Statement.{statement}

@@ -7,10 +7,12 @@ use borrow.Author.Needs.{needs}
 use denote.Ref.{now}
 use Rattle.laws.specs.document.Laid.{laidOver}
 use Rattle.limits.specs.document.Limits.{size}
-use Rattle.skeleton.specs.Label.{rootedₗ}
-use Rattle.skeleton.specs.Atoms.{Atom, atoms}
+use Rattle.skeleton.specs.document.Label.{rootedₗ}
+use Rattle.skeleton.specs.document.Atom.{Atom}
+use Rattle.skeleton.specs.document.AtomMarks.{atoms}
 use Rattle.numbering.specs.Numbers.{orderₗ}
-use Rattle.edge_list.specs.Table.{Held, Named}
+use Rattle.letters.specs.Named.{Named}
+use Rattle.edge_list.specs.Table.{Held}
 use Rattle.longest_path.specs.document.Path.{IsCentre}
 use Rattle.longest_path.specs.Theorems.{centre-inside}
 use Rattle.form_coder.proofs.Looked.{coding, few-at, one-summed, both-summed}

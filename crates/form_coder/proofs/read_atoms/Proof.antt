@@ -5,9 +5,10 @@ use native.Mathlib.Omega.{arith}
 use lib.ListN.{length}
 use borrow.Author.Needs.{needs}
 use Rattle.laws.specs.Laying.{Mapped, mapped-none, mapped-more, mapped-all}
-use Rattle.skeleton.specs.Label.{labels}
-use Rattle.skeleton.specs.Atoms.{atoms, rank-named}
-use Rattle.edge_list.specs.Naming.{named-laid}
+use Rattle.skeleton.specs.document.Label.{labels}
+use Rattle.skeleton.specs.document.AtomMarks.{atoms}
+use Rattle.skeleton.specs.Atoms.{rank-named}
+use Rattle.letters.specs.Naming.{named-laid}
 use Rattle.form_coder.proofs.read_atoms.Statement.{statement}
 use Rattle.form_coder.proofs.read_atoms.Tie as tie
 

@@ -6,7 +6,7 @@ use lib.ListN.{length, take, set}
 use lib.Seq.{length-take-le, getD-take}
 use borrow.Author.Needs.{needs}
 use Rattle.laws.specs.Laying.{Mapped, mapped-none, mapped-more, mapped-all}
-use Rattle.skeleton.specs.Label.{digits}
+use Rattle.skeleton.specs.document.Label.{digits}
 use Rattle.form_coder.proofs.Written.{mapped-behind}
 use Rattle.form_coder.proofs.read_digits.Statement.{statement}
 use Rattle.form_coder.proofs.read_digits.Tie as tie

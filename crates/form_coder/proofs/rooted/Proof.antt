@@ -3,7 +3,7 @@ use mathlib.Core.Path.{_∙_}
 use borrow.Author.Needs.{needs}
 use denote.Ref.{now}
 use Rattle.skeleton.specs.Carbon.{carbon}
-use Rattle.edge_list.specs.Table.{carbon-named}
+use Rattle.letters.specs.Named.{carbon-named}
 use Rattle.numbering.specs.Rewritten.{carbon-counted}
 use Rattle.form_coder.proofs.Written.{digits-written, all-ranked, rooted-told}
 use Rattle.form_coder.proofs.rooted.Statement.{statement}

@@ -10,8 +10,9 @@ use Rattle.refusal.specs.Checks.{passes, fails}
 use Rattle.refusal.specs.Laws.{clear-one, first-place}
 use Rattle.digit_code.specs.document.Code.{digit, cap}
 use Rattle.digit_code.specs.Two.{as-long, digit-at}
-use Rattle.skeleton.specs.Label.{row20}
-use Rattle.skeleton.specs.Atoms.{named, bonds, atoms}
+use Rattle.skeleton.specs.document.Label.{row20}
+use Rattle.skeleton.specs.document.Atom.{named, bonds}
+use Rattle.skeleton.specs.document.AtomMarks.{atoms}
 use Rattle.centred_check.specs.Kinds.{limits-some}
 use Rattle.lettered_check.proofs.bonded.Statement.{statement}
 use Rattle.lettered_check.proofs.bonded.Tie as tie

@@ -12,9 +12,10 @@ use Rattle.refusal.specs.Checks.{Answers}
 use Rattle.refusal.specs.Laws.{stops, goes-on, was-clear, at-least, at-most}
 use Rattle.limits.specs.document.Limits.{size, valence}
 use Rattle.digit_code.specs.Digits.{digits}
-use Rattle.skeleton.specs.Atoms.{atoms}
-use Rattle.form.specs.Labelled.{centredₗ, row14ₗ}
-use Rattle.form.specs.Lettered.{marksOf, namedDigitRows, marks-digits, length-marks}
+use Rattle.skeleton.specs.document.AtomMarks.{atoms}
+use Rattle.form.specs.document.Labelled.{centredₗ, row14ₗ}
+use Rattle.lettered_check.specs.document.Lettered.{marksOf, namedDigitRows}
+use Rattle.lettered_check.specs.Lettered.{marks-digits, length-marks}
 use Rattle.lettered_check.specs.Rows.{ends-there}
 use Rattle.lettered_check.proofs.check.Statement.{statement}
 use Rattle.lettered_check.proofs.check.Tie as tie
@@ -41,8 +42,7 @@ are-marks c =
 check-marks-requires : tie.Need-check-marks-requires
 check-marks-requires c κs =
     let e = c .before in
-    let s = start e in
-    (
+    let s = start e in (
       marks-digits (s .args .ds .now) (s .args .letters .now) (s .pre) ∙ ap (digits (atoms .arity)) (sym (are-marks e)),
       (at-least (sizes (filled e)), at-most (sizes (filled e))),
     )

@@ -10,7 +10,9 @@ use Rattle.laws.specs.document.Laid.{laidOver}
 use Rattle.laws.specs.Laying.{Mapped, mapped-none, mapped-more, mapped-all}
 use Rattle.limits.specs.document.Limits.{valence}
 use Rattle.skeleton.specs.Atoms.{rank-under}
-use Rattle.form.specs.Lettered.{atomOf, marksOf, length-marks, mark-at}
+use Rattle.skeleton.specs.document.Atom.{atomOf}
+use Rattle.lettered_check.specs.document.Lettered.{marksOf}
+use Rattle.lettered_check.specs.Lettered.{length-marks, mark-at}
 use Rattle.lettered_check.specs.Rows.{too-high}
 use Rattle.lettered_check.proofs.marks.Statement.{statement}
 use Rattle.lettered_check.proofs.marks.Tie as tie
@@ -32,11 +34,11 @@ room : (s : tie.Start Inv-loop μ-loop) → length (marksOf (s .args .ds .now) (
 room s = omega (arith, long s, s .pre .1)
 
 -- the letter's rank was told
-abbrev turn : tie.After-rank Inv-loop μ-loop → tie.At-loop Inv-loop μ-loop
+abbrev turn : tie.After-ranked Inv-loop μ-loop → tie.At-loop Inv-loop μ-loop
 turn c = c .before .before .before .before .before
 
-low : (c : tie.After-rank Inv-loop μ-loop) → c .rank .result < 3
-low c = omega (arith, c .rank .ensures, rank-under (atomOf (getD (lent (turn c .before) .args .letters .now) (turn c .loop .i) 0)))
+low : (c : tie.After-ranked Inv-loop μ-loop) → c .ranked .result < 3
+low c = omega (arith, c .ranked .ensures, rank-under (atomOf (getD (lent (turn c .before) .args .letters .now) (turn c .loop .i) 0)))
 
 loop-again : tie.Need-loop-again Inv-loop μ-loop
 loop-again c =
@@ -45,7 +47,7 @@ loop-again c =
     let ds = s .args .ds .now in
     let ls = s .args .letters .now in
     let e = mark-at ds ls (l .loop .i) (s .pre .0) (omega arith) in
-    let q : getD (marksOf ds ls) (l .loop .i) 0 ≡ 3 * getD ds (l .loop .i) 0 + c .rank .result = omega (arith, e, c .rank .ensures) in
+    let q : getD (marksOf ds ls) (l .loop .i) 0 ≡ 3 * getD ds (l .loop .i) 0 + c .ranked .result = omega (arith, e, c .ranked .ensures) in
     subst (λ (m : ℕ). Mapped (λ m. m) (marksOf ds ls) (s .args .out .now) (set (l .loop .out) (l .loop .i) m) (l .loop .i + 1)) q
     (mapped-more (λ m. m) (marksOf ds ls) (s .args .out .now) (room s) (l .loop .inv) (omega (arith, long s)))
 

@@ -3,7 +3,7 @@ use Prim.Native.Nat.{_-_}
 use native.Mathlib.Omega.{arith}
 use lib.ListN.{length}
 use Rattle.texts.specs.document.Bytes.{Other}
-use Rattle.texts.specs.Each.{Passed, passed-more}
+use Rattle.laws.specs.Each.{Passed, passed-more}
 use Rattle.lines.proofs.until.Statement.{statement}
 use Rattle.lines.proofs.until.Tie as tie
 

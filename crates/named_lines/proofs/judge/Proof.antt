@@ -8,7 +8,7 @@ use Rattle.laws.specs.Laying.{laid-front}
 use Rattle.refusal.specs.document.Table.{row3}
 use Rattle.refusal.specs.Checks.{Answers}
 use Rattle.limits.specs.document.Limits.{size, valence}
-use Rattle.form.specs.Lettered.{letteredRows}
+use Rattle.lettered_check.specs.document.Lettered.{letteredRows}
 use Rattle.lines.specs.Form.{values}
 use Rattle.lines.specs.Taking.{length-values}
 use Rattle.named_lines.proofs.judge.Statement.{statement}

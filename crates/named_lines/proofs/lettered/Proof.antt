@@ -5,8 +5,8 @@ use borrow.Author.Needs.{needs}
 use borrow.Author.Tests.{not-true, not-false}
 use lib.ListN.{length}
 use Rattle.laws.specs.Tells.{holds, denies, was-held, was-denied}
-use Rattle.texts.specs.Each.{Passed, passed-more, passed-all, each-at}
-use Rattle.named_lines.specs.Named.{Letter}
+use Rattle.laws.specs.Each.{Passed, passed-more, passed-all, each-at}
+use Rattle.skeleton.specs.document.Atom.{Letter}
 use Rattle.named_lines.proofs.lettered.Statement.{statement}
 use Rattle.named_lines.proofs.lettered.Tie as tie
 
@@ -27,8 +27,8 @@ lettered-spec =
     (λ c. omega arith)
     (λ c κs. search needs)
     (λ c. let l = c .before .before .before .before in
-    denies (λ h. was-denied (c .before .letter .ensures) (not-true _ (c .if2 .taken)) (each-at Letter (l .before .before .before .args .t .now) (l .loop .i) (h .1) (omega arith))))
+    denies (λ h. was-denied (c .before .is-letter .ensures) (not-true _ (c .if2 .taken)) (each-at Letter (l .before .before .before .args .t .now) (l .loop .i) (h .1) (omega arith))))
     (λ c. omega arith)
     (λ c. omega arith)
-    (λ c. passed-more (c .before .before .before .before .loop .inv) (omega arith) (was-held (c .before .letter .ensures) (not-false _ (c .if2 .left))))
+    (λ c. passed-more (c .before .before .before .before .loop .inv) (omega arith) (was-held (c .before .is-letter .ensures) (not-false _ (c .if2 .left))))
     (λ c. holds (omega arith, passed-all (c .before .loop .inv) (omega arith))))

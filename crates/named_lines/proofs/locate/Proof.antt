@@ -6,7 +6,7 @@ use borrow.Author.Needs.{needs}
 use lib.ListN.{take}
 use lib.Seq.{length-take-le}
 use Rattle.limits.specs.document.Limits.{size}
-use Rattle.named_lines.specs.NamedTable.{namedTable}
+use Rattle.named_lines.specs.document.Named.{namedTable}
 use Rattle.named_lines.specs.NamedForm.{ShapeAt, stands, refused}
 use Rattle.named_lines.specs.Standing.{no-feed, no-form, the-shape, not-sized, not-as-many, other-letters, other-counts, it-stands}
 use Rattle.named_lines.proofs.locate.Statement.{statement}

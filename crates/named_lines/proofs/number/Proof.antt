@@ -4,7 +4,7 @@ use native.Mathlib.Omega.{arith}
 use borrow.Author.Needs.{needs}
 use borrow.Author.Tests.{not-true, not-false}
 use lib.ListN.{length, getD}
-use Rattle.texts.specs.Each.{each-at}
+use Rattle.laws.specs.Each.{each-at}
 use Rattle.lines.specs.document.Marks.{WrittenDigit, WrittenDigits}
 use Rattle.lines.specs.Forming.{figured}
 use Rattle.named_lines.specs.Finding.{not-written, one-figure, two-figures, more-figures, zero-leads}

@@ -5,7 +5,7 @@ use native.Mathlib.Omega.{arith}
 use borrow.Author.Needs.{needs}
 use lib.ListN.{length, take}
 use lib.Seq.{take-all}
-use Rattle.texts.specs.Spaced.{tally}
+use Rattle.texts.specs.document.Parts.{tally}
 use Rattle.named_lines.specs.Finding.{tally-none, tally-here, tally-not}
 use Rattle.named_lines.proofs.tallied.Statement.{statement}
 use Rattle.named_lines.proofs.tallied.Tie as tie

@@ -6,8 +6,8 @@ use lib.ListN.{length}
 use borrow.Author.Needs.{needs}
 use Rattle.refusal.specs.Laws.{stops, goes-on, was-clear}
 use Rattle.refusal.specs.declared.Check.the-variants.{Passed}
-use Rattle.skeleton.specs.Atoms.{Atom}
-use Rattle.edge_list.specs.Table.{Named}
+use Rattle.skeleton.specs.document.Atom.{Atom}
+use Rattle.letters.specs.Named.{Named}
 use Rattle.renumber.specs.Handing.{map-sizes, sent}
 use Rattle.renumber.proofs.check_marks.Statement.{statement}
 use Rattle.renumber.proofs.check_marks.Tie as tie

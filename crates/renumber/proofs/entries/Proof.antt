@@ -12,8 +12,8 @@ use Rattle.laws.specs.Tells.{was-held, was-denied}
 use Rattle.refusal.specs.document.Table.{Outside}
 use Rattle.refusal.specs.Laws.{clear-one, first-place}
 use Rattle.refusal.specs.Checks.{passes, fails}
-use Rattle.skeleton.specs.Atoms.{Atom}
-use Rattle.edge_list.specs.Table.{rankAt, Named}
+use Rattle.skeleton.specs.document.Atom.{Atom}
+use Rattle.letters.specs.Named.{rankAt, Named}
 use Rattle.renumber.specs.document.Map.{Entry, image}
 use Rattle.renumber.specs.document.Kept.{row18-kept}
 use Rattle.renumber.proofs.Atoms.{inside, same-ranks}

@@ -11,8 +11,8 @@ use Rattle.digit_code.specs.declared.Order.{Order}
 use Rattle.digit_code.specs.Compare.{same?, told-same}
 use Rattle.refusal.specs.document.Table.{gives}
 use Rattle.refusal.specs.Giving.{written-length}
-use Rattle.skeleton.specs.Atoms.{Atom}
-use Rattle.edge_list.specs.Table.{Named}
+use Rattle.skeleton.specs.document.Atom.{Atom}
+use Rattle.letters.specs.Named.{Named}
 use Rattle.form_coder.specs.Sums.{marks-few}
 use Rattle.renumber.specs.Parts.{FoundKept, LookedKept, both}
 use Rattle.renumber.proofs.Found.{found-listed, found-other, found-short, found-same}

@@ -8,7 +8,7 @@ use mathlib.Core.Logic.{_⊎_}
 use mathlib.Core.List.{List, [], _∷_}
 use Prim.Native.Nat.{ℕ}
 use Rattle.refusal.specs.document.Table.{Row}
-use Rattle.skeleton.specs.Label.{Marks, rootedₗ}
+use Rattle.skeleton.specs.document.Label.{Marks, rootedₗ}
 use Rattle.numbering.specs.Numbers.{orderₗ}
 use Rattle.renumber.specs.document.Map.{Entry, image, row5-map, row18, row19, HandedBy}
 

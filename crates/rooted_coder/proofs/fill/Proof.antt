@@ -7,7 +7,8 @@ use native.Mathlib.Omega.{arith}
 use lib.ListN.{length, getD, set, length-set}
 use lib.Seq.{getD-set-same, getD-set-other}
 use borrow.Author.Needs.{needs}
-use Rattle.edge_list.specs.Table.{deg, rankAt}
+use Rattle.letters.specs.Named.{rankAt}
+use Rattle.edge_list.specs.Table.{deg}
 use Rattle.rooted_coder.specs.Ordered.{Fills}
 use Rattle.rooted_coder.proofs.fill.Statement.{statement}
 use Rattle.rooted_coder.proofs.fill.Tie as tie

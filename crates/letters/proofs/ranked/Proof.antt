@@ -1,12 +1,11 @@
--- `edge_list::ranked` meets its contract. Assumes nothing.
+-- `letters::ranked` meets its contract. Assumes nothing.
 use mathlib.Core.Path.{_≡_, ap, sym, _∙_}
 use mathlib.Core.Logic.{ite, if-pos, if-neg}
 use Prim.Native.Nat.{ℕ}
 use native.Mathlib.Decide.{ℕ-discrete}
-use Rattle.skeleton.specs.Atoms.{Atom, C, N, O, rank}
-use Rattle.edge_list.specs.document.Letters.{letter, atomOf}
-use Rattle.edge_list.proofs.ranked.Statement.{statement}
-use Rattle.edge_list.proofs.ranked.Tie as tie
+use Rattle.skeleton.specs.document.Atom.{Atom, C, N, O, rank, letter, atomOf}
+use Rattle.letters.proofs.ranked.Statement.{statement}
+use Rattle.letters.proofs.ranked.Tie as tie
 
 module _ (b : ℕ) where
   -- the atom of a byte other than N

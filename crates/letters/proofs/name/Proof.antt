@@ -1,15 +1,14 @@
--- `edge_list::name` meets its contract. Assumes nothing.
+-- `letters::name` meets its contract. Assumes nothing.
 use mathlib.Core.Path.{_≡_, refl, sym, subst}
 use Prim.Native.Nat.{ℕ, _+_, _-_}
 use native.Mathlib.Omega.{arith}
 use lib.ListN.{length, set}
 use borrow.Author.Needs.{needs}
 use Rattle.laws.specs.Laying.{Mapped, mapped-none, mapped-more, mapped-all}
-use Rattle.skeleton.specs.Atoms.{rank}
-use Rattle.edge_list.specs.document.Letters.{atomOf}
-use Rattle.edge_list.specs.Naming.{named-laid}
-use Rattle.edge_list.proofs.name.Statement.{statement}
-use Rattle.edge_list.proofs.name.Tie as tie
+use Rattle.skeleton.specs.document.Atom.{rank, atomOf}
+use Rattle.letters.specs.Naming.{named-laid}
+use Rattle.letters.proofs.name.Statement.{statement}
+use Rattle.letters.proofs.name.Tie as tie
 
 abbrev told : ℕ → ℕ
 told b = rank (atomOf b)

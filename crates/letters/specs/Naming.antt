@@ -7,9 +7,9 @@ use lib.ListN.{length, getD, drop, length-map, List·getD-append}
 use Rattle.laws.specs.document.Laid.{laidOver}
 use Rattle.laws.specs.Laid.{laid-length}
 use Rattle.limits.specs.document.Limits.{size}
-use Rattle.skeleton.specs.Atoms.{Atom, rank}
+use Rattle.skeleton.specs.document.Atom.{Atom, rank}
 use Rattle.skeleton.specs.Numbered.{getD-map-in}
-use Rattle.edge_list.specs.Table.{Named}
+use Rattle.letters.specs.Named.{Named}
 
 -- g tells the atom of each of s, and f its rank
 pub named-laid :

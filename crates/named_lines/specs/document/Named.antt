@@ -3,20 +3,24 @@
 -- marks there [..] are 2." "Its reader takes no other lines, and is lent 64 bytes more for each, for the letters."
 --
 -- In order: a record; a line as it is written; the form of a line that is read; row 21; the format; reading into two lent areas.
--- Which rows judge the digits with their letters, 10, 20 and 11 to 14, is a parameter here, and so is the largest N; they are in `NamedTable`.
--- Assumes nothing.
+-- Which rows judge the digits with their letters is a parameter of these, and so is the largest N; at the end the rows of a named line: 10, 20, 11 to 13, and 14 over atoms. Assumes nothing.
 use mathlib.Core.Path.{_≡_}
-use mathlib.Core.Logic.{_⊎_}
 use mathlib.Core.List.{List, [], _∷_, map}
 use Prim.Native.Nat.{ℕ, _≤_}
 use lib.ListN.{length}
-use Rattle.refusal.specs.document.Table.{Outcome}
-use Rattle.texts.specs.document.Bytes.{Each}
-use Rattle.texts.specs.document.Numerals.{figures, decimal, Digits, IsCount}
+use Rattle.refusal.specs.document.Table.{Row, Outcome}
+use Rattle.limits.specs.document.Limits.{valence}
+use Rattle.digit_code.specs.document.Code.{row10, row11, row12, row13}
+use Rattle.skeleton.specs.document.Label.{row20}
+use Rattle.laws.specs.document.Each.{Each}
+use Rattle.skeleton.specs.document.Atom.{C, N, O, bonds, letter, Letter}
+use Rattle.skeleton.specs.document.AtomMarks.{atoms}
+use Rattle.form.specs.document.Labelled.{centredₗ, row14ₗ}
+use Rattle.lettered_check.specs.document.Lettered.{marksOf}
+use Rattle.texts.specs.document.Numerals.{figures, decimal, Digits, IsCount, IsNumber}
 use Rattle.texts.specs.document.Text.{PartRow, through, Format}
 use Rattle.texts.specs.document.Lent.{Lent, ReadsLine, ReadsText}
-use Rattle.texts.specs.Spaced.{spaced, tally}
-use Rattle.texts.specs.Numbers.{IsNumber}
+use Rattle.texts.specs.document.Parts.{spaced, tally}
 use Rattle.lines.specs.document.Line.{Front, front, row3-line, row5-line}
 
 -- a code with its letters, which are bytes
@@ -24,19 +28,15 @@ pub record Named : Type 0 where
   pub digits : List ℕ
   pub letters : List ℕ
 
--- C, N or O
-abbrev pub Letter : ℕ → Type 0
-Letter b = (b ≡ 67) ⊎ ((b ≡ 78) ⊎ (b ≡ 79))
-
 -- the line of a code with its letters, without its line feed
 unfoldable pub namedBody : Named → List ℕ
 namedBody c =
     spaced (decimal (length (c .digits))) (
     figures (c .digits)
     ∷ c .letters
-    ∷ decimal (tally 67 (c .letters))
-    ∷ decimal (tally 78 (c .letters))
-    ∷ decimal (tally 79 (c .letters))
+    ∷ decimal (tally (letter C) (c .letters))
+    ∷ decimal (tally (letter N) (c .letters))
+    ∷ decimal (tally (letter O) (c .letters))
     ∷ []
     )
 
@@ -67,9 +67,9 @@ pub record NamedFormed (b : List ℕ) (q : Parts) : Type 0 where
 -- the letters are N in number, and the counts are theirs
 pub record Matches (q : Parts) : Type 0 where
   pub number : length (q .letters) ≡ q .front .count
-  pub c : tally 67 (q .letters) ≡ q .carbons
-  pub n : tally 78 (q .letters) ≡ q .nitrogens
-  pub o : tally 79 (q .letters) ≡ q .oxygens
+  pub c : tally (letter C) (q .letters) ≡ q .carbons
+  pub n : tally (letter N) (q .letters) ≡ q .nitrogens
+  pub o : tally (letter O) (q .letters) ≡ q .oxygens
 
 -- 21: they are not
 abbrev pub row21 : PartRow Parts
@@ -85,9 +85,9 @@ partsOf c =
     record {
       front = front (length (c .digits)) (c .digits);
       letters = c .letters;
-      carbons = tally 67 (c .letters);
-      nitrogens = tally 78 (c .letters);
-      oxygens = tally 79 (c .letters);
+      carbons = tally (letter C) (c .letters);
+      nitrogens = tally (letter N) (c .letters);
+      oxygens = tally (letter O) (c .letters);
     }
 
 -- the format of named lines: most is the largest N, rows judge digits and letters
@@ -115,3 +115,19 @@ abbrev pub NamedTextRead :
     ℕ → List (PartRow Named) → ℕ → List ℕ → List ℕ → List ℕ → List ℕ → List ℕ → List ℕ → List ℕ → List ℕ → List ℕ → ℕ → ℕ → Type 0
 NamedTextRead most rows w t rec lets num pla rec′ lets′ num′ pla′ k at =
     ReadsText (namedLines most rows) (namedLent w) t (rec ∷ lets ∷ []) num pla (rec′ ∷ lets′ ∷ []) num′ pla′ k at
+
+-- a row of a table for digits with letters, whose number is the same for all of them
+abbrev pub namedRow : (List ℕ → List ℕ → Row) → PartRow Named
+namedRow r = record { number = r [] [] .number; applies = λ c. r (c .digits) (c .letters) .applies }
+
+-- the rows; a vertex has at most `valence` neighbours, and no more than its atom allows
+abbrev pub namedTable : List (PartRow Named)
+namedTable =
+    map namedRow
+    ((λ ds ls. row10 valence ds)
+    ∷ (λ ds ls. row20 atoms bonds (marksOf ds ls))
+    ∷ (λ ds ls. row11 ds)
+    ∷ (λ ds ls. row12 ds)
+    ∷ (λ ds ls. row13 (atoms .arity) (marksOf ds ls))
+    ∷ (λ ds ls. row14ₗ atoms (centredₗ atoms) (marksOf ds ls))
+    ∷ [])

@@ -5,7 +5,7 @@ use native.Mathlib.Numerals.{add-one}
 use native.Mathlib.Omega.{arith}
 use lib.ListN.{length, getD, take}
 use lib.Seq.{take-suc, take-all}
-use Rattle.texts.specs.document.Bytes.{Each}
+use Rattle.laws.specs.document.Each.{Each}
 
 module _ (P : ℕ → Type 0) where
   pub each-right : (s t : List ℕ) → Each P (s ++ t) → Each P t
