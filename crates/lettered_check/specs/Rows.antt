@@ -11,7 +11,7 @@ use Rattle.laws.specs.document.Laid.{laidOver}
 use Rattle.limits.specs.document.Limits.{size, valence}
 use Rattle.refusal.specs.document.Table.{Row, Clear, row3}
 use Rattle.refusal.specs.Checks.{Answers, passes, fails}
-use Rattle.refusal.specs.Laws.{goes-on, refusal-front, never, others, clear-both, size-clear}
+use Rattle.refusal.specs.Laws.{goes-on, refusal-front, never, others, clear-both, clear-right, refusal-behind, size-clear}
 use Rattle.refusal.specs.declared.Check.{Check}
 use Rattle.digit_code.specs.document.Code.{cap, row10}
 use Rattle.digit_code.specs.Digits as CodeSaid
@@ -58,6 +58,11 @@ ends-there ys n (fails l) = fails (refusal-front ys l)
 -- and behind a clear one the rest answers
 pub clear-on : {xs ys : List Row} {r : Check} → Clear xs → Answers ys r → Answers (xs ++ ys) r
 clear-on k a = goes-on (passes k) refl a
+
+-- what answers for rows behind clear ones answers for the rest
+pub answers-behind : (xs ys : List Row) {r : Check} → Clear xs → Answers (xs ++ ys) r → Answers ys r
+answers-behind xs ys k (passes c) = passes (clear-right xs ys c)
+answers-behind xs ys k (fails l) = fails (refusal-behind xs ys k l)
 
 -- ---- marks of digits and letters
 

@@ -12,7 +12,7 @@ use refusal::Check;
 ghost use mathlib.Core.Path.{_≡_};
 ghost use mathlib.Core.List.{[], _∷_, _++_};
 ghost use Prim.Native.Nat.{_≤_};
-ghost use lib.ListN.{length};
+ghost use lib.ListN.{length, take};
 ghost use Rattle.refusal.specs.document.Table.{row3};
 ghost use Rattle.refusal.specs.Checks.{Answers};
 ghost use Rattle.limits.specs.document.Limits.{size, valence};
@@ -22,7 +22,9 @@ ghost use Rattle.skeleton.specs.document.Atom.{rank, bonds};
 ghost use Rattle.skeleton.specs.document.AtomMarks.{atoms};
 ghost use Rattle.form.specs.document.Labelled.{centredₗ, row14ₗ};
 ghost use Rattle.skeleton.specs.document.Atom.{atomOf};
-ghost use Rattle.lettered_check.specs.document.Lettered.{namedDigitRows, letteredRows};
+ghost use Rattle.lettered_check.specs.document.Lettered.{marksOf, namedDigitRows, letteredRows, letteredCodeRows, letteredFormRows};
+ghost use Rattle.letters.specs.document.Letters.{row2-letters, row21-letters};
+ghost use Rattle.refusal.specs.declared.Check as Check;
 ghost use Rattle.lettered_check.specs.Rows.{Made};
 
 // 20: a digit above what its mark's atom allows, at the root one more; those behind the code's end too.
@@ -106,4 +108,51 @@ pub fn check(ds: &[u8], letters: &[u8]) -> Check
         return digit_code::capped(VALENCE, ds);
     }
     check_marks(ds, &ms[..ds.len()])
+}
+
+// 2, 3 and 21 of digits and letters that are lent by themselves.
+fn lent(ds: &[u8], letters: &[u8]) -> Check
+    ensures { λ r. ⌜ Answers (row2-letters (now (letters .entry)) ∷ row3 size (length (now (ds .entry))) ∷ row21-letters (length (now (ds .entry))) (now (letters .entry)) ∷ []) r ⌝ }
+{
+    if let Check::Refuse(k, p) = letters::known(letters) {
+        return Check::Refuse(k, p);
+    }
+    if let Check::Refuse(k, p) = refusal::sized(ds.len(), SIZE) {
+        return Check::Refuse(k, p);
+    }
+    letters::as_many(ds.len(), letters)
+}
+
+// Digits and letters lent by themselves that are to be a rooted code: 2, 3, 21, 10, 20, and 11 to 13. Where none applies, their marks are
+// written from the start of what is lent.
+pub fn check_rooted(ds: &[u8], letters: &[u8], ms: &mut [u8]) -> Check
+    requires { ⌜ size ≤ length (now ms) ⌝ }
+    ensures { λ r. ⌜ Answers (letteredCodeRows size valence (now (ds .entry)) (now (letters .entry))) r ⌝ }
+    ensures { λ r. ⌜ (r ≡ Check.Passed → take (length (now (ds .entry))) (now (ms .exit)) ≡ marksOf (now (ds .entry)) (now (letters .entry))) ⌝ }
+{
+    if let Check::Refuse(k, p) = lent(ds, letters) {
+        return Check::Refuse(k, p);
+    }
+    if !marks(ds, letters, ms) {
+        return digit_code::capped(VALENCE, ds);
+    }
+    refused(ds, &ms[..ds.len()])
+}
+
+// The same where the marks are not asked for.
+pub fn check_code(ds: &[u8], letters: &[u8]) -> Check
+    ensures { λ r. ⌜ Answers (letteredCodeRows size valence (now (ds .entry)) (now (letters .entry))) r ⌝ }
+{
+    let mut ms = [0u8; SIZE];
+    check_rooted(ds, letters, &mut ms)
+}
+
+// Digits and letters lent by themselves that are to be a centred code: 2, 3, 21, 10, 20, 11 to 13, and 14.
+pub fn check_centred(ds: &[u8], letters: &[u8]) -> Check
+    ensures { λ r. ⌜ Answers (letteredFormRows (centredₗ atoms) size valence (now (ds .entry)) (now (letters .entry))) r ⌝ }
+{
+    if let Check::Refuse(k, p) = lent(ds, letters) {
+        return Check::Refuse(k, p);
+    }
+    check(ds, letters)
 }
