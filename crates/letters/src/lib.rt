@@ -1,4 +1,5 @@
-// Letters that name atoms, a byte for each vertex: what is refused of them by themselves, and the atoms that they name.
+// Letters that name atoms, a byte for each vertex: what is refused of them by themselves, the atoms that they name, and the letters and digits of marks.
+use limits::ATOMS;
 use limits::BONDS;
 use limits::SIZE;
 use refusal::Check;
@@ -9,8 +10,11 @@ ghost use lib.ListN.{length};
 ghost use Rattle.laws.specs.Tells.{Tells};
 ghost use Rattle.refusal.specs.Checks.{Answers};
 ghost use Rattle.limits.specs.document.Limits.{size};
-ghost use Rattle.skeleton.specs.document.Atom.{rank, bonds, Letter, atomOf, atomAt};
-ghost use Rattle.letters.specs.document.Letters.{row2-letters, row21-letters, row14-atom};
+ghost use Rattle.skeleton.specs.document.Atom.{rank, named, bonds, letter, Letter, atomOf, atomAt};
+ghost use Rattle.skeleton.specs.document.AtomMarks.{atoms};
+ghost use Rattle.skeleton.specs.document.Label.{digits};
+ghost use Rattle.laws.specs.document.Laid.{laidOver};
+ghost use Rattle.letters.specs.document.Letters.{lettersOf, row2-letters, row21-letters, row14-atom};
 ghost use Rattle.letters.specs.Named.{Named};
 
 // Whether b is C, N or O.
@@ -111,4 +115,41 @@ pub fn carbon(letters: &[u8]) -> Check
         p += 1;
     }
     Check::Passed
+}
+
+// The letter of an atom's rank.
+fn lettered(rank: u8) -> u8
+    ensures { λ r. ⌜ r ≡ letter (named rank) ⌝ }
+{
+    if rank == 0 {
+        return b'C';
+    }
+    if rank == 1 {
+        return b'N';
+    }
+    b'O'
+}
+
+// The digits of marks, to the start of what is lent.
+pub fn write_digits(marks: &[u8], out: &mut [u8])
+    requires { ⌜ length (now marks) ≤ length (now out) ⌝ }
+    ensures { λ _. ⌜ now (out .exit) ≡ laidOver (digits atoms (now (marks .entry))) (now (out .entry)) ⌝ }
+{
+    let mut i = 0;
+    while i < marks.len() {
+        out[i] = marks[i] / ATOMS;
+        i += 1;
+    }
+}
+
+// The letters of marks, to the start of what is lent.
+pub fn write_letters(marks: &[u8], out: &mut [u8])
+    requires { ⌜ length (now marks) ≤ length (now out) ⌝ }
+    ensures { λ _. ⌜ now (out .exit) ≡ laidOver (lettersOf (now (marks .entry))) (now (out .entry)) ⌝ }
+{
+    let mut i = 0;
+    while i < marks.len() {
+        out[i] = lettered(marks[i] % ATOMS);
+        i += 1;
+    }
 }

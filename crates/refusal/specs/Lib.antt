@@ -5,5 +5,6 @@ pub mod Stricter
 pub mod Lowest
 pub mod Bounded
 pub mod Giving
+pub mod Both
 pub mod Checks
 pub mod document

@@ -4,3 +4,4 @@ pub mod Outcome
 pub mod Given
 pub mod Lowest
 pub mod Small
+pub mod Both

@@ -1,14 +1,14 @@
 -- Document 02, wish 7: "Codes compare by digit first and then by atom, C below N below O, vertex by vertex." "20 too many neighbours for the atom (place: [..] the digit in a code), after 10".
 --
--- A code with a letter for each digit. In order: the marks of digits and letters, and the letters of marks; what is refused of digits with their letters, as in a line; the tables of digits and letters
+-- A code with a letter for each digit. In order: the marks of digits and letters; what is refused of digits with their letters, as in a line; the tables of digits and letters
 -- that are lent by themselves. R: neighbours of a vertex, at most. Assumes nothing.
-use mathlib.Core.List.{List, [], _∷_, _++_, map}
+use mathlib.Core.List.{List, [], _∷_, _++_}
 use Prim.Native.Nat.{ℕ}
 use lib.ListN.{length}
 use Rattle.refusal.specs.document.Table.{Row, row3}
 use Rattle.digit_code.specs.document.Code.{row10, row11, row12, row13}
 use Rattle.skeleton.specs.document.Label.{row20}
-use Rattle.skeleton.specs.document.Atom.{Atom, bonds, letter, atomOf}
+use Rattle.skeleton.specs.document.Atom.{Atom, bonds, atomOf}
 use Rattle.skeleton.specs.document.AtomMarks.{atoms}
 use Rattle.form.specs.document.Labelled.{centredₗ, row14ₗ}
 use Rattle.letters.specs.document.Letters.{row2-letters, row21-letters}
@@ -18,10 +18,6 @@ unfoldable pub marksOf : List ℕ → List ℕ → List ℕ
 marksOf [] ls = []
 marksOf (d ∷ ds) [] = []
 marksOf (d ∷ ds) (b ∷ ls) = atoms .mark d (atomOf b) ∷ marksOf ds ls
-
--- the letters of marks, "in digit order"
-abbrev pub lettersOf : List ℕ → List ℕ
-lettersOf c = map (λ m. letter (atoms .atom m)) c
 
 -- What is refused of the digits ds with the marks ms, before 14. Every digit is judged for 10 and 20, those behind the code's end too.
 abbrev pub namedDigitRows : ℕ → List ℕ → List ℕ → List Row

@@ -1,12 +1,17 @@
--- Document 02, wish 7, of letters that are lent with edges or a code, a byte for each vertex: rows 2 and 21, and row 14 of the forms that "take carbon only". Every row says something of
+-- Document 02, wish 7, of letters, a byte for each vertex: those of a code's marks; of letters that are lent with edges or a code rows 2 and 21, and row 14 of the forms that "take carbon only". Every row says something of
 -- every input: where an atom is asked for, a byte that is no letter stands for carbon. Assumes nothing.
 use mathlib.Core.Path.{_≡_}
-use mathlib.Core.List.{List}
+use mathlib.Core.List.{List, map}
 use Prim.Native.Nat.{ℕ, _≤_}
 use lib.ListN.{length}
 use Rattle.laws.specs.document.Each.{Each}
 use Rattle.refusal.specs.document.Table.{Row}
-use Rattle.skeleton.specs.document.Atom.{C, Letter, atomAt}
+use Rattle.skeleton.specs.document.Atom.{C, letter, Letter, atomAt}
+use Rattle.skeleton.specs.document.AtomMarks.{atoms}
+
+-- the letters of marks, "in digit order"
+unfoldable pub lettersOf : List ℕ → List ℕ
+lettersOf c = map (λ m. letter (atoms .atom m)) c
 
 -- 2: "other marks in letters lent with edges or a code"
 abbrev pub row2-letters : List ℕ → Row

@@ -1,0 +1,1 @@
+// Digit codes and edge lists with letters.
