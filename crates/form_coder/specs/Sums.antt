@@ -143,29 +143,32 @@ module _ {N : ℕ} {E : List ℕ} (s : IsSkeleton size width N E) (label : ℕ �
   pub marks-few : {n : ℕ} → OverMiddles N E (pairsₗ atoms label N E) n → n ≤ 2 * (size * size)
   marks-few x = over-middles-twice (s .tree) marks-at x
 
--- ---- where every vertex is carbon
+-- ---- sums of the same numbers
 
-module _ {N : ℕ} {E : List ℕ} (t : IsTree N E) where
-  pub middles-carbon : {n : ℕ} → OverMiddles N E (pairsₗ atoms carbon N E) n → centredPairs N E n
-  middles-carbon x =
+module _ {N : ℕ} {E : List ℕ} (t : IsTree N E) (at to : ℕ → ℕ) (same : (v : ℕ) → 1 ≤ v → v ≤ N → at v ≡ to v) where
+  pub middles-same : {n : ℕ} → OverMiddles N E at n → OverMiddles N E to n
+  middles-same x =
       let u : ℕ = x .first in
       let v : ℕ = x .second in
       let ((a, b), (c, d)) = centre-inside N E t u v (x .centre) in
-      record {
-        first = u;
-        second = v;
-        centre = x .centre;
-        is = x .is ∙ ap₂ (λ i j. ite (ℕ-discrete u v) i (i + j)) (carbon-counted N E u t a b) (carbon-counted N E v t c d);
-      }
+      record { first = u; second = v; centre = x .centre; is = x .is ∙ ap₂ (λ i j. ite (ℕ-discrete u v) i (i + j)) (same u a b) (same v c d) }
 
-  of-degree-carbon : (d v : ℕ) → v ≤ N → ofDegree E (pairsₗ atoms carbon N E) d v ≡ ofDegree E (rootedPairs N E) d v
+  of-degree-same : (d v : ℕ) → v ≤ N → ofDegree E at d v ≡ ofDegree E to d v
   unfolding ofDegree
-  of-degree-carbon d zero h = refl
-  of-degree-carbon d (suc v) h =
-      ap₂ (λ i j. i + ite (ℕ-discrete (degree E (suc v)) d) j 0) (of-degree-carbon d v (omega arith)) (carbon-counted N E (suc v) t (omega arith) h)
+  of-degree-same d zero h = refl
+  of-degree-same d (suc v) h =
+      ap₂ (λ i j. i + ite (ℕ-discrete (degree E (suc v)) d) j 0) (of-degree-same d v (omega arith)) (same (suc v) (omega arith) h)
+
+  pub widest-same : {n : ℕ} → OverWidest N E at n → OverWidest N E to n
+  widest-same x = record { root = x .root; inside = x .inside; maximum = x .maximum; is = x .is ∙ of-degree-same (degree E (x .root)) N (omega arith) }
+
+-- where every vertex is carbon
+module _ {N : ℕ} {E : List ℕ} (t : IsTree N E) where
+  pub middles-carbon : {n : ℕ} → OverMiddles N E (pairsₗ atoms carbon N E) n → centredPairs N E n
+  middles-carbon = middles-same t (pairsₗ atoms carbon N E) (rootedPairs N E) (λ v a b. carbon-counted N E v t a b)
 
   pub widest-carbon : {n : ℕ} → OverWidest N E (pairsₗ atoms carbon N E) n → nTuplePairs N E n
-  widest-carbon x = record { root = x .root; inside = x .inside; maximum = x .maximum; is = x .is ∙ of-degree-carbon (degree E (x .root)) N (omega arith) }
+  widest-carbon = widest-same t (pairsₗ atoms carbon N E) (rootedPairs N E) (λ v a b. carbon-counted N E v t a b)
 
 -- ---- how many roots
 

@@ -7,9 +7,9 @@ use native.Mathlib.Omega.{arith}
 use lib.ListN.{length, take}
 use Rattle.laws.specs.document.Laid.{laidOver}
 use Rattle.laws.specs.Laying.{laid-front}
-use Rattle.refusal.specs.document.Table.{Row, Clear, FirstRefusal, Outcome, gives, refuses, Promise, kept, left}
+use Rattle.refusal.specs.document.Table.{Row, Clear, First, FirstRefusal, Outcome, gives, refuses, Promise, kept, left}
 use Rattle.refusal.specs.document.Both.{TwoOutputs, WritesBoth, shortFirst, shortSecond, shortBoth, GivesBoth}
-use Rattle.refusal.specs.Laws.{one-accepted, clear-one, clear-both, clear-left, first-place, refusal-front, refusal-back}
+use Rattle.refusal.specs.Laws.{one-accepted, never, others, clear-one, clear-both, clear-left, first-place, refusal-front, refusal-back}
 
 -- ---- it is one
 
@@ -77,6 +77,39 @@ module _ {rs : List Row} {Right : List ℕ → List ℕ → Type 0} {old : TwoOu
     -- both fit
     pub both-given : {new : TwoOutputs} → n ≤ length (old .0) → m ≤ length (old .1) → WritesBoth Right old n new → GivesBoth rs Right old new (gives n)
     both-given f h w = record { promise = kept (clear-both clear (clear-both (first-room Right old sized f) (second-room Right old sized h))) w }
+
+-- ---- a part of a call that writes
+
+-- What was written, or found too short, of a result that is right answers for a table that is clear, where all right results have the same lengths.
+pub both-behind :
+    {rs : List Row} {Part Right : List ℕ → List ℕ → Type 0} {old new : TwoOutputs} {n m : ℕ} {o : Outcome ℕ} → Clear rs → Sized Right n m
+    → ((c l : List ℕ) → Part c l → Right c l) → GivesBoth [] Part old new o → GivesBoth rs Right old new o
+both-behind {rs} {Part} {Right} {old} {new} {n} {m} clear sized to g = by-cases (g .promise)
+  where
+    by-cases : {o : Outcome ℕ} → Promise (shortBoth Part old) (WritesBoth Part old) old new o → GivesBoth rs Right old new o
+    by-cases (kept k w) =
+        let r = to (w .first) (w .second) (w .right) in
+        let z = sized (w .first) (w .second) r in
+        let f : length (old .0) < length (w .first) → ⊥ = λ i. never k (length (w .first)) (w .first, (w .second, w .right), (refl, i)) in
+        let h : length (old .1) < length (w .second) → ⊥ = λ i. never (others k) (length (w .second)) (w .second, (w .first, w .right), (refl, i)) in
+        let e : n ≡ _ = sym (w .count ∙ z .0) in
+        subst (λ x. GivesBoth rs Right old new (gives x)) e
+        (both-given clear sized (omega (arith, z .0)) (omega (arith, z .1))
+        (record { first = w .first; second = w .second; right = r; count = sym (z .0); first-lies = w .first-lies; second-lies = w .second-lies }))
+    by-cases (left l e) = refused (l .is) e
+      where
+        refused : {k p : ℕ} → First (shortBoth Part old) k p → new ≡ old → GivesBoth rs Right old new (refuses k p)
+        refused {k} {p} (inl (i, (c, (l, x), (j, y)), f)) e =
+            let r = to c l x in
+            let z = sized c l r in
+            subst (λ q. GivesBoth rs Right old new (refuses q p)) (sym i) (subst (λ q. GivesBoth rs Right old new (refuses 15 q)) (sym (z .0) ∙ sym j) (both-short clear sized r (omega (arith, z .0)) e))
+        refused {k} {p} (inr (f, inl (i, (l, (c, x), (j, y)), g))) e =
+            let r = to c l x in
+            let z = sized c l r in
+            let h : length (old .0) < length c → ⊥ = λ i. f (length c) (c, (l, x), (refl, i)) in
+            subst (λ q. GivesBoth rs Right old new (refuses q p)) (sym i)
+            (subst (λ q. GivesBoth rs Right old new (refuses 15 q)) (sym (z .1) ∙ sym j) (both-short-second clear sized r (omega (arith, z .0)) (omega (arith, z .1)) e))
+        refused (inr (f, inr (g, z))) e = absurd z
 
 -- ---- two calls in a row
 
