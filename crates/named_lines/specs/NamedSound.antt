@@ -5,13 +5,13 @@
 -- the rows, their sum; from the letters their counts, and from the counts the letters' number and sum. Assumes nothing.
 use mathlib.Core.Path.{_≡_, refl, sym, ap, ap₂, subst, _∙_}
 use mathlib.Core.Logic.{inr, ⊎-elim, if-pos, if-neg}
-use mathlib.Core.List.{List, [], _∷_, _++_}
+use mathlib.Core.List.{List, [], _∷_, _++_, map}
 use Prim.Native.Nat.{ℕ, _+_, _*_, _≤_, _<_}
 use native.Mathlib.Decide.{ℕ-discrete}
 use native.Mathlib.Omega.{arith}
 use lib.ListN.{length}
 use Rattle.digit_code.specs.document.Code.{sum}
-use Rattle.refusal.specs.document.Table.{Row, Clear, Outcome}
+use Rattle.refusal.specs.document.Table.{Row, Clear, Outcome, gives}
 use Rattle.refusal.specs.Laws.{never, others, clear-one, clear-both}
 use Rattle.laws.specs.document.Each.{Each}
 use Rattle.texts.specs.document.Numerals.{figures, decimal, Digits, IsCount}
@@ -291,6 +291,12 @@ module _ (most : ℕ) (rows : List (PartRow Named)) where
               );
           tied = tied;
         })
+
+    -- what is written of accepted codes with their letters is read back
+    pub named-back :
+        (cs : List Named) (os : List (Outcome Named)) → Accepted (namedLines most rows) cs → TextAnswers (namedLines most rows) (textOf namedBody cs) os
+        → os ≡ map gives cs
+    named-back = Texts.read-back (namedLines most rows) named-sound
 
     -- ---- demand 3 for lists of named lines
 
