@@ -28,6 +28,7 @@ use Rattle.texts.specs.Spaced.{Marks, Marked, Alike, Tied, same-parts}
 use Rattle.texts.specs.Parted.{parted-sound}
 use Rattle.texts.specs.Theorems as Texts
 use Rattle.texts.specs.Turns.{AllRoom}
+use Rattle.texts.specs.Going.{Spacious}
 use Rattle.lines.specs.document.Line.{Front, row3-line, row5-line}
 use Rattle.lines.specs.Plain.{same-front}
 use Rattle.skeleton.specs.document.Atom.{Atom, C, N, O, letter, Letter}
@@ -323,3 +324,6 @@ module _ (most : ℕ) (rows : List (PartRow Named)) where
     (λ q k. let r = parts-left q k in omega (arith, r .many, r .few)),
     ((λ q k. let r = parts-left q k in omega (arith, r .matches .number, r .few)), tt),
   )
+
+  pub named-spacious : Spacious (namedLines most rows) (namedLent most)
+  named-spacious = record { once = named-once; fits = named-room; wide = named-room .0 }

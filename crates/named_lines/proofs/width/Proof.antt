@@ -6,7 +6,7 @@ use borrow.Author.Needs.{needs}
 use lib.ListN.{length}
 use Rattle.texts.specs.document.Numerals.{decimal}
 use Rattle.texts.specs.document.Parts.{tally}
-use Rattle.lines.proofs.Writing.{length-short, length-long}
+use Rattle.texts.specs.Numerals.{length-short, length-long}
 use Rattle.named_lines.specs.NamedWriting.{count-long}
 use Rattle.named_lines.proofs.width.Statement.{statement}
 use Rattle.named_lines.proofs.width.Tie as tie
