@@ -17,14 +17,10 @@ use Rattle.texts.specs.Theorems.{line-back}
 use Rattle.texts.specs.document.Numerals.{figures, decimal}
 use Rattle.texts.specs.document.Parts.{spaced, tally}
 use Rattle.lines.specs.document.Line.{body, line}
-use Rattle.named_lines.specs.document.Named.{Named, namedBody, namedTable, namedLines}
+use Rattle.named_lines.specs.document.Named.{Named, namedBody, namedLine, namedTable, namedLines}
 use Rattle.named_lines.specs.NamedTable.{table-sound}
 
--- the line of a code with its letters
-abbrev pub namedLine : List ℕ → List ℕ → List ℕ
-namedLine ds ls = namedBody (record { digits = ds; letters = ls }) ++ (10 ∷ [])
-
--- its count, its digits and its letters
+-- the count, the digits and the letters of a line
 unfoldable pub opened : List ℕ → List ℕ → List ℕ
 opened ds ls = (body ds ++ (32 ∷ [])) ++ ls
 

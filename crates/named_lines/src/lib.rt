@@ -1,5 +1,6 @@
-// Named lines: their form, found; a line and a text, read; a line, written. What a named line is stands in specs/Named.antt, what the functions on
-// its form promise in specs/NamedForm.antt. What plain lines have in common with them is done by `lines`.
+// Named lines: their form, found; a line and a text, read; a line, written. What a named line is stands in specs/document/Named.antt, what
+// the functions promise that find its form in specs/NamedForm.antt, and that write its parts in specs/NamedWriting.antt. What plain lines have in common
+// with them is done by `lines`.
 use limits::SIZE;
 use lines::Opening;
 use lines::Progress;
@@ -23,12 +24,11 @@ ghost use Rattle.laws.specs.Tells.{Tells};
 ghost use Rattle.skeleton.specs.document.Atom.{Letter};
 ghost use Rattle.laws.specs.document.Each.{Each};
 ghost use Rattle.texts.specs.document.Parts.{tally};
-ghost use Rattle.named_lines.specs.document.Named.{NamedLineRead, NamedTextRead};
-ghost use Rattle.named_lines.specs.document.Named.{namedTable};
+ghost use Rattle.named_lines.specs.document.Named.{namedLine, namedTable, NamedLineRead, NamedTextRead};
 ghost use Rattle.laws.specs.document.Laid.{laidOver, Laid};
 ghost use Rattle.texts.specs.document.Numerals.{Digits};
 ghost use Rattle.named_lines.specs.NamedText.{NamedRoom};
-ghost use Rattle.named_lines.specs.NamedWriting.{namedLine, Appends, count, counts, opened};
+ghost use Rattle.named_lines.specs.NamedWriting.{Appends, count, counts, opened};
 ghost use Rattle.named_lines.specs.NamedForm.{NumberRead, Tallies, CountsRead, TailRead, ShapeRead, NamedLocated};
 
 // What stands behind the digits of a named line.
