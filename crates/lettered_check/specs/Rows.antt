@@ -3,7 +3,7 @@ use mathlib.Core.Path.{_≡_, refl, sym, ap, subst, _∙_}
 use mathlib.Core.Logic.{_↔_, if-pos, if-neg}
 use mathlib.Core.Bool.{Bool, true, false}
 use mathlib.Core.List.{List, [], _∷_, _++_}
-use Prim.Native.Nat.{ℕ, zero, suc, _+_, _-_, _≤_, _<_}
+use Prim.Native.Nat.{ℕ, _+_, _-_, _≤_, _<_}
 use native.Mathlib.Decide.{ℕ-discrete}
 use native.Mathlib.Omega.{arith}
 use lib.ListN.{length, getD, length-map}
@@ -13,7 +13,8 @@ use Rattle.refusal.specs.document.Table.{Row, Clear, row3}
 use Rattle.refusal.specs.Checks.{Answers, passes, fails}
 use Rattle.refusal.specs.Laws.{goes-on, refusal-front, never, others, clear-both, clear-right, refusal-behind, size-clear}
 use Rattle.refusal.specs.declared.Check.{Check}
-use Rattle.digit_code.specs.document.Code.{cap, row10}
+use Rattle.digit_code.specs.document.Code.{row10}
+use Rattle.digit_code.specs.Editions.{cap-most}
 use Rattle.digit_code.specs.Digits as CodeSaid
 use Rattle.digit_code.specs.Right.{Rightₗ}
 use Rattle.skeleton.specs.document.Label.{digits}
@@ -70,11 +71,6 @@ answers-behind xs ys k (fails l) = fails (refusal-behind xs ys k l)
 pub record Made (ds ls old new : List ℕ) (r : Bool) : Type 0 where
   pub written : r ≡ true → new ≡ laidOver (marksOf ds ls) old
   pub high : r ≡ false → Clear (row10 valence ds ∷ []) → ⊥
-
-cap-most : (R p : ℕ) → cap R p ≤ R
-cap-most R zero = omega arith
-cap-most R (suc zero) = omega arith
-cap-most R (suc (suc p)) = omega arith
 
 -- a digit above R is above its cap
 pub too-high : (R : ℕ) (ds : List ℕ) (i : ℕ) → i < length ds → R < getD ds i 0 → Clear (row10 R ds ∷ []) → ⊥

@@ -4,8 +4,8 @@ use mathlib.Core.Bool.{Bool, true, false}
 use mathlib.Core.List.{List, [], _∷_, _++_}
 use Prim.Native.Nat.{ℕ, zero, suc, _+_, _*_, _-_, _≤_, _<_}
 use native.Mathlib.Omega.{arith}
-use lib.ListN.{length, getD, take, drop, length-append, length-drop}
-use lib.Seq.{append-snoc, drop-cons, drop-at, take-all, take-nil}
+use lib.ListN.{length, getD, take, drop, length-append}
+use lib.Seq.{append-snoc, drop-cons, drop-at, take-nil}
 use Rattle.lines.specs.declared.Opening.{Opening}
 use Rattle.lines.specs.declared.Opening.the-variants.{At, Nothing}
 use Rattle.laws.specs.Part.{part}
@@ -13,6 +13,7 @@ use Rattle.texts.specs.document.Numerals.{figures, Digits, IsCount, one-digit, 
 use Rattle.lines.specs.Form.{Value, values, Figured, all, not-all, Begins, Opens, begins, begins-not, Forms, formed, unformed}
 use Rattle.lines.specs.document.Marks.{WrittenDigit, WrittenDigits}
 use Rattle.texts.specs.Cuts.{cut-once}
+use Rattle.texts.specs.Ending.{rest-is}
 use Rattle.texts.specs.Numerals.{length-figures, count-free}
 use Rattle.laws.specs.Each.{each-at}
 use Rattle.lines.specs.Taking.{length-values}
@@ -81,11 +82,7 @@ unfolding figures
 are-figures [] h = tt
 are-figures (d ∷ ds) h = (omega (arith, h .0), are-figures ds (h .1))
 
--- what `&b[s..]` holds
-pub rest-is : (b : List ℕ) (s : ℕ) → take (length b - s) (drop s b) ≡ drop s b
-rest-is b s = take-all (length b - s) (drop s b) (simp length-drop (omega arith))
-
--- and what stands in front of e of it
+-- what stands in front of e of what is behind s
 pub drop-take : (s e : ℕ) (l : List ℕ) → drop s (take e l) ≡ part s e l
 drop-take zero e l = let q : e - 0 ≡ e = omega arith in rw q
 drop-take (suc s) zero l = let q : 0 - suc s ≡ 0 = omega arith in rw q

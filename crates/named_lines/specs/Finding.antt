@@ -19,6 +19,7 @@ use Rattle.texts.specs.document.Numerals.{figures, Digits, IsNumber, Leads, say
 use Rattle.texts.specs.Numerals.{length-figures, count-free, marks-figures}
 use Rattle.texts.specs.Numbers.{says-least, marks-number}
 use Rattle.texts.specs.document.Parts.{spaced, tally}
+use Rattle.texts.specs.Ending.{rest-is}
 use Rattle.texts.specs.Spaced.{tally-join, no-space}
 use Rattle.texts.specs.Cuts.{not-free, cut-once}
 use Rattle.texts.specs.Ending.{Until, unfed, fed-cut}
@@ -27,7 +28,7 @@ use Rattle.lines.specs.document.Marks.{WrittenDigits}
 use Rattle.lines.specs.declared.Opening.{Opening}
 use Rattle.lines.specs.declared.Opening.the-variants as opening
 use Rattle.lines.specs.Form.{values, Figured, Begins, Opens, begins, begins-not}
-use Rattle.lines.specs.Forming.{figures-values, are-figures, figured, unfigured, rest-is, begins-within, follows}
+use Rattle.lines.specs.Forming.{figures-values, are-figures, figured, unfigured, begins-within, follows}
 use Rattle.lines.specs.Taking.{length-values}
 use Rattle.named_lines.specs.declared.Lettering.{Lettering}
 use Rattle.named_lines.specs.declared.Lettering.the-variants as lettering

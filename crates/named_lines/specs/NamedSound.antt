@@ -5,13 +5,13 @@
 -- the rows, their sum; from the letters their counts, and from the counts the letters' number and sum. Assumes nothing.
 use mathlib.Core.Path.{_≡_, refl, sym, ap, ap₂, subst, _∙_}
 use mathlib.Core.Logic.{inr, ⊎-elim, if-pos, if-neg}
-use mathlib.Core.List.{List, [], _∷_, _++_}
+use mathlib.Core.List.{List, [], _∷_, _++_, map}
 use Prim.Native.Nat.{ℕ, _+_, _*_, _≤_, _<_}
 use native.Mathlib.Decide.{ℕ-discrete}
 use native.Mathlib.Omega.{arith}
 use lib.ListN.{length}
 use Rattle.digit_code.specs.document.Code.{sum}
-use Rattle.refusal.specs.document.Table.{Row, Clear, Outcome}
+use Rattle.refusal.specs.document.Table.{Row, Clear, Outcome, gives}
 use Rattle.refusal.specs.Laws.{never, others, clear-one, clear-both}
 use Rattle.laws.specs.document.Each.{Each}
 use Rattle.texts.specs.document.Numerals.{figures, decimal, Digits, IsCount}
@@ -28,6 +28,7 @@ use Rattle.texts.specs.Spaced.{Marks, Marked, Alike, Tied, same-parts}
 use Rattle.texts.specs.Parted.{parted-sound}
 use Rattle.texts.specs.Theorems as Texts
 use Rattle.texts.specs.Turns.{AllRoom}
+use Rattle.texts.specs.Going.{Spacious}
 use Rattle.lines.specs.document.Line.{Front, row3-line, row5-line}
 use Rattle.lines.specs.Plain.{same-front}
 use Rattle.skeleton.specs.document.Atom.{Atom, C, N, O, letter, Letter}
@@ -292,6 +293,12 @@ module _ (most : ℕ) (rows : List (PartRow Named)) where
           tied = tied;
         })
 
+    -- what is written of accepted codes with their letters is read back
+    pub named-back :
+        (cs : List Named) (os : List (Outcome Named)) → Accepted (namedLines most rows) cs → TextAnswers (namedLines most rows) (textOf namedBody cs) os
+        → os ≡ map gives cs
+    named-back = Texts.read-back (namedLines most rows) named-sound
+
     -- ---- demand 3 for lists of named lines
 
     pub named-one-byte :
@@ -317,3 +324,6 @@ module _ (most : ℕ) (rows : List (PartRow Named)) where
     (λ q k. let r = parts-left q k in omega (arith, r .many, r .few)),
     ((λ q k. let r = parts-left q k in omega (arith, r .matches .number, r .few)), tt),
   )
+
+  pub named-spacious : Spacious (namedLines most rows) (namedLent most)
+  named-spacious = record { once = named-once; fits = named-room; wide = named-room .0 }

@@ -1,5 +1,6 @@
-// Named lines: their form, found; a line and a text, read; a line, written. What a named line is stands in specs/Named.antt, what the functions on
-// its form promise in specs/NamedForm.antt. What plain lines have in common with them is done by `lines`.
+// Named lines: their form, found; a line and a text, read; a line, written. What a named line is stands in specs/document/Named.antt, what
+// the functions promise that find its form in specs/NamedForm.antt, and that write its parts in specs/NamedWriting.antt. What plain lines have in common
+// with them is done by `lines`.
 use limits::SIZE;
 use lines::Opening;
 use lines::Progress;
@@ -8,26 +9,26 @@ use lines::until;
 use refusal::Answer;
 use refusal::Check;
 ghost use mathlib.Core.Path.{_≡_};
-ghost use mathlib.Core.List.{_∷_};
-ghost use Prim.Native.Nat.{_+_, _≤_};
+ghost use mathlib.Core.List.{List, _∷_};
+ghost use Prim.Native.Nat.{ℕ, _+_, _≤_};
 ghost use lib.ListN.{length};
 ghost use Rattle.limits.specs.document.Limits.{size, valence};
 ghost use Rattle.refusal.specs.document.Table.{row3};
 ghost use Rattle.refusal.specs.Checks.{Answers};
 ghost use Rattle.refusal.specs.document.Outcome.{told};
 ghost use Rattle.lettered_check.specs.document.Lettered.{letteredRows};
+ghost use Rattle.lines.specs.document.Line.{line};
 ghost use Rattle.lines.specs.document.Marks.{WrittenDigits};
 ghost use Rattle.lines.specs.Form.{values};
 ghost use Rattle.laws.specs.Tells.{Tells};
 ghost use Rattle.skeleton.specs.document.Atom.{Letter};
 ghost use Rattle.laws.specs.document.Each.{Each};
 ghost use Rattle.texts.specs.document.Parts.{tally};
-ghost use Rattle.named_lines.specs.document.Named.{NamedLineRead, NamedTextRead};
-ghost use Rattle.named_lines.specs.document.Named.{namedTable};
-ghost use Rattle.laws.specs.document.Laid.{laidOver};
-ghost use Rattle.texts.specs.document.Numerals.{decimal};
+ghost use Rattle.named_lines.specs.document.Named.{namedLine, namedTable, NamedLineRead, NamedTextRead};
+ghost use Rattle.laws.specs.document.Laid.{laidOver, Laid};
+ghost use Rattle.texts.specs.document.Numerals.{Digits};
 ghost use Rattle.named_lines.specs.NamedText.{NamedRoom};
-ghost use Rattle.named_lines.specs.NamedWriting.{Appends};
+ghost use Rattle.named_lines.specs.NamedWriting.{Appends, count, counts, opened};
 ghost use Rattle.named_lines.specs.NamedForm.{NumberRead, Tallies, CountsRead, TailRead, ShapeRead, NamedLocated};
 
 // What stands behind the digits of a named line.
@@ -310,13 +311,73 @@ pub fn read_text(
     Progress { lines: k, at }
 }
 
-// A space and the count n, behind the first `at` bytes of what is lent; the place behind them.
-fn put_count(n: usize, out: &mut [u8], at: usize) -> usize
-    requires { ⌜ n ≤ 99 ⌝ }
-    requires { ⌜ at + 1 + length (decimal n) ≤ length (now out) ⌝ }
-    ensures { λ r. ⌜ Appends (32 ∷ decimal n) (now (out .entry)) (now (out .exit)) at r ⌝ }
+// A space and how often `a` stands in `letters`, behind the first `at` bytes of what is lent; the place behind them.
+fn put_count(letters: &[u8], a: u8, out: &mut [u8], at: usize) -> usize
+    requires { ⌜ length (now letters) ≤ 99 ⌝ }
+    requires { ⌜ at + length (count a (now letters)) ≤ length (now out) ⌝ }
+    ensures { λ r. ⌜ Appends (count a (now (letters .entry))) (now (out .entry)) (now (out .exit)) at r ⌝ }
 {
+    let n = tallied(letters, a);
     out[at] = 32;
     let m = lines::write_count(n, &mut out[at + 1..]);
     at + 1 + m
+}
+
+// The counts of C, N and O, in the same way.
+fn put_counts(letters: &[u8], out: &mut [u8], at: usize) -> usize
+    requires { ⌜ length (now letters) ≤ 99 ⌝ }
+    requires { ⌜ at + length (counts (now letters)) ≤ length (now out) ⌝ }
+    ensures { λ r. ⌜ Appends (counts (now (letters .entry))) (now (out .entry)) (now (out .exit)) at r ⌝ }
+{
+    let b = put_count(letters, 67, out, at);
+    let c = put_count(letters, 78, out, b);
+    put_count(letters, 79, out, c)
+}
+
+// Count, digits and letters, to the start of what is lent; how many bytes that is.
+fn put_front(code: &[u8], letters: &[u8], out: &mut [u8]) -> usize
+    requires { ⌜ length (now code) ≤ 99 ⌝ }
+    requires { ⌜ Digits (now code) ⌝ }
+    requires { ⌜ length (line (now code)) + length (now letters) ≤ length (now out) ⌝ }
+    ensures { λ r. ⌜ Laid (opened (now (code .entry)) (now (letters .entry))) (now (out .entry)) (now (out .exit)) r ⌝ }
+{
+    let at = lines::write(code, out);
+    out[at - 1] = 32;
+    lay(letters, &mut out[at..]);
+    at + letters.len()
+}
+
+// The line of a code with its letters, to the start of what is lent; how many bytes that is.
+pub fn write(code: &[u8], letters: &[u8], out: &mut [u8]) -> usize
+    requires { ⌜ length (now code) ≤ 99 ⌝ }
+    requires { ⌜ Digits (now code) ⌝ }
+    requires { ⌜ length (now letters) ≡ length (now code) ⌝ }
+    requires { ⌜ length (namedLine (now code) (now letters)) ≤ length (now out) ⌝ }
+    ensures { λ r. ⌜ Laid (namedLine (now (code .entry)) (now (letters .entry))) (now (out .entry)) (now (out .exit)) r ⌝ }
+{
+    let at = put_front(code, letters, out);
+    let end = put_counts(letters, out, at);
+    out[end] = 10;
+    end + 1
+}
+
+// How many bytes a space and the count of `a` take.
+fn width(letters: &[u8], a: u8) -> usize
+    requires { ⌜ length (now letters) ≤ 99 ⌝ }
+    ensures { λ r. ⌜ length (count a (now (letters .entry))) ≡ r ⌝ }
+    ensures { λ r. ⌜ r ≤ 3 ⌝ }
+{
+    if tallied(letters, a) < 10 {
+        return 2;
+    }
+    3
+}
+
+// How many bytes the line of a code with these letters takes.
+pub fn extent(letters: &[u8]) -> usize
+    requires { ⌜ length (now letters) ≤ 99 ⌝ }
+    ensures { λ r. ⌜ ((c : List ℕ) → length c ≡ length (now (letters .entry)) → length (namedLine c (now (letters .entry))) ≡ r) ⌝ }
+{
+    let n = letters.len();
+    lines::extent(n) + n + width(letters, 67) + width(letters, 78) + width(letters, 79) + 1
 }

@@ -1,9 +1,9 @@
 -- Where a line ends, as a reader finds it: the first line feed, or none; and the place behind the line. Assumes nothing.
 use mathlib.Core.Path.{_≡_}
 use mathlib.Core.List.{List}
-use Prim.Native.Nat.{ℕ, suc, _≤_, _<_}
+use Prim.Native.Nat.{ℕ, suc, _-_, _≤_, _<_}
 use native.Mathlib.Omega.{arith}
-use lib.ListN.{length, getD, take, drop}
+use lib.ListN.{length, getD, take, drop, length-drop}
 use lib.Seq.{take-all, split-at}
 use Rattle.texts.specs.document.Bytes.{Free, Cut}
 
@@ -23,6 +23,10 @@ pub record Behind (t : List ℕ) (at to : ℕ) : Type 0 where
   pub feed : UpTo (drop at t) end
   pub within : to ≤ length t
   pub rest : drop to t ≡ drop (suc end) (drop at t)
+
+-- what `&t[s..]` holds
+pub rest-is : (t : List ℕ) (s : ℕ) → take (length t - s) (drop s t) ≡ drop s t
+rest-is t s = take-all (length t - s) (drop s t) (simp length-drop (omega arith))
 
 module _ {k : ℕ} {t : List ℕ} {e : ℕ} (u : Until k t e) where
   pub unfed : e ≡ length t → Free k t

@@ -15,6 +15,7 @@ pub mod Ending
 pub mod Taking
 pub mod FirstLines
 pub mod Turns
+pub mod Going
 pub mod Spaced
 pub mod Parted
 pub mod Numerals

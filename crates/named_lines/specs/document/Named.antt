@@ -2,10 +2,10 @@
 -- without leading zeros." "21 the letters are not N in number or the counts do not match, after 5; leading zeros, a missing or further part, or other
 -- marks there [..] are 2." "Its reader takes no other lines, and is lent 64 bytes more for each, for the letters."
 --
--- In order: a record; a line as it is written; the form of a line that is read; row 21; the format; reading into two lent areas.
+-- In order: a record; a line as it is written, without and with its line feed; the form of a line that is read; row 21; the format; reading into two lent areas.
 -- Which rows judge the digits with their letters is a parameter of these, and so is the largest N; at the end the rows of a named line: 10, 20, 11 to 13, and 14 over atoms. Assumes nothing.
 use mathlib.Core.Path.{_≡_}
-use mathlib.Core.List.{List, [], _∷_, map}
+use mathlib.Core.List.{List, [], _∷_, _++_, map}
 use Prim.Native.Nat.{ℕ, _≤_}
 use lib.ListN.{length}
 use Rattle.refusal.specs.document.Table.{Row, Outcome}
@@ -39,6 +39,10 @@ namedBody c =
     ∷ decimal (tally (letter O) (c .letters))
     ∷ []
     )
+
+-- the line of the digits ds with the letters ls
+abbrev pub namedLine : List ℕ → List ℕ → List ℕ
+namedLine ds ls = namedBody (record { digits = ds; letters = ls }) ++ (10 ∷ [])
 
 -- what the form of a named line shows: count and digits as of a plain line, the letters, and what the three counts say
 pub record Parts : Type 0 where

@@ -1,12 +1,12 @@
--- `listing_text::list` meets its contract. Assumes nothing.
+-- `listing_text::list_kind` meets its contract. Assumes nothing.
 use mathlib.Core.Path.{refl}
 use mathlib.Core.List.{[]}
 use native.Mathlib.Omega.{arith}
 use borrow.Author.Needs.{needs}
 use Rattle.listing_text.specs.document.Listing.{tooLong, longer}
 use Rattle.listing_text.specs.Window.{shown-none}
-use Rattle.listing_text.proofs.list.Statement.{statement}
-use Rattle.listing_text.proofs.list.Tie as tie
+use Rattle.listing_text.proofs.list_kind.Statement.{statement}
+use Rattle.listing_text.proofs.list_kind.Tie as tie
 
 returns : tie.Need-returns
 returns c =
@@ -17,8 +17,8 @@ returns c =
       piece = p .put .ensures [] _ _ (shown-none _ _) .laid;
     }
 
-pub list-spec : {M : Type 1} → statement M
-list-spec =
+pub list-kind-spec : {M : Type 1} → statement M
+list-kind-spec =
     tie.close
     (tie.spec
     (λ c. search needs)
