@@ -21,7 +21,7 @@ use Rattle.orbits.specs.Parents.{subtreeₗ}
 use Rattle.orbits.specs.Half.{restₗ}
 use Rattle.vertices.proofs.Parts.{subtree-part, subtree-long}
 
--- the root of marks with one behind its own has a child
+-- the root of marks with one behind its own has a child, so that its mark is 3 or more
 root-some : (c : List ℕ) → Ends 1 (digits atoms c) → 2 ≤ length c → 3 ≤ getD c 0 0
 unfolding digits
 root-some [] w h = let z : ⊥ = omega arith in absurd z

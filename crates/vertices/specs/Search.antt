@@ -25,5 +25,6 @@ Turns c v = Turnsₗ atoms (digits atoms c) c v
 abbrev pub Test : List ℕ → List ℕ → ℕ → ℕ → Type 0
 Test c l u v = Testₗ atoms (digits atoms c) c l u v
 
+-- whether it is
 abbrev pub test? : (c l : List ℕ) (u v : ℕ) → Dec (Test c l u v)
 test? c l u v = testₗ atoms (digits atoms c) c l u v

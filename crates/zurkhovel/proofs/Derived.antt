@@ -3,14 +3,12 @@
 use mathlib.Core.Path.{_≡_, refl, sym, ap, _∙_, subst}
 use mathlib.Core.List.{List}
 use Prim.Native.Nat.{ℕ, _≤_, _<_}
-use native.Mathlib.Omega.{arith}
 use lib.ListN.{length, take}
 use Rattle.laws.specs.document.Laid.{Laid}
 use Rattle.refusal.specs.document.Table.{Clear, gives, refuses, Writes, Gives}
 use Rattle.refusal.specs.Laws.{clear-left, others}
 use Rattle.refusal.specs.Giving.{refused-short, given, written, written-length}
 use Rattle.limits.specs.document.Limits.{size}
-use Rattle.digit_code.specs.document.Code.{codeRows}
 use Rattle.digit_code.specs.document.Code.{codeRows}
 use Rattle.digit_code.specs.Right.{RightCode, clear-right}
 use Rattle.skeleton.specs.document.Skeleton.{IsSkeleton}

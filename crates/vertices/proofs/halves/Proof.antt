@@ -27,7 +27,7 @@ halves-spec =
     (λ c. let s = c .before .before in lengths-apart (s .pre .0) (s .pre .1 .0) (s .pre .1 .1) (c .if1 .taken))
     (λ c. search needs)
     (λ c. search needs)
-    (λ c. let s = start (long c) in root-large (s .pre .0) (s .pre .1 .0) (s .pre .1 .1))
+    (λ c. let s = start (long c) in omega (arith, root-large (s .pre .0) (s .pre .1 .0) (s .pre .1 .1)))
     (λ c. let l = long (c .before) in
     let s = start l in
     roots-apart (s .pre .0) (s .pre .1 .0) (s .pre .1 .1) (l .if1 .left) (c .if2 .taken))

@@ -1,6 +1,5 @@
 -- `vertices::turns` meets its contract. Assumes nothing.
 use native.Mathlib.Omega.{arith}
-use denote.Ref.{now}
 use borrow.Author.Needs.{needs}
 use Rattle.skeleton.specs.document.AtomMarks.{atoms}
 use Rattle.skeleton.specs.General.{decode-code}
