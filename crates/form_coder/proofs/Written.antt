@@ -95,6 +95,15 @@ digits-written {old = old} {new = new} f w e =
       lies = e ∙ ap (λ l. laidOver (digits atoms l) new) (written w) ∙ ap (laidOver (digits atoms c)) (w .lies) ∙ laid-over c (digits atoms c) old (sym n);
     }
 
+-- where marks are copied and the copy's digits are read, each mark has its digit beside it
+pub digits-beside :
+    {n : ℕ} (marks old : List ℕ) {copy last : List ℕ} → n ≡ length (take n marks) → copy ≡ laidOver (take n marks) old → last ≡ laidOver (digits atoms (take n copy)) copy
+    → take n last ≡ digits atoms (take n marks)
+unfolding digits
+digits-beside {n} marks old {copy} {last} l e f =
+    let q : take n copy ≡ take n marks = laid-front (take n marks) old copy n e (sym l) in
+    laid-front (digits atoms (take n copy)) copy last n f (length-map (take n copy) (atoms .arity) ∙ ap length q ∙ sym l) ∙ ap (digits atoms) q
+
 -- where every vertex is carbon, the atoms are zeros
 pub all-ranked : (n : ℕ) → n ≤ size → Ranked n (replicate size 0)
 all-ranked n h = record { label = carbon; named = carbon-named n h }

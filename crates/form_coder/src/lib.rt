@@ -34,7 +34,7 @@ ghost use Rattle.numbering.specs.document.Pairs.{rootedPairs};
 ghost use Rattle.numbering.specs.Numbers as numbers;
 ghost use Rattle.longest_path.specs.document.Path.{IsCentre};
 ghost use Rattle.form.specs.document.Form.{nTuple, centred, row14-form, formRows};
-ghost use Rattle.form.specs.document.Labelled.{nTupleₗ, row14ₗ};
+ghost use Rattle.form.specs.document.Labelled.{nTupleₗ, centredₗ, row14ₗ};
 ghost use Rattle.form_coder.specs.document.Pairs.{OverMiddles, OverWidest, centredPairs, nTuplePairs};
 ghost use Rattle.form_coder.specs.Numbered.{Numbered, Numberedₗ, Counts, ByPlace};
 ghost use Rattle.form_coder.specs.Raised.{Raised, MaximumDegree};
@@ -148,6 +148,28 @@ pub fn numbered_marks(
             bytes::copy(&its, order);
         }
     }
+    looked
+}
+
+// The marks of the centred code, and beside them their digits.
+pub fn centred_marks(
+    n: usize,
+    edges: &[u8],
+    atoms: &[u8; SIZE],
+    ds: &mut [u8],
+    out: &mut [u8],
+) -> usize
+    requires { ⌜ tree.IsSkeleton size width n (now edges) × Ranked n (now atoms) ⌝ }
+    requires { ⌜ (n ≤ length (now ds)) × (n ≤ length (now out)) ⌝ }
+    ensures { λ _. ⌜ take n (now (ds .exit)) ≡ digits names.atoms (take n (now (out .exit))) ⌝ }
+    ensures { λ r. ⌜ ((label : ℕ → Atom) → Named n label (now (atoms .entry))
+        → Writes (centredₗ names.atoms n (now (edges .entry)) label) (now (out .entry)) n (now (out .exit))
+        × OverMiddles n (now (edges .entry)) (numbers.pairsₗ names.atoms label n (now (edges .entry))) r) ⌝ }
+{
+    let mut order = [0u8; SIZE];
+    let looked = numbered_marks(n, edges, atoms, &mut order, out);
+    bytes::copy(&out[..n], ds);
+    read_digits(ds, n);
     looked
 }
 

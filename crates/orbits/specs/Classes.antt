@@ -75,18 +75,6 @@ module _ (M : Marks) (ds c : List ℕ) where
       omega (arith, greatest-more (toldₗ n) (classOf (testₗ (toldₗ n)) (suc n) (suc (greatest (toldₗ n))) 1 (toldₗ n)), class-most (testₗ (toldₗ n)) (suc n) 1 (toldₗ n), told-most n)
 
 -- of a plain code, whose marks are its digits
-abbrev pub Turns : List ℕ → ℕ → Type 0
-Turns c v = Turnsₗ base c c v
-
-abbrev pub Test : List ℕ → List ℕ → ℕ → ℕ → Type 0
-Test c l u v = Testₗ base c c l u v
-
-abbrev pub test? : (c l : List ℕ) (u v : ℕ) → Dec (Test c l u v)
-test? c l u v = testₗ base c c l u v
-
-abbrev pub told : List ℕ → ℕ → List ℕ
-told c n = toldₗ base c c n
-
 abbrev pub classes : List ℕ → List ℕ
 classes c = classesₗ base c c
 

@@ -19,7 +19,6 @@ use Rattle.skeleton.specs.document.Skeleton.{arcs}
 use Rattle.skeleton.specs.document.Label.{Marks, joinₗ, codeₗ, digits, labels}
 use Rattle.skeleton.specs.Label.{fewer, IsRootedₗ}
 use Rattle.skeleton.specs.Decoding.{number}
-use Rattle.skeleton.specs.Base.{base}
 use Rattle.skeleton.specs.Ordered.{down-branches, code-orderedₗ}
 use Rattle.skeleton.specs.Right.{read-code}
 use Rattle.skeleton.specs.General.{decode-code}
@@ -34,10 +33,6 @@ use Rattle.orbits.specs.Parents.{subtreeₗ, root-parent, falling, paren
 -- what is left of the code where the root's child v is cut off
 abbrev pub restₗ : Marks → List ℕ → ℕ → List ℕ
 restₗ M c v = fewer M (digit c 1) ∷ (take (v - 2) (drop 1 c) ++ drop (v - 1 + length (subtreeₗ M c v)) c)
-
--- and of a plain code
-abbrev pub rest : List ℕ → ℕ → List ℕ
-rest c v = restₗ base c v
 
 -- a part s that is cut out of marks
 cut-out : (c : List ℕ) (k v : ℕ) (p s q : List ℕ) → c ≡ k ∷ (p ++ (s ++ q)) → v ≡ 2 + length p → take (v - 2) (drop 1 c) ++ drop (v - 1 + length s) c ≡ p ++ q

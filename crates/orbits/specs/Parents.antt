@@ -16,10 +16,8 @@ use Rattle.digit_code.specs.document.Code.{plain, digit, codes, childCodes, dec
 use Rattle.digit_code.specs.Ordered.{by-places}
 use Rattle.digit_code.specs.Siblings.{child-codes}
 use Rattle.skeleton.specs.document.Skeleton.{Arc, arcs, neighbours, children, IsTree}
-use Rattle.skeleton.specs.IsRooted.{IsRooted}
 use Rattle.skeleton.specs.document.Label.{Marks, joinₗ, codeₗ, digits, labels}
 use Rattle.skeleton.specs.Label.{IsRootedₗ}
-use Rattle.skeleton.specs.Base.{base, digits-base, is-rooted}
 use Rattle.skeleton.specs.General.{decoded-tree}
 use Rattle.skeleton.specs.Arcs.{near-arc, arc-near}
 use Rattle.skeleton.specs.Codes.{but}
@@ -60,10 +58,6 @@ starts-high v j (c ∷ cs) (List·Memᴰ·tail m) = omega (arith, starts-high v 
 -- the code of vertex v with all that hangs on it: the first of those that the marks from v on make
 abbrev pub subtreeₗ : Marks → List ℕ → ℕ → List ℕ
 subtreeₗ M c v = getD (codes (M .arity) (drop (v - 1) c)) 0 []
-
--- and of a plain code
-abbrev pub subtree : List ℕ → ℕ → List ℕ
-subtree c v = subtreeₗ base c v
 
 -- the subtree code of a vertex: its mark, then its children's codes
 subtree-is : (M : Marks) (c : List ℕ) (v : ℕ) → 1 ≤ v → v ≤ length c → subtreeₗ M c v ≡ digit c v ∷ flatten (childCodes (M .arity) c v)
@@ -124,12 +118,3 @@ module _ (M : Marks) (c : List ℕ) (x : IsRootedₗ M c) where
       ∙ ap₂ (λ k l. M .mark k (M .atom (digit c v)) ∷ flatten l) n (sort-stays (childCodes (M .arity) c v) (falling v a b))
       ∙ ap (λ m. m ∷ flatten (childCodes (M .arity) c v)) (M .mark-of (digit c v))
       ∙ sym (subtree-is M c v a b)
-
--- ---- of a plain code
-
-module _ (c : List ℕ) (x : IsRooted c) where
-  pub tree-of : IsTree (length c) (decode c)
-  tree-of = rw digits-base at (tree-ofₗ base c (is-rooted c .0 x))
-
-  pub parent-low : (v : ℕ) → 2 ≤ v → v ≤ length c → (1 ≤ parent c v) × (parent c v < v)
-  parent-low = rw digits-base at (parent-lowₗ base c (is-rooted c .0 x))

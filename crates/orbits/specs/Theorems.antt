@@ -10,11 +10,12 @@ use Rattle.skeleton.specs.document.Skeleton.{IsTree}
 use Rattle.skeleton.specs.document.Label.{Marks, digits, labels}
 use Rattle.skeleton.specs.General.{decode-code}
 use Rattle.skeleton.specs.document.AtomMarks.{atoms}
-use Rattle.skeleton.specs.Carbon.{carbonMark, carbon-digits, carbon-labels}
+use Rattle.skeleton.specs.Carbon.{carbon, carbonMark, carbon-digits, carbon-labels}
 use Rattle.form.specs.document.Form.{centred}
 use Rattle.form.specs.document.Labelled.{centredₗ}
 use Rattle.form.specs.Labelled.{centred-formₗ, is-rootedₗ, form-againₗ}
 use Rattle.form.specs.Forms.{centred-form, form-again, form-ends}
+use Rattle.form.specs.Rewritten.{centred-carbon}
 use Rattle.orbits.specs.document.Carried.{Carried, ClassesOf}
 use Rattle.orbits.specs.document.Numbering.{class, ByAppearance}
 use Rattle.orbits.specs.Appearance.{first-class, one-numbering}
@@ -45,6 +46,13 @@ classes-carbon c l = subst (λ n. ByAppearance (Carriedₗ atoms n (decode (digi
     -- every renumbering keeps the atoms
     same : (u v : ℕ) → Carriedₗ atoms (length c) (decode c) (labels atoms m) u v ↔ Carried (length c) (decode c) u v
     same u v = (λ (ρ, e, k). (ρ, e), λ (ρ, e). (ρ, e, λ w a b. carbon-labels c (ρ .to w) ∙ sym (carbon-labels c w)))
+
+-- So they are told on its marks.
+pub carbon-classes : (N : ℕ) (F c : List ℕ) → IsTree N F → centredₗ atoms N F carbon c → (d : List ℕ) × centred N F d × ClassesOf d (classesₗ atoms (digits atoms c) c)
+carbon-classes N F c t z =
+    let l : List ℕ = classesₗ atoms (digits atoms c) c in
+    let (d, e, x) = centred-carbon N F c .0 z in
+    (d, x, classes-carbon d l .0 (subst (λ m. ClassesOfₗ atoms m l) e (classes-ofₗ atoms N F carbon c t z)))
 
 -- No other list of numbers is so.
 pub one-classes : (c l m : List ℕ) → ClassesOf c l → ClassesOf c m → l ≡ m
