@@ -3,9 +3,7 @@ use mathlib.Core.Path.{_≡_, sym, ap, _∙_, subst}
 use mathlib.Core.List.{List, []}
 use Prim.Native.Nat.{ℕ}
 use lib.ListN.{length, take}
-use Rattle.refusal.specs.declared.Answer.{Answer}
-use Rattle.refusal.specs.document.Table.{Row, Clear, OutcomeOf, Outcome, gives, refuses, Writes}
-use Rattle.refusal.specs.document.Outcome.{told}
+use Rattle.refusal.specs.document.Table.{Row, Clear, Outcome, gives, refuses, Writes}
 use Rattle.refusal.specs.document.Both.{TwoOutputs, GivesBoth}
 use Rattle.refusal.specs.Both.{Sized, both-behind}
 use Rattle.refusal.specs.Giving.{written}
@@ -30,6 +28,6 @@ pub written-right : {Right : List ℕ → Type 0} {old new : List ℕ} {n : ℕ}
 written-right {Right} w = subst Right (sym (written w)) (w .right)
 
 -- an answer behind a code for which so many pairs were looked at
-pub reported : {P : Outcome ℕ → Type 0} {Count : ℕ → Type 0} {o : Outcome ℕ} {looked n : ℕ} → P o → Count looked → Reports (λ m. m ≡ looked) o n → Reporting P Count o n
-reported {Count = Count} {gives a} p c e = record { promised = p; reported = subst Count (sym e) c }
-reported {o = refuses k j} p c e = record { promised = p; reported = e }
+pub reported : {P : Outcome ℕ → Type 0} {Count : ℕ → Type 0} (looked : ℕ) {n : ℕ} (o : Outcome ℕ) → P o → Count looked → Reports (λ m. m ≡ looked) o n → Reporting P Count o n
+reported {Count = Count} looked (gives a) p c e = record { promised = p; reported = subst Count (sym e) c }
+reported looked (refuses k j) p c e = record { promised = p; reported = e }

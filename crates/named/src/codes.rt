@@ -5,7 +5,12 @@ use limits::VALENCE;
 use refusal::Answer;
 use refusal::Check;
 use zurkhovel::reported::Reported;
+ghost use mathlib.Core.Path.{_≡_};
+ghost use mathlib.Core.List.{[]};
 ghost use Rattle.refusal.specs.document.Outcome.{told};
+ghost use Rattle.refusal.specs.document.Both.{GivesBoth};
+ghost use Rattle.digit_code.specs.document.Code.{decode};
+ghost use Rattle.zurkhovel.specs.Rooting.{EndsWhole};
 ghost use Rattle.skeleton.specs.document.AtomMarks as names;
 ghost use Rattle.form.specs.document.Labelled.{nTupleₗ, centredₗ};
 ghost use Rattle.zurkhovel.specs.document.Reported.{Reporting};
@@ -87,4 +92,40 @@ pub fn centred_code(
     let mut marks = [0u8; SIZE];
     let looked = marked::centred(n, edges, letters, &mut marks);
     zurkhovel::reported::report(marked::spell(&marks[..n], out, spelling), looked)
+}
+
+// The edges of digits that end, and their letters.
+fn lay(code: &[u8], letters: &[u8], edges: &mut [u8], spelling: &mut [u8]) -> Answer
+    requires { ⌜ EndsWhole (now code) ⌝ }
+    ensures { λ r. ⌜ GivesBoth [] (λ E l. (E ≡ decode (now (code .entry))) × (l ≡ now (letters .entry))) (now (edges .entry), now (spelling .entry)) (now (edges .exit), now (spelling .exit)) (told r) ⌝ }
+{
+    let need = 2 * (code.len() - 1);
+    if edges.len() < need {
+        return Answer::Refused(15, need);
+    }
+    if spelling.len() < letters.len() {
+        return Answer::Refused(15, letters.len());
+    }
+    bytes::copy(letters, spelling);
+    Answer::Done(digit_code::write_edges(code, edges))
+}
+
+// The edges (parent, child), for child 2 to N, of a right rooted code, and the letters of its vertices.
+pub fn decode_code(code: &[u8], letters: &[u8], edges: &mut [u8], spelling: &mut [u8]) -> Answer
+    ensures { λ r. ⌜ NamedDecodeCode (now (code .entry)) (now (letters .entry)) (now (edges .entry), now (spelling .entry)) (now (edges .exit), now (spelling .exit)) (told r) ⌝ }
+{
+    if let Check::Refuse(k, p) = lettered_check::check_code(code, letters) {
+        return Answer::Refused(k, p);
+    }
+    lay(code, letters, edges, spelling)
+}
+
+// The same of a centred code.
+pub fn decode_centred(code: &[u8], letters: &[u8], edges: &mut [u8], spelling: &mut [u8]) -> Answer
+    ensures { λ r. ⌜ NamedDecodeForm (centredₗ names.atoms) (now (code .entry)) (now (letters .entry)) (now (edges .entry), now (spelling .entry)) (now (edges .exit), now (spelling .exit)) (told r) ⌝ }
+{
+    if let Check::Refuse(k, p) = lettered_check::check_centred(code, letters) {
+        return Answer::Refused(k, p);
+    }
+    lay(code, letters, edges, spelling)
 }
