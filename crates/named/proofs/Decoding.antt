@@ -6,15 +6,25 @@ use native.Mathlib.Omega.{arith}
 use lib.ListN.{length, take, drop}
 use lib.Seq.{take-all}
 use Rattle.laws.specs.document.Laid.{laidOver, Laid}
-use Rattle.refusal.specs.document.Table.{Row, Clear, Outcome, gives}
+use Rattle.refusal.specs.document.Table.{Row, Clear, Outcome, gives, row3}
 use Rattle.refusal.specs.document.Both.{TwoOutputs, GivesBoth}
 use Rattle.refusal.specs.Both.{Sized, both-given, both-behind}
-use Rattle.refusal.specs.Laws.{others, at-most, clear-left}
+use Rattle.refusal.specs.Laws.{never, others, at-most, at-least, clear-left, clear-both, size-clear}
 use Rattle.limits.specs.document.Limits.{size, valence}
 use Rattle.digit_code.specs.document.Code.{decode}
 use Rattle.digit_code.specs.Ends.{ends-sum, ends-iff}
 use Rattle.digit_code.specs.Counting.{clear-ends}
-use Rattle.lettered_check.specs.document.Lettered.{letteredCodeRows}
+use Rattle.limits.specs.Width.{width}
+use Rattle.skeleton.specs.document.Skeleton.{IsSkeleton}
+use Rattle.skeleton.specs.document.Label.{digits}
+use Rattle.skeleton.specs.Label.{markRows}
+use Rattle.skeleton.specs.document.Atom.{bonds}
+use Rattle.skeleton.specs.document.AtomMarks.{atoms}
+use Rattle.letters.specs.Lettered.{so-many}
+use Rattle.edge_list.specs.Tables.{in-rows}
+use Rattle.lettered_check.specs.document.Lettered.{marksOf, namedDigitRows, letteredCodeRows}
+use Rattle.lettered_check.specs.Lettered.{marks-digits, length-marks}
+use Rattle.named.specs.Accepted.{decoded-of}
 use Rattle.texts.specs.Judging.{none}
 use Rattle.zurkhovel.specs.Rooting.{EndsWhole}
 use Rattle.zurkhovel.specs.Places.{edges-of}
@@ -50,3 +60,26 @@ pub decoded :
     {rs : List Row} (c s : List ℕ) {old new : TwoOutputs} {o : Outcome ℕ} → EndsWhole c → Clear rs → GivesBoth [] (λ E l. (E ≡ decode c) × (l ≡ s)) old new o
     → GivesBoth rs (λ E l. (E ≡ decode c) × (l ≡ s)) old new o
 decoded c s w k g = both-behind k (edges-sized c s w) (λ E l h. h) g
+
+-- ---- marks of digits and letters that no row refuses
+
+module _ (ds ls : List ℕ) (k : Clear (letteredCodeRows size valence ds ls)) where
+  as-many : length ls ≡ length ds
+  as-many = so-many (length ds) ls (never (others (others k)))
+
+  pub marks-many : length (marksOf ds ls) ≡ length ds
+  marks-many = length-marks ds ls as-many
+
+  -- the digits are those of the marks
+  pub told-digits : ds ≡ digits atoms (marksOf ds ls)
+  unfolding digits
+  told-digits = marks-digits ds ls as-many
+
+  -- they decode to a skeleton
+  pub marks-skeleton : IsSkeleton size width (length (marksOf ds ls)) (decode ds)
+  marks-skeleton =
+      let c : List ℕ = marksOf ds ls in
+      let rows : Clear (row3 size (length c) ∷ markRows atoms valence bonds c) =
+      clear-both {xs = row3 size (length c) ∷ []} (size-clear (omega (arith, marks-many, at-least (others k))) (omega (arith, marks-many, at-most (others k))))
+      (subst (λ (x : List ℕ). Clear (namedDigitRows valence x c)) told-digits (others (others (others k)))) in
+      in-rows (omega arith) (subst (λ (x : List ℕ). IsSkeleton size valence (length c) (decode x)) (sym told-digits) (decoded-of c rows))

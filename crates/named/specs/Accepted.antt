@@ -1,22 +1,37 @@
 -- What an accepted edge list with letters is. Every other file of this crate has it from here. Assumes nothing.
-use mathlib.Core.Path.{_≡_, ap, _∙_}
-use mathlib.Core.List.{List}
+use mathlib.Core.Path.{_≡_, sym, subst}
+use mathlib.Core.List.{List, _∷_}
 use Prim.Native.Nat.{ℕ, _≤_}
 use native.Mathlib.Omega.{arith}
 use lib.ListN.{length, length-map}
-use Rattle.refusal.specs.document.Table.{Clear}
+use Rattle.refusal.specs.document.Table.{Clear, row3}
+use Rattle.refusal.specs.Laws.{at-most, at-least}
+use Rattle.digit_code.specs.document.Code.{decode}
 use Rattle.limits.specs.document.Limits.{size, valence}
 use Rattle.limits.specs.Width.{width}
-use Rattle.skeleton.specs.document.Skeleton.{IsTree, IsSkeleton}
-use Rattle.skeleton.specs.document.Label.{rootedₗ, digits}
-use Rattle.skeleton.specs.document.Atom.{Atom, atomAt}
+use Rattle.skeleton.specs.document.Skeleton.{IsTree, Degrees, IsSkeleton}
+use Rattle.skeleton.specs.document.Label.{rootedₗ, digits, labels}
+use Rattle.skeleton.specs.Label.{Valences, Fits, markRows}
+use Rattle.skeleton.specs.document.Atom.{Atom, C, N, O, bonds}
 use Rattle.skeleton.specs.document.AtomMarks.{atoms}
-use Rattle.skeleton.specs.General.{code-length}
+use Rattle.skeleton.specs.General.{code-length, degrees, decoded-tree, decode-code}
+use Rattle.skeleton.specs.Accepted.{marks-accepted}
 use Rattle.letters.specs.document.Letters.{lettersOf}
 use Rattle.letters.specs.Lettered.{Lettered}
 use Rattle.edge_list.specs.document.Letters.{letterRows}
 use Rattle.edge_list.specs.Letters.{letters-accepted}
 use Rattle.edge_list.specs.Tables.{in-rows}
+
+-- an atom has one to four neighbours
+some-bonds : (a : Atom) → 1 ≤ bonds a
+some-bonds C = omega arith
+some-bonds N = omega arith
+some-bonds O = omega arith
+
+few-bonds : (a : Atom) → bonds a ≤ valence
+few-bonds C = omega arith
+few-bonds N = omega arith
+few-bonds O = omega arith
 
 -- marks have as many digits, and as many letters
 pub digits-many : (c : List ℕ) → length (digits atoms c) ≡ length c
@@ -50,3 +65,16 @@ module _ (N : ℕ) (E : List ℕ) (r : ℕ) (s : List ℕ) (k : Clear (letterRow
   -- its rooted code has N marks
   pub rooted-size : (l : ℕ → Atom) → length (rootedₗ atoms l N E r) ≡ N
   rooted-size l = code-length atoms N E r l tree-of (root-of .0) (root-of .1)
+
+-- ---- codes
+
+-- Marks that no row refuses decode to a skeleton whose vertices have no more neighbours than their atoms may have.
+pub decoded-of : (c : List ℕ) → Clear (row3 size (length c) ∷ markRows atoms valence bonds c) → IsSkeleton size valence (length c) (decode (digits atoms c))
+unfolding Valences Degrees
+decoded-of c k =
+    let (x, s, v) = marks-accepted atoms c size valence bonds (omega arith) some-bonds .0 k in
+    let fits : Fits atoms bonds c = subst (Fits atoms bonds) (sym (x .is)) (degrees atoms (x .number) (x .edges) (x .root) (x .label) (x .tree) (x .inside .0) (x .inside .1) bonds .0 v) in
+    let (h, e) = decode-code atoms c .0 x in
+    let t = decoded-tree atoms c h in
+    let own = degrees atoms (length c) (decode (digits atoms c)) 1 (labels atoms c) t (omega arith) (at-least k) bonds .1 (subst (Fits atoms bonds) (sym e) fits) in
+    record { tree = t; few = at-most k; degrees = λ u a b. omega (arith, own u a b, few-bonds (labels atoms c u)) }

@@ -7,7 +7,10 @@ use refusal::Check;
 use zurkhovel::reported::Reported;
 ghost use mathlib.Core.Path.{_≡_};
 ghost use mathlib.Core.List.{[]};
+ghost use Rattle.refusal.specs.Checks.{Answers};
 ghost use Rattle.refusal.specs.document.Outcome.{told};
+ghost use Rattle.limits.specs.document.Limits.{size, valence};
+ghost use Rattle.lettered_check.specs.document.Lettered.{letteredFormRows};
 ghost use Rattle.refusal.specs.document.Both.{GivesBoth};
 ghost use Rattle.digit_code.specs.document.Code.{decode};
 ghost use Rattle.zurkhovel.specs.Rooting.{EndsWhole};
@@ -125,6 +128,27 @@ pub fn decode_centred(code: &[u8], letters: &[u8], edges: &mut [u8], spelling: &
     ensures { λ r. ⌜ NamedDecodeForm (centredₗ names.atoms) (now (code .entry)) (now (letters .entry)) (now (edges .entry), now (spelling .entry)) (now (edges .exit), now (spelling .exit)) (told r) ⌝ }
 {
     if let Check::Refuse(k, p) = lettered_check::check_centred(code, letters) {
+        return Answer::Refused(k, p);
+    }
+    lay(code, letters, edges, spelling)
+}
+
+// Digits and letters lent by themselves that are to be an N-tuple code: 2, 3, 21, 10, 20, 11 to 13, and 14.
+fn check_n_tuple(code: &[u8], letters: &[u8]) -> Check
+    ensures { λ r. ⌜ Answers (letteredFormRows (nTupleₗ names.atoms) size valence (now (code .entry)) (now (letters .entry))) r ⌝ }
+{
+    let mut marks = [0u8; SIZE];
+    if let Check::Refuse(k, p) = lettered_check::check_rooted(code, letters, &mut marks) {
+        return Check::Refuse(k, p);
+    }
+    form_coder::n_tuple_judged(code, &marks[..code.len()])
+}
+
+// The edges and letters of an N-tuple code.
+pub fn decode_n_tuple(code: &[u8], letters: &[u8], edges: &mut [u8], spelling: &mut [u8]) -> Answer
+    ensures { λ r. ⌜ NamedDecodeForm (nTupleₗ names.atoms) (now (code .entry)) (now (letters .entry)) (now (edges .entry), now (spelling .entry)) (now (edges .exit), now (spelling .exit)) (told r) ⌝ }
+{
+    if let Check::Refuse(k, p) = check_n_tuple(code, letters) {
         return Answer::Refused(k, p);
     }
     lay(code, letters, edges, spelling)
