@@ -1,3 +1,4 @@
 // Skeletons with named atoms: every public call on them and nothing else. Each vertex is C, N or O, by a letter for each. The calls are of edition 1.
 mod marked;
 pub mod codes;
+pub mod text;
