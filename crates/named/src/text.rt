@@ -1,7 +1,19 @@
 // Named lines: one, and a text of them.
+use limits::SIZE;
 use lines::Progress;
 use refusal::Answer;
+ghost use mathlib.Core.Path.{_≡_};
+ghost use mathlib.Core.List.{[]};
+ghost use Prim.Native.Nat.{_≤_};
+ghost use lib.ListN.{length};
+ghost use Rattle.refusal.specs.document.Table.{Gives};
 ghost use Rattle.refusal.specs.document.Outcome.{told};
+ghost use Rattle.limits.specs.document.Limits.{size};
+ghost use Rattle.skeleton.specs.document.Label.{digits};
+ghost use Rattle.skeleton.specs.document.AtomMarks as names;
+ghost use Rattle.letters.specs.document.Letters.{lettersOf};
+ghost use Rattle.texts.specs.document.Numerals.{Digits};
+ghost use Rattle.named_lines.specs.document.Named.{namedLine};
 ghost use Rattle.named.specs.document.Text.{NamedReadLine, NamedReadText, NamedListText};
 
 // The digits, as values, and the letters of a text's first line.
@@ -9,6 +21,24 @@ pub fn read_line(text: &[u8], out: &mut [u8], letters: &mut [u8]) -> Answer
     ensures { λ r. ⌜ NamedReadLine (now (text .entry)) (now (out .entry)) (now (letters .entry)) (now (out .exit)) (now (letters .exit)) (told r) ⌝ }
 {
     named_lines::read_line(text, out, letters)
+}
+
+// The line of marks, with row 15.
+fn line(marks: &[u8], out: &mut [u8]) -> Answer
+    requires { ⌜ length (now marks) ≤ size ⌝ }
+    requires { ⌜ Digits (digits names.atoms (now marks)) ⌝ }
+    ensures { λ r. ⌜ Gives [] (λ t. t ≡ namedLine (digits names.atoms (now (marks .entry))) (lettersOf (now (marks .entry)))) (now (out .entry)) (now (out .exit)) (told r) ⌝ }
+{
+    let n = marks.len();
+    let mut ds = [0u8; SIZE];
+    let mut ls = [0u8; SIZE];
+    letters::write_digits(marks, &mut ds);
+    letters::write_letters(marks, &mut ls);
+    let need = named_lines::extent(&ls[..n]);
+    if out.len() < need {
+        return Answer::Refused(15, need);
+    }
+    Answer::Done(named_lines::write(&ds[..n], &ls[..n], out))
 }
 
 // A text, line after line: for each line 64 bytes of `records`, 64 of `letters`, one number and one place. It stops where the text ends, or
