@@ -2,3 +2,4 @@
 mod Naming
 mod Spelling
 mod Decoding
+mod Lining

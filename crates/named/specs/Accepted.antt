@@ -23,7 +23,7 @@ use Rattle.edge_list.specs.Letters.{letters-accepted}
 use Rattle.edge_list.specs.Tables.{in-rows}
 
 -- an atom has one to four neighbours
-some-bonds : (a : Atom) → 1 ≤ bonds a
+pub some-bonds : (a : Atom) → 1 ≤ bonds a
 some-bonds C = omega arith
 some-bonds N = omega arith
 some-bonds O = omega arith

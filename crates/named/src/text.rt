@@ -1,7 +1,11 @@
 // Named lines: one, and a text of them.
+use super::marked;
 use limits::SIZE;
+use limits::VALENCE;
 use lines::Progress;
 use refusal::Answer;
+use refusal::Check;
+use zurkhovel::reported::Reported;
 ghost use mathlib.Core.Path.{_≡_};
 ghost use mathlib.Core.List.{[]};
 ghost use Prim.Native.Nat.{_≤_};
@@ -14,7 +18,9 @@ ghost use Rattle.skeleton.specs.document.AtomMarks as names;
 ghost use Rattle.letters.specs.document.Letters.{lettersOf};
 ghost use Rattle.texts.specs.document.Numerals.{Digits};
 ghost use Rattle.named_lines.specs.document.Named.{namedLine};
-ghost use Rattle.named.specs.document.Text.{NamedReadLine, NamedReadText, NamedListText};
+ghost use Rattle.zurkhovel.specs.document.Reported.{Reporting};
+ghost use Rattle.named.specs.document.Codes.{namedMiddles};
+ghost use Rattle.named.specs.document.Text.{NamedWriteLine, NamedReadLine, NamedReadText, NamedListText};
 
 // The digits, as values, and the letters of a text's first line.
 pub fn read_line(text: &[u8], out: &mut [u8], letters: &mut [u8]) -> Answer
@@ -39,6 +45,21 @@ fn line(marks: &[u8], out: &mut [u8]) -> Answer
         return Answer::Refused(15, need);
     }
     Answer::Done(named_lines::write(&ds[..n], &ls[..n], out))
+}
+
+// The named line of a skeleton's centred code.
+pub fn write_line(n: usize, edges: &[u8], letters: &[u8], out: &mut [u8]) -> Reported
+    ensures { λ r. ⌜ Reporting (NamedWriteLine n (now (edges .entry)) (now (letters .entry)) (now (out .entry)) (now (out .exit))) (namedMiddles n (now (edges .entry)) (now (letters .entry))) (told (r .answer)) (r .pairs) ⌝ }
+{
+    if let Check::Refuse(k, p) = edge_list::check_letters(SIZE, VALENCE, n, edges, 1, letters) {
+        return Reported {
+            answer: Answer::Refused(k, p),
+            pairs: 0,
+        };
+    }
+    let mut marks = [0u8; SIZE];
+    let looked = marked::centred(n, edges, letters, &mut marks);
+    zurkhovel::reported::report(line(&marks[..n], out), looked)
 }
 
 // A text, line after line: for each line 64 bytes of `records`, 64 of `letters`, one number and one place. It stops where the text ends, or
