@@ -3,3 +3,4 @@ mod Naming
 mod Spelling
 mod Decoding
 mod Lining
+mod Classing

@@ -2,3 +2,4 @@
 mod marked;
 pub mod codes;
 pub mod text;
+pub mod alike;
