@@ -2,3 +2,4 @@
 pub mod Codes
 pub mod Text
 pub mod Alike
+pub mod Carbon

@@ -18,8 +18,7 @@ one-both-written :
     {Right : List ℕ → List ℕ → Type 0} {old s t : TwoOutputs} → ((c l d m : List ℕ) → Right c l → Right d m → (c ≡ d) × (l ≡ m)) → (n m : ℕ)
     → WritesBoth Right old n s → WritesBoth Right old m t → (n ≡ m) × (s ≡ t)
 one-both-written {old = old} one n m v w =
-    let (e, f) = one (v .first) (v .second) (w .first) (w .second) (v .right) (w .right) in
-    (
+    let (e, f) = one (v .first) (v .second) (w .first) (w .second) (v .right) (w .right) in (
       v .count ∙ ap length e ∙ sym (w .count),
       ap₂ (λ (a b : List ℕ). (a, b)) (v .first-lies ∙ ap (λ c. laidOver c (old .0)) e ∙ sym (w .first-lies)) (v .second-lies ∙ ap (λ c. laidOver c (old .1)) f ∙ sym (w .second-lies)),
     )
@@ -121,15 +120,14 @@ gave-both {rs} {Right} {old} {new} {n} g = by-cases (g .promise)
   where
     by-cases : Promise (rs ++ shortBoth Right old) (WritesBoth Right old) old new (gives n)
         → Clear rs × ((c l : List ℕ) × Right c l × (n ≡ length c) × (take (length c) (new .0) ≡ c) × (take (length l) (new .1) ≡ l))
-    by-cases (kept k w) =
-        (
-          clear-left rs (shortBoth Right old) k,
-          (
-            w .first,
-            w .second,
-            w .right,
-            w .count,
-            laid-front (w .first) (old .0) (new .0) (length (w .first)) (w .first-lies) refl,
-            laid-front (w .second) (old .1) (new .1) (length (w .second)) (w .second-lies) refl,
-          ),
-        )
+    by-cases (kept k w) = (
+      clear-left rs (shortBoth Right old) k,
+      (
+        w .first,
+        w .second,
+        w .right,
+        w .count,
+        laid-front (w .first) (old .0) (new .0) (length (w .first)) (w .first-lies) refl,
+        laid-front (w .second) (old .1) (new .1) (length (w .second)) (w .second-lies) refl,
+      ),
+    )

@@ -40,10 +40,9 @@ are-marks c =
 returns-3 : tie.Need-returns-3
 returns-3 c =
     let e = c .before .before in
-    let s = start e in
-    (
+    let s = start e in (
       goes-on (e .before .before .before .before .before .before .before .lent .ensures) (e .before .before .before .before .before .enum-told .given .1)
-      (subst (λ (ms : List ℕ). Answers (namedDigitRows valence (s .args .ds .now) ms) (c .refused .result)) (are-marks e) (c .refused .ensures)),
+          (subst (λ (ms : List ℕ). Answers (namedDigitRows valence (s .args .ds .now) ms) (c .refused .result)) (are-marks e) (c .refused .ensures)),
       λ q. are-marks e,
     )
 
@@ -61,8 +60,7 @@ check-rooted-spec =
     (λ c κs. search needs)
     (λ c. search needs)
     (λ c. let m = c .before .before .before .before in
-    let high = m .marks .ensures .high (not-true _ (c .before .if1 .taken)) in
-    (
+    let high = m .marks .ensures .high (not-true _ (c .before .if1 .taken)) in (
       goes-on (m .before .before .before .before .lent .ensures) (m .before .before .enum-told .given .1) (ends-there _ high (c .capped .ensures)),
       λ e. absurd (high (was-clear (c .capped .ensures) e)),
     ))

@@ -35,8 +35,7 @@ equal-vertices-spec =
     (λ c. written-length (c .before .before .centred .ensures .writes))
     (λ c κs. let m = c .before .before .before in
     let d = m .before .before in
-    let x = written-right (m .centred .ensures .writes) in
-    (
+    let x = written-right (m .centred .ensures .writes) in (
       (few-marks (start d .args .n) (now (start d .args .edges)) (now (start d .args .letters)) (clear d) _ x, rooted-code (start d .args .n) (now (start d .args .edges)) (now (start d .args .letters)) (clear d) _ x),
       has-classes (start d .args .n) (now (start d .args .edges)) (now (start d .args .letters)) (clear d) _ x,
     ))

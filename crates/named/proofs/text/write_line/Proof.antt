@@ -34,8 +34,7 @@ write-line-spec =
     (λ c. written-length (c .before .before .centred .ensures .writes))
     (λ c κs. let m = c .before .before .before in
     let d = m .before .before in
-    let x = written-right (m .centred .ensures .writes) in
-    (
+    let x = written-right (m .centred .ensures .writes) in (
       few-marks (start d .args .n) (now (start d .args .edges)) (now (start d .args .letters)) (clear d) _ x,
       small-digits (start d .args .n) (now (start d .args .edges)) (now (start d .args .letters)) (clear d) _ x,
     ))
