@@ -16,6 +16,8 @@ pub mod Taking
 pub mod FirstLines
 pub mod Turns
 pub mod Going
+pub mod Seen
+pub mod Demanded
 pub mod Spaced
 pub mod Parted
 pub mod Numerals
