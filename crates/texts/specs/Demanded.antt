@@ -12,7 +12,7 @@ use Rattle.refusal.specs.document.Table.{Outcome, gives}
 use Rattle.texts.specs.document.Text.{textOf, TextAnswers}
 use Rattle.texts.specs.document.Damage.{records, refusals}
 use Rattle.texts.specs.document.Lent.{Has, EachArea, counted}
-use Rattle.texts.specs.document.Demand.{zeros, Counted, CountsAdd, linesIn, Kind, joined, Clean, none, one-more, CleanLines, Reads, ofLines, InTurns, ended, turn, handedOut, OneCall, TurnsAgree, CleanText, OneByteChanged, AnyDamage, AnswersEachLine, ReachesTheEnd, GetsOn, TurnsEnd}
+use Rattle.texts.specs.document.Demand.{zeros, Counted, CountsAdd, linesIn, Kind, joined, Clean, none, one-more, CleanLines, CallReads, ofLines, InTurns, ended, turn, handedOut, OneCall, TurnsAgree, CleanText, OneByteChanged, AnyDamage, AnswersEachLine, ReachesTheEnd, GetsOn, TurnsEnd}
 use Rattle.texts.specs.Damage.{Accept, Accepted}
 use Rattle.texts.specs.Sound.{Sound}
 use Rattle.texts.specs.Records.{records-given, records-before, records-refusals}
@@ -188,7 +188,7 @@ module _ {A F : Type 0} (kind : Kind A F) where
 
   -- of a turn: the lines read, and those that are left
   module _
-      {u : List ℕ} {recs : List (List ℕ)} {num pla : List ℕ} {recs′ : List (List ℕ)} {num′ pla′ : List ℕ} {k at : ℕ} (g : Reads kind u recs num pla recs′ num′ pla′ k at) where
+      {u : List ℕ} {recs : List (List ℕ)} {num pla : List ℕ} {recs′ : List (List ℕ)} {num′ pla′ : List ℕ} {k at : ℕ} (g : CallReads kind u recs num pla recs′ num′ pla′ k at) where
     lines-left : linesIn u ≡ k + linesIn (drop at u)
     lines-left = omega (arith, g .read .count, lines-taken (kind .format) (g .read .taken))
 

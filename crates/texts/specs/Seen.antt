@@ -18,13 +18,13 @@ use Rattle.texts.specs.document.Bytes.{Free}
 use Rattle.texts.specs.document.Text.{Format, lineRows, LineAnswers, TextAnswers}
 use Rattle.texts.specs.document.Damage.{records, refusals}
 use Rattle.texts.specs.document.Lent.{Has, EachArea, block, blocks, counted, numberOf, placeOf, Taken, none, unfinished, next}
-use Rattle.texts.specs.document.Demand.{zeros, linesIn, Kind, joined, Reads, ofLines, InTurns, ended, turn, handedOut}
+use Rattle.texts.specs.document.Demand.{zeros, linesIn, Kind, joined, CallReads, ofLines, InTurns, ended, turn, handedOut}
 use Rattle.texts.specs.Judging.{judged}
 use Rattle.texts.specs.Sound.{Once}
 use Rattle.texts.specs.Answered.{clear-line}
 use Rattle.texts.specs.Records.{records-join}
 use Rattle.texts.specs.Taking.{has-less}
-use Rattle.texts.specs.FirstLines.{Fit, Fits, answer-fits, length-block, taken-all, all-taken, taken-join}
+use Rattle.texts.specs.FirstLines.{Fit, answer-fits, length-block, taken-all, all-taken, taken-join}
 use Rattle.texts.specs.Turns.{AllRoom, read-lengths}
 
 -- ---- the bytes of several areas
@@ -192,7 +192,7 @@ module _ {A F : Type 0} (kind : Kind A F) where
       (o : Outcome A) (os : List (Outcome A)) (vs : List (A → List ℕ)) (olds news : List (List ℕ)) → FitEach vs o → Has w olds
       → EachArea (λ v old new. new ≡ blocks w v (o ∷ os) old) vs olds news
       → EachArea (λ v old new. new ≡ block v o old) vs (map (take w) olds) (map (take w) news)
-          × EachArea (λ v old new. new ≡ blocks w v os old) vs (map (drop w) olds) (map (drop w) news)
+      × EachArea (λ v old new. new ≡ blocks w v os old) vs (map (drop w) olds) (map (drop w) news)
   unfolding blocks
   areas-first o os [] [] [] f l x = (tt, tt)
   areas-first o os [] [] (new ∷ news) f l x = absurd x
@@ -292,7 +292,7 @@ module _ {A F : Type 0} (kind : Kind A F) where
     -- one turn
     turn-shows :
         {u : List ℕ} {recs : List (List ℕ)} {num pla : List ℕ} {recs′ : List (List ℕ)} {num′ pla′ : List ℕ} {k at : ℕ}
-        (g : Reads kind u recs num pla recs′ num′ pla′ k at) → Shows (g .read .answers) (take k num′) (take k pla′) (ofLines kind k recs′)
+        (g : CallReads kind u recs num pla recs′ num′ pla′ k at) → Shows (g .read .answers) (take k num′) (take k pla′) (ofLines kind k recs′)
     turn-shows {recs = recs} {num} {pla} {recs′} {num′} {pla′} {k} g =
         let n = g .read .count in
         let os = g .read .answers in

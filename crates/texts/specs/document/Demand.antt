@@ -72,8 +72,8 @@ module _ {A F : Type 0} (kind : Kind A F) where
   -- ---- what a caller sees
 
   -- a call that reads the text t: recs, num and pla before, recs′, num′ and pla′ after; k lines are read, up to the place `at`
-  abbrev pub Reads : List ℕ → List (List ℕ) → List ℕ → List ℕ → List (List ℕ) → List ℕ → List ℕ → ℕ → ℕ → Type 0
-  Reads t recs num pla recs′ num′ pla′ k at = ReadsText (kind .format) (kind .lent) t recs num pla recs′ num′ pla′ k at
+  abbrev pub CallReads : List ℕ → List (List ℕ) → List ℕ → List ℕ → List (List ℕ) → List ℕ → List ℕ → ℕ → ℕ → Type 0
+  CallReads t recs num pla recs′ num′ pla′ k at = ReadsText (kind .format) (kind .lent) t recs num pla recs′ num′ pla′ k at
 
   -- of each area, what is lent for k lines
   abbrev pub ofLines : ℕ → List (List ℕ) → List (List ℕ)
@@ -85,7 +85,7 @@ module _ {A F : Type 0} (kind : Kind A F) where
     ended : InTurns [] [] [] (map (λ v. []) (kind .lent .views))
     turn :
         {u : List ℕ} {recs : List (List ℕ)} {num pla : List ℕ} {recs′ : List (List ℕ)} {num′ pla′ ns ps : List ℕ} {bs : List (List ℕ)} {k at : ℕ}
-        → Reads u recs num pla recs′ num′ pla′ k at → InTurns (drop at u) ns ps bs
+        → CallReads u recs num pla recs′ num′ pla′ k at → InTurns (drop at u) ns ps bs
         → InTurns u (take k num′ ++ ns) (take k pla′ ++ ps) (joined (ofLines k recs′) bs)
 
   -- the records handed out: where a number is 0, what the place and the line's bytes in each area show
@@ -99,7 +99,7 @@ module _ {A F : Type 0} (kind : Kind A F) where
   abbrev pub OneCall : Type 0
   OneCall =
       (u : List ℕ) (recs : List (List ℕ)) (num pla : List ℕ) (recs′ : List (List ℕ)) (num′ pla′ : List ℕ) (k at : ℕ)
-      → Reads u recs num pla recs′ num′ pla′ k at → at ≡ length u → InTurns u (take k num′) (take k pla′) (ofLines k recs′)
+      → CallReads u recs num pla recs′ num′ pla′ k at → at ≡ length u → InTurns u (take k num′) (take k pla′) (ofLines k recs′)
 
   -- whatever is lent for each turn, the numbers, the places and the records handed out are the same
   abbrev pub TurnsAgree : Type 0
@@ -170,7 +170,7 @@ module _ {A F : Type 0} (kind : Kind A F) where
   abbrev pub ReachesTheEnd : Type 0
   ReachesTheEnd =
       (u : List ℕ) (recs : List (List ℕ)) (num pla : List ℕ) (recs′ : List (List ℕ)) (num′ pla′ : List ℕ) (k at : ℕ)
-      → Reads u recs num pla recs′ num′ pla′ k at → Has (kind .lent .width * linesIn u) recs → linesIn u ≤ length num → linesIn u ≤ length pla
+      → CallReads u recs num pla recs′ num′ pla′ k at → Has (kind .lent .width * linesIn u) recs → linesIn u ≤ length num → linesIn u ≤ length pla
       → (k ≡ linesIn u) × (at ≡ length u)
 
   -- a turn at the text t, with room for a line at least
@@ -183,7 +183,7 @@ module _ {A F : Type 0} (kind : Kind A F) where
     pub pla′ : List ℕ
     pub k : ℕ
     pub at : ℕ
-    pub read : Reads t recs num pla recs′ num′ pla′ k at
+    pub read : CallReads t recs num pla recs′ num′ pla′ k at
     pub room : Has (kind .lent .width) recs × (1 ≤ length num) × (1 ≤ length pla)
 
   -- such a turn gets on where text is left
