@@ -21,7 +21,8 @@ ghost use Rattle.zurkhovel.specs.document.Maps.{SmallOf, mapped, HandOut, Check
 ghost use Rattle.zurkhovel.specs.document.Bits.{Pack, Unpack, Whole, Unwhole, InFraction, Unfraction};
 ghost use Rattle.zurkhovel.specs.document.Matrix.{DecodeCam, DecodeZeroA, DecodeAZero, Cam, ZeroA, AZero, CamByCode, ZeroAByCode, AZeroByCode};
 ghost use Rattle.zurkhovel.specs.document.Alike.{EqualVertices};
-ghost use Rattle.zurkhovel.specs.document.Lines.{ReadLine, WriteLine, ReadText, Counted, ListText};
+ghost use Rattle.zurkhovel.specs.document.Lines.{ReadLine, WriteLine, ReadText, ListText};
+ghost use Rattle.texts.specs.document.Demand.{Counted};
 ghost use Rattle.exports.specs.document.Packing.{packed, truth, withList, held, PackedAnswer, PackedFinding, PackedMapping, PackedValue};
 
 // The values of a byte.

@@ -1,6 +1,6 @@
 -- Named lines, which carry an atom letter for each digit: a second line format beside plain lines. First the format; which rows judge digits and
--- letters; that it is sound, with both sentences of demand 3 for lists of named lines; the form as the code finds it, and reading; then the examples.
--- Assumes nothing.
+-- letters; that it is sound, with both sentences of demand 3 for lists of named lines; the form as the code finds it, and reading; demand 3
+-- of what a caller sees; then the examples. Assumes nothing.
 pub mod NamedTable
 pub mod NamedSound
 pub mod NamedForm
@@ -8,5 +8,6 @@ pub mod Finding
 pub mod Standing
 pub mod NamedText
 pub mod NamedWriting
+pub mod NamedDemanded
 pub mod Examples
 pub mod document

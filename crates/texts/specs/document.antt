@@ -5,3 +5,4 @@ pub mod Parts
 pub mod Text
 pub mod Lent
 pub mod Damage
+pub mod Demand

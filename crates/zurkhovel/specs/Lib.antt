@@ -20,7 +20,6 @@ pub mod OneMaps
 pub mod OneReported
 pub mod Looked
 pub mod Figures
-pub mod Seen
 pub mod Demanded
 pub mod DigitsOnly
 pub mod Examples
