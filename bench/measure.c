@@ -144,10 +144,17 @@ static void packed(enum side s, const struct input *x, struct result *r) {
         r->answer = c_pack(x->n, x->edges, 2 * (x->n - 1), 1, r->out, ZK_PACKED, &r->pairs);
 }
 
+static void equal_vertices(enum side s, const struct input *x, struct result *r) {
+    if (s == PROVED)
+        r->answer = zk_equal_vertices_pairs(x->n, x->edges, 2 * (x->n - 1), r->out, ZK_DIGITS, &r->pairs);
+    else if (s == PLAIN)
+        r->answer = c_equal_vertices(x->n, x->edges, 2 * (x->n - 1), r->out, ZK_DIGITS, &r->pairs);
+}
+
 static const struct call {
     const char *name;
     void (*run)(enum side, const struct input *, struct result *);
-} calls[] = {{"read_line", read_line}, {"write_line", write_line}, {"centred_code", centred}, {"n_tuple_code", n_tuple}, {"verdict", verdict}, {"packed", packed}};
+} calls[] = {{"read_line", read_line}, {"write_line", write_line}, {"centred_code", centred}, {"n_tuple_code", n_tuple}, {"verdict", verdict}, {"packed", packed}, {"equal_vertices", equal_vertices}};
 enum { CALLS = sizeof calls / sizeof *calls };
 
 /* ---- What the program does ---- */

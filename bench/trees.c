@@ -205,6 +205,53 @@ uint32_t c_n_tuple_code(size_t n, const uint8_t *edges, size_t len, uint8_t *out
     return answered(refused, place);
 }
 
+/* Whether the child v of the root, whose part ends before b, cuts the code in two equal halves: what hangs at v, and the rest with the root's digit one less. */
+static int halves(const uint8_t *code, unsigned n, unsigned v, unsigned b) {
+    return 2 * (b - v) == n && code[v] + 1 == code[0] && digits_compare(code + v + 1, code + 1, v - 1) == 0 && digits_compare(code + 2 * v, code + b, n - b) == 0;
+}
+
+/* The class of each vertex of a centred code: one for two vertices that a renumbering of the skeleton onto itself carries to one another. Of two vertices but the root the
+ * parents must be of one class and the parts equal; the root is like a child that cuts the code in two halves. */
+static void classes(const uint8_t *code, unsigned n, uint8_t *out) {
+    uint8_t up[SIZE], len[SIZE], above[SIZE], open[SIZE];
+    unsigned depth = 0, top = 1;
+    for (unsigned v = 0; v < n; v++) {
+        up[v] = depth ? open[--depth] : 0;
+        for (unsigned i = 0; i < code[v]; i++)
+            open[depth++] = (uint8_t)v;
+    }
+    for (unsigned v = n; v-- > 0;) {
+        unsigned end = v + 1;
+        for (unsigned i = 0; i < code[v]; i++)
+            end += len[end];
+        len[v] = (uint8_t)(end - v);
+    }
+    out[0] = 1;
+    for (unsigned v = 1; v < n; v++) {
+        unsigned u = 1, k = above[v] = out[up[v]], m = len[v];
+        if (up[v] == 0 && halves(code, n, v, v + m)) {
+            out[v] = 1;
+            continue;
+        }
+        while (u < v && !(above[u] == k && len[u] == m && digits_compare(code + u, code + v, m) == 0))
+            u++;
+        out[v] = u < v ? out[u] : (uint8_t)++top;
+    }
+}
+
+uint32_t c_equal_vertices(size_t n, const uint8_t *edges, size_t len, uint8_t *out, size_t out_len, size_t *pairs) {
+    struct tree t;
+    uint8_t code[SIZE];
+    uint64_t place;
+    uint32_t refused = begin(&t, n, edges, len, 1, n, out_len, &place);
+    *pairs = 0;
+    if (!refused) {
+        *pairs = code_centred(&t, code);
+        classes(code, (unsigned)n, out);
+    }
+    return answered(refused, place);
+}
+
 uint32_t c_same_skeleton(size_t n1, const uint8_t *e1, size_t l1, size_t n2, const uint8_t *e2, size_t l2, size_t *pairs) {
     struct tree a, b;
     uint8_t x[SIZE], y[SIZE];

@@ -28,7 +28,7 @@
 #include <stddef.h>
 #include <stdint.h>
 
-#define ZK_VERSION "0.4.0"
+#define ZK_VERSION "0.5.0"
 
 /* Sizes to lend, in bytes: with so much room no call answers 15, whatever it is handed. */
 #define ZK_DIGITS 64 /* the digits of a code or a line, or the classes of vertices: N */
@@ -133,7 +133,8 @@ uint32_t zk_rooted_code(size_t n, const uint8_t *edges, size_t len, size_t root,
 uint32_t zk_n_tuple_code(size_t n, const uint8_t *edges, size_t len, uint8_t *out, size_t out_len);
 uint32_t zk_centred_code(size_t n, const uint8_t *edges, size_t len, uint8_t *out, size_t out_len);
 
-/* The class of each vertex in the centred code's numbering, classes counted from 1 by first appearance: N bytes. Refusals 3, 5 to 9, 15. */
+/* The class of each vertex in the centred code's numbering, one for two vertices exactly when some renumbering that keeps all edges carries one to
+ * the other, counted from 1 by first appearance: N bytes. Refusals 3, 5 to 9, 15. */
 uint32_t zk_equal_vertices(size_t n, const uint8_t *edges, size_t len, uint8_t *out, size_t out_len);
 
 /* ---- The bit-tuple: packed (zk_pack above), as a whole number (N at most 32), as a fraction (N at most 27) ---- */

@@ -30,6 +30,10 @@ struct list random_physical(unsigned n);
 struct list path_of(unsigned n);
 struct list star_of_stars(unsigned n); /* every vertex filled to four neighbours before the next one */
 
+/* Two copies of a small tree, their first vertices joined; either copy may then get a leaf more at a random
+ * vertex, so that the halves are equal or differ in few digits, often late. Some have a vertex too full. */
+struct list two_halves(unsigned half);
+
 void add_edge(struct list *list, unsigned u, unsigned v);
 void renumber(struct list *list);
 void shuffle(struct list *list); /* order of edges and of ends */

@@ -104,6 +104,21 @@ struct list star_of_stars(unsigned n)
     return grow(n, 2);
 }
 
+struct list two_halves(unsigned half)
+{
+    struct list one = random_physical(half), list = {.n = 2 * half, .len = 0};
+    for (size_t i = 0; i < one.len; i += 2) {
+        add_edge(&list, one.ends[i], one.ends[i + 1]);
+        add_edge(&list, one.ends[i] + half, one.ends[i + 1] + half);
+    }
+    add_edge(&list, 1, half + 1);
+    if (one_in(2))
+        add_edge(&list, 1 + (unsigned)below(half), (unsigned)++list.n);
+    if (one_in(2) && list.n < 64)
+        add_edge(&list, half + 1 + (unsigned)below(half), (unsigned)++list.n);
+    return list;
+}
+
 uint64_t labelled_trees(unsigned n)
 {
     uint64_t count = 1;

@@ -67,7 +67,11 @@
     X(lines, longest_is_long)    /* 65,536 bytes are too many */ \
     X(lines, piece_skips)        /* a piece behind the first begins one byte late */ \
     X(vertices, classes_counted) /* comparing subtrees for their classes is counted */ \
-    X(vertices, depth_ignored)   /* equal subtree codes at different depths are one class */ \
+    X(vertices, depth_and_subtree) /* document 01's rule */ \
+    X(vertices, turning_forgotten) /* only renumberings that keep the root */ \
+    X(vertices, parents_by_number) /* only children of one vertex are ever alike */ \
+    X(vertices, halves_unread)   /* the skeleton turns over wherever a child of the root has half of the vertices */ \
+    X(vertices, callers_order)   /* the class of each of the caller's vertices, in their order */ \
     X(vertices, classes_from_0)
 
 #define AS_CONSTANT(PIECE, NAME) NAME,
@@ -465,20 +469,63 @@ size_t zk_list(const uint8_t *text, size_t len, size_t from, uint8_t *out, size_
     return oracle_list(text, len, from, out, out_len);
 }
 
+static bool same_part(const struct code *code, size_t a, size_t b)
+{
+    size_t a_length = code_end(code->digit + a, code->length - a);
+    size_t b_length = code_end(code->digit + b, code->length - b);
+    return order_of(code->digit + a, a_length, code->digit + b, b_length) == 1;
+}
+
+/* Classes by equal subtree codes and equal marks: of the depth, of the parent's class, or of the parent. */
+static void by_marks(const struct code *code, uint8_t *class)
+{
+    uint8_t edges[2 * most_vertices], mark[most_vertices] = {0}, classes = 1;
+    edges_of_code(code->digit, code->length, edges);
+    class[0] = 1;
+    for (size_t v = 1; v < code->length; v++) {
+        size_t parent = edges[2 * (v - 1)] - 1u;
+        mark[v] = wrong == depth_and_subtree ? mark[parent] + 1 : wrong == parents_by_number ? (uint8_t)(parent + 1) : class[parent];
+        bool half = parent == 0 && 2 * code_end(code->digit + v, code->length - v) == code->length;
+        class[v] = wrong == halves_unread && half ? class[0] : 0;
+        for (size_t u = 1; u < v && class[v] == 0; u++)
+            if (mark[u] == mark[v] && same_part(code, u, v))
+                class[v] = class[u];
+        if (class[v] == 0)
+            class[v] = ++classes;
+    }
+}
+
+/* The caller's vertices, numbered by first appearance among themselves. */
+static void in_callers_order(const struct tree *tree, uint8_t *class)
+{
+    uint8_t classes = 0;
+    for (unsigned v = 1; v <= tree->n; v++) {
+        struct code code = rooted_code(tree, v);
+        class[v - 1] = 0;
+        for (unsigned u = 1; u < v && class[v - 1] == 0; u++) {
+            struct code other = rooted_code(tree, u);
+            if (same_digits(code.digit, code.length, &other))
+                class[v - 1] = class[u - 1];
+        }
+        if (class[v - 1] == 0)
+            class[v - 1] = ++classes;
+    }
+}
+
 uint32_t zk_equal_vertices(size_t n, const uint8_t *edges, size_t len, uint8_t *out, size_t out_len)
 {
     struct answer answer = oracle_equal_vertices(n, edges, len, out, out_len);
-    if (wrong == classes_from_0 && answer.number == 0)
+    if (answer.number != 0)
+        return give(answer);
+    struct tree tree = tree_of(n, edges);
+    struct code code = centred_code(&tree);
+    if (wrong == classes_from_0)
         for (size_t i = 0; i < n; i++)
             out[i]--;
-    if (wrong == depth_ignored && answer.number == 0) {
-        struct tree tree = tree_of(n, edges);
-        struct code code = centred_code(&tree);
-        for (size_t v = 0; v < n; v++)
-            for (size_t u = 0; u < v; u++)
-                if (code.digit[u] == 0 && code.digit[v] == 0)
-                    out[v] = out[u];
-    }
+    if (wrong == depth_and_subtree || wrong == turning_forgotten || wrong == parents_by_number || wrong == halves_unread)
+        by_marks(&code, out);
+    if (wrong == callers_order)
+        in_callers_order(&tree, out);
     return give(answer);
 }
 

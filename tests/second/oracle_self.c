@@ -261,12 +261,17 @@ static void classes_of(const char *printed, const char *wanted)
     IS(memcmp(out, wanted, code.length), 0);
 }
 
-/* In 3110100 two subtrees 10 lie at different depths; in 220010 all three leaves lie at depth 2. */
+/* Document 02's figure first. 3110100 has no two alike; 2100, and 2300013000 with its other middle at 6, turn over;
+ * 11 vertices are told by codes: the path turns about its middle, and with one end forked it does not. */
 static void classes(void)
 {
+    classes_of("220010", "\1\2\3\3\4\5");
     classes_of("3110100", "\1\2\3\4\5\6\7");
-    classes_of("220010", "\1\2\3\3\4\3");
+    classes_of("2100", "\1\1\2\2");
     classes_of("40000", "\1\2\2\2\2");
+    classes_of("2300013000", "\1\2\3\3\3\1\2\3\3\3");
+    classes_of("21111011110", "\1\2\3\4\5\6\2\3\4\5\6");
+    classes_of("21120011110", "\1\2\3\4\5\5\6\7\x08\x09\x0a");
 }
 
 int main(void)
@@ -280,6 +285,6 @@ int main(void)
     listing();
     lent_outputs();
     classes();
-    printf("oracle: %u figures of document 01 held\n", held);
+    printf("oracle: %u figures of documents 01 and 02 held\n", held);
     return 0;
 }

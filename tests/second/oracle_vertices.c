@@ -1,21 +1,58 @@
-/* Equal vertices: classes by depth and subtree code, in the centred code's numbering. */
+/* Equal vertices, in the centred code's numbering: two are in one class when some renumbering that keeps all edges
+ * carries one to the other. Small skeletons are told by trying renumberings; larger ones by the codes at the two
+ * vertices as roots, which are equal exactly then. */
 #include "oracle_parts.h"
 
-static bool equal_parts(const struct code *code, size_t a, size_t b)
+enum { most_tried = 9 };
+
+/* A renumbering under way: the images of the vertices up to `given`. */
+struct trial {
+    const struct tree *tree;
+    unsigned from, to; /* the vertex that must be carried, and where to */
+    unsigned image[most_vertices + 1];
+    bool used[most_vertices + 1];
+};
+
+/* Whether w may be the image of v: unused, and joined to the images before as v is to their vertices. */
+static bool fits(const struct trial *trial, unsigned v, unsigned w)
 {
-    size_t a_length = code_end(code->digit + a, code->length - a);
-    size_t b_length = code_end(code->digit + b, code->length - b);
-    return order_of(code->digit + a, a_length, code->digit + b, b_length) == 1;
+    if (trial->used[w] || (v == trial->from) != (w == trial->to))
+        return false;
+    for (unsigned u = 1; u < v; u++)
+        if (are_joined(trial->tree, u, v) != are_joined(trial->tree, trial->image[u], w))
+            return false;
+    return true;
 }
 
-/* Every vertex lies at the depth of its parent and one more. */
-static void depths(const struct code *code, unsigned *depth)
+/* Whether the images of the vertices before v can be completed. */
+static bool completes(struct trial *trial, unsigned v)
 {
-    uint8_t edges[2 * most_vertices];
-    edges_of_code(code->digit, code->length, edges);
-    depth[0] = 0;
-    for (size_t v = 1; v < code->length; v++)
-        depth[v] = depth[edges[2 * (v - 1)] - 1] + 1;
+    if (v > trial->tree->n)
+        return true;
+    for (unsigned w = 1; w <= trial->tree->n; w++) {
+        if (!fits(trial, v, w))
+            continue;
+        trial->image[v] = w;
+        trial->used[w] = true;
+        if (completes(trial, v + 1))
+            return true;
+        trial->used[w] = false;
+    }
+    return false;
+}
+
+static bool some_renumbering(const struct tree *tree, unsigned u, unsigned v)
+{
+    struct trial trial = {.tree = tree, .from = u, .to = v};
+    return completes(&trial, 1);
+}
+
+/* Whether u is carried to v; `at` has the code at each vertex of a skeleton that is too large for trying. */
+static bool carried(const struct tree *tree, const struct code *at, unsigned u, unsigned v)
+{
+    if (tree->n <= most_tried)
+        return some_renumbering(tree, u, v);
+    return same_digits(at[u].digit, at[u].length, &at[v]);
 }
 
 struct answer oracle_equal_vertices(uint64_t n, const uint8_t *edges, size_t len, uint8_t *out, size_t room)
@@ -23,20 +60,24 @@ struct answer oracle_equal_vertices(uint64_t n, const uint8_t *edges, size_t len
     struct answer refusal = oracle_check_edges(n, edges, len, no_root);
     if (refusal.number != 0)
         return refusal;
-    struct tree tree = tree_of(n, edges);
-    struct code code = centred_code(&tree);
-    unsigned depth[most_vertices];
-    depths(&code, depth);
+    struct tree as_lent = tree_of(n, edges);
+    struct code code = centred_code(&as_lent);
+    struct tree tree = tree_of_code(code.digit, code.length);
+
+    struct code at[most_vertices + 1];
+    for (unsigned v = 1; v <= n && n > most_tried; v++)
+        at[v] = rooted_code(&tree, v);
 
     uint8_t class[most_vertices];
+    uint8_t first[most_vertices]; /* the first vertex of each class */
     uint8_t classes = 0;
-    for (size_t v = 0; v < n; v++) {
-        class[v] = 0;
-        for (size_t u = 0; u < v && class[v] == 0; u++)
-            if (depth[u] == depth[v] && equal_parts(&code, u, v))
-                class[v] = class[u];
-        if (class[v] == 0)
-            class[v] = ++classes;
+    for (unsigned v = 1; v <= n; v++) {
+        uint8_t k = 0;
+        while (k < classes && !carried(&tree, at, first[k], v))
+            k++;
+        if (k == classes)
+            first[classes++] = (uint8_t)v;
+        class[v - 1] = k + 1;
     }
     return telling(deliver(refusal, class, n, out, room), code.pairs);
 }

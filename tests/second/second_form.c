@@ -105,23 +105,6 @@ static void long_and_wide(void)
     }
 }
 
-/* Two copies of a small tree, their first vertices joined; one copy then gets a leaf more at a random
- * vertex, or has one of its leaves moved, so that the halves differ in few digits, often late. */
-static struct list two_halves(unsigned half)
-{
-    struct list one = random_physical(half), list = {.n = 2 * half, .len = 0};
-    for (size_t i = 0; i < one.len; i += 2) {
-        add_edge(&list, one.ends[i], one.ends[i + 1]);
-        add_edge(&list, one.ends[i] + half, one.ends[i + 1] + half);
-    }
-    add_edge(&list, 1, half + 1);
-    if (one_in(2))
-        add_edge(&list, 1 + (unsigned)below(half), (unsigned)++list.n);
-    if (one_in(2) && list.n < 64)
-        add_edge(&list, half + 1 + (unsigned)below(half), (unsigned)++list.n);
-    return list;
-}
-
 static void two_centred(void)
 {
     for (unsigned round = 0; round < 3000; round++) {

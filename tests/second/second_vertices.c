@@ -1,4 +1,4 @@
-/* Piece vertices: classes of equal vertices. */
+/* Piece vertices: classes of equal vertices. Up to 9 vertices the oracle tries renumberings. */
 #include "calls.h"
 #include "gen.h"
 #include "second.h"
@@ -41,9 +41,46 @@ static void larger(void)
     }
 }
 
+/* Equal halves, which turn over, and halves that differ in few digits, often late. */
+static void halves(void)
+{
+    for (unsigned round = 0; round < 4000; round++) {
+        struct list list = two_halves(1 + (unsigned)below(31));
+        renumber(&list);
+        shuffle(&list);
+        check_list(&list);
+    }
+}
+
+/* A chain with a leaf at i and one at j. */
+static struct list twigs(unsigned chain, unsigned i, unsigned j)
+{
+    struct list list = path_of(chain);
+    add_edge(&list, i, (unsigned)++list.n);
+    add_edge(&list, j, (unsigned)++list.n);
+    return list;
+}
+
+/* Deep ones: a long chain whose leaves stand at mirrored places turns over, and with one leaf a step further it
+ * does not. */
+static void deep(void)
+{
+    for (unsigned chain = 2; chain <= 62; chain += chain < 14 ? 1 : 8)
+        for (unsigned i = 1; i <= chain; i++) {
+            unsigned mirror = chain + 1 - i;
+            struct list turns = twigs(chain, i, mirror);
+            check_list(&turns);
+            struct list almost = twigs(chain, i, mirror < chain ? mirror + 1 : mirror - 1);
+            renumber(&almost);
+            check_list(&almost);
+        }
+}
+
 void piece_vertices(void)
 {
     small_skeletons();
     larger();
+    halves();
+    deep();
     CLAIM_MET(equal_vertices, 0, 3, 5, 6, 7, 8, 9, 15);
 }

@@ -91,7 +91,7 @@ fn same(edges: &[u8], others: &[u8]) {
     }
 }
 
-// The classes of its vertices, and of those of 2-methylpentane.
+// The classes of its vertices, of those of 2-methylpentane, and of butane, which turns over.
 fn alike(edges: &[u8]) {
     let mut out = [0u8; 7];
     sized(b"equal_vertices", 7, edges);
@@ -100,6 +100,9 @@ fn alike(edges: &[u8]) {
     sized(b"equal_vertices", 6, &[1, 2, 2, 3, 3, 4, 4, 5, 2, 6]);
     let b = zurkhovel::alike::equal_vertices(6, &[1, 2, 2, 3, 3, 4, 4, 5, 2, 6], &mut out);
     reported(b, &out);
+    sized(b"equal_vertices", 4, &[1, 2, 2, 3, 3, 4]);
+    let c = zurkhovel::alike::equal_vertices(4, &[1, 2, 2, 3, 3, 4], &mut out);
+    reported(c, &out);
 }
 
 fn line(edges: &[u8]) {

@@ -59,7 +59,7 @@ fn digit_codes() {
     answer(d, &out);
 }
 
-// Of 2-methylpentane.
+// Of 2-methylpentane; the classes also of butane and of neopentane.
 fn edge_codes(edges: &[u8]) {
     let mut out = [0u8; 64];
     rooted(b"check_edges", 3, &[1, 2, 1, 2], 1);
@@ -76,6 +76,12 @@ fn edge_codes(edges: &[u8]) {
     sized(b"equal_vertices", 6, edges);
     let d = zurkhovel::alike::equal_vertices(6, edges, &mut out);
     told(b"equal_vertices", d, &out);
+    sized(b"equal_vertices", 4, &[1, 2, 2, 3, 3, 4]);
+    let e = zurkhovel::alike::equal_vertices(4, &[1, 2, 2, 3, 3, 4], &mut out);
+    told(b"equal_vertices", e, &out);
+    sized(b"equal_vertices", 5, &[1, 2, 2, 3, 2, 4, 2, 5]);
+    let f = zurkhovel::alike::equal_vertices(5, &[1, 2, 2, 3, 2, 4, 2, 5], &mut out);
+    told(b"equal_vertices", f, &out);
 }
 
 fn same(n1: usize, edges1: &[u8], n2: usize, edges2: &[u8]) {

@@ -1,6 +1,6 @@
 -- Vertices that a renumbering of the skeleton onto itself carries to one another, in the numbering of a centred code.
 --
--- In order: what it is, and that it is to have equal rooted codes; the two middles of a path are joined; where the root goes; a parent goes
+-- In order: that it is to have equal rooted codes; the two middles of a path are joined; where the root goes; a parent goes
 -- where its child goes. Assumes nothing.
 use mathlib.Core.Path.{_≡_, ap, sym, _∙_, subst}
 use mathlib.Core.Logic.{_↔_, _⊎_, inl, inr, ⊎-elim}
@@ -20,13 +20,10 @@ use Rattle.longest_path.specs.document.Path.{Joined, middle₁, middle₂, IsCe
 use Rattle.longest_path.specs.Theorems.{one-centre, centre-inside, centre-carried}
 use Rattle.form.specs.document.Form.{centred}
 use Rattle.numbering.specs.document.Decoded.{parent}
+use Rattle.orbits.specs.document.Carried.{Carried}
 use Rattle.orbits.specs.Parents.{root-parent, has-parent, tree-of, parent-low, parent-arc, arc-parent}
 
--- some renumbering of the skeleton onto itself carries u to v
-abbrev pub Carried : ℕ → List ℕ → ℕ → ℕ → Type 0
-Carried N E u v = (ρ : Renumbering N E E) × (ρ .to u ≡ v)
-
--- exactly when the rooted codes at u and at v are equal
+-- u is carried to v exactly when the rooted codes at u and at v are equal
 pub carried-codes : (N : ℕ) (E : List ℕ) → IsTree N E → (u v : ℕ) → 1 ≤ u → u ≤ N → 1 ≤ v → v ≤ N → Carried N E u v ↔ (rooted N E u ≡ rooted N E v)
 carried-codes N E t u v a b g h = let (there, back) = equal-codes N E u t a b E v t g h in (back, there)
 

@@ -1,39 +1,44 @@
 -- The classes of the vertices that renumberings of the skeleton onto itself carry to one another, told from vertex to vertex in the numbering of
 -- a centred code, with the classes of the vertices before for the test.
 --
--- In order: the test; the classes; that the test tells whether two vertices are carried to one another (`test-right`); that the classes are by
--- first appearance (`classes-right`), no others are (`classes-only`), and of every skeleton's centred code (`classes-of`). Assumes nothing.
+-- In order: the test; the classes, and how many there are; that the test tells whether two vertices are carried to one another (`test-right`);
+-- that the classes are by first appearance (`classes-right`). Assumes nothing.
 use mathlib.Core.Path.{_≡_, refl, ap, sym, _∙_, subst}
 use mathlib.Core.Logic.{_↔_, Iff·trans, ite, Dec·and}
 use mathlib.Core.List.{List, [], _∷_, _++_}
 use Prim.Native.Nat.{ℕ, zero, suc, _+_, _≤_, _<_}
 use native.Mathlib.Decide.{ℕ-discrete}
 use native.Mathlib.Omega.{arith}
-use lib.ListN.{length}
+use lib.ListN.{length, length-append}
 use Rattle.digit_code.specs.document.Code.{decode}
 use Rattle.digit_code.specs.Ends.{Ends}
-use Rattle.skeleton.specs.document.Skeleton.{IsTree, rooted}
+use Rattle.skeleton.specs.document.Skeleton.{rooted}
 use Rattle.skeleton.specs.IsRooted.{IsRooted}
 use Rattle.skeleton.specs.Theorems.{decoded-tree}
 use Rattle.form.specs.document.Form.{centred}
-use Rattle.form.specs.Forms.{centred-form, is-rooted, form-again, form-ends}
+use Rattle.form.specs.Forms.{centred-form, is-rooted}
 use Rattle.numbering.specs.document.Decoded.{parent}
-use Rattle.vertices.specs.document.Numbering.{class, ByAppearance}
-use Rattle.vertices.specs.document.Vertices.{subtree}
-use Rattle.vertices.specs.Classes.{greatest, classOf, numbering, same?}
-use Rattle.vertices.specs.Appearance.{numbering-is, numbering-length, one-numbering}
-use Rattle.orbits.specs.Parents.{tree-of, parent-low}
-use Rattle.orbits.specs.Carried.{Carried, carried-codes}
+use Rattle.orbits.specs.document.Carried.{Carried, ClassesOf}
+use Rattle.orbits.specs.document.Numbering.{class, ByAppearance}
+use Rattle.orbits.specs.Found.{greatest, classOf, numbering, same?}
+use Rattle.orbits.specs.Appearance.{greatest-more, class-most, numbering-is, numbering-length}
+use Rattle.orbits.specs.Parents.{subtree, tree-of, parent-low}
+use Rattle.orbits.specs.Carried.{carried-codes}
 use Rattle.orbits.specs.Half.{rest}
 use Rattle.orbits.specs.Rule.{carried-parents, carried-root}
 
 -- ---- the test
 
--- Whether u, which stands before v, is in v's class. l: the classes of the vertices before v. The root is told by the two halves, another vertex
--- by its parent's class and its subtree code.
+-- the skeleton turns over to bring the root to v: a child of the root, whose code is the rest of the code
+abbrev pub Turns : List ℕ → ℕ → Type 0
+Turns c v = (parent c v ≡ 1) × (subtree c v ≡ rest c v)
+
+-- Whether u, which stands before v, is in v's class.
+-- The root is told by the two halves,
+-- another vertex by its parent's class and its subtree code. l: the classes of the vertices before v.
 abbrev pub Test : List ℕ → List ℕ → ℕ → ℕ → Type 0
 Test c l zero v = ⊥
-Test c l (suc zero) v = (parent c v ≡ 1) × (subtree c v ≡ rest c v)
+Test c l (suc zero) v = Turns c v
 Test c l (suc (suc u)) v = (class l (parent c (suc (suc u))) ≡ class l (parent c v)) × (subtree c (suc (suc u)) ≡ subtree c v)
 
 unfoldable pub test? : (c l : List ℕ) (u v : ℕ) → Dec (Test c l u v)
@@ -49,8 +54,22 @@ told c zero = []
 told c (suc n) = told c n ++ (classOf (test? c (told c n)) (suc n) (suc (greatest (told c n))) 1 (told c n) ∷ [])
 
 -- the class of each vertex, in the order of the digits
-unfoldable pub orbits : List ℕ → List ℕ
-orbits c = told c (length c)
+unfoldable pub classes : List ℕ → List ℕ
+classes c = told c (length c)
+
+pub told-length : (c : List ℕ) (n : ℕ) → length (told c n) ≡ n
+unfolding told
+told-length c zero = refl
+told-length c (suc n) = omega (arith, length-append (told c n) (classOf (test? c (told c n)) (suc n) (suc (greatest (told c n))) 1 (told c n) ∷ []), told-length c n)
+
+-- there are no more classes than vertices
+pub told-most : (c : List ℕ) (n : ℕ) → greatest (told c n) ≤ n
+unfolding told greatest
+told-most c zero = omega arith
+told-most c (suc n) =
+    omega (arith, greatest-more (told c n) (classOf (test? c (told c n)) (suc n) (suc (greatest (told c n))) 1 (told c n)), class-most (test? c (told c n)) (suc n) 1 (told c n), told-most c n)
+
+-- ---- the test is right
 
 -- tests that agree on the vertices before v give it the same class
 class-agrees : {R S : ℕ → ℕ → Type 0} (R? : (u v : ℕ) → Dec (R u v)) (S? : (u v : ℕ) → Dec (S u v)) (v new u : ℕ) (l : List ℕ)
@@ -114,8 +133,8 @@ module _ (c : List ℕ) (x : IsRooted c) (z : centred (length c) (decode c) c) w
       ∙ ap (λ k. l ++ (k ∷ []))
       (class-agrees (test? c l) R? (suc n) (suc (greatest l)) 1 l (λ w a b. test-right n l (by-codes n) h w a (omega (arith, numbering-length R? n))))
 
-  numbered : ByAppearance (Carried N E) N (orbits c)
-  unfolding orbits
+  numbered : ClassesOf c (classes c)
+  unfolding classes
   numbered =
       let b : ByAppearance R N (told c N) = subst (ByAppearance R N) (sym (told-numbering N (omega arith))) (by-codes N) in
       record {
@@ -125,16 +144,6 @@ module _ (c : List ℕ) (x : IsRooted c) (z : centred (length c) (decode c) c) w
         lower-first = b .lower-first;
       }
 
-module _ (c : List ℕ) (w : Ends 1 c) (z : centred (length c) (decode c) c) where
-  -- In the numbering of a centred code they are numbered by first appearance, one for two vertices exactly when a renumbering of the skeleton onto
-  -- itself carries one to the other.
-  pub classes-right : ByAppearance (Carried (length c) (decode c)) (length c) (orbits c)
-  classes-right = numbered c (is-rooted centred centred-form (length c) (decode c) c (decoded-tree c w) z) z
-
-  -- No other list of numbers is so.
-  pub classes-only : (l : List ℕ) → ByAppearance (Carried (length c) (decode c)) (length c) l → l ≡ orbits c
-  classes-only l b = one-numbering b classes-right
-
--- The centred code of every skeleton has them.
-pub classes-of : (N : ℕ) (F c : List ℕ) → IsTree N F → centred N F c → ByAppearance (Carried (length c) (decode c)) (length c) (orbits c)
-classes-of N F c t z = classes-right c (form-ends centred centred-form N F c t z) (form-again centred centred-form N F c t z)
+-- In the numbering of a centred code they are numbered by first appearance, one for two vertices exactly when one is carried to the other.
+pub classes-right : (c : List ℕ) → Ends 1 c → centred (length c) (decode c) c → ClassesOf c (classes c)
+classes-right c w z = numbered c (is-rooted centred centred-form (length c) (decode c) c (decoded-tree c w) z) z

@@ -5,25 +5,25 @@ use mathlib.Core.List.{[], _∷_, flatten}
 use native.Mathlib.Decide.{ℕ-discrete}
 use Rattle.digit_code.specs.document.Code.{codes, edgesFrom, decode}
 use Rattle.numbering.specs.document.Decoded.{parent}
-use Rattle.vertices.specs.Classes.{greatest, classOf, same?}
-use Rattle.orbits.specs.Classes.{test?, told, orbits}
+use Rattle.orbits.specs.Found.{greatest, classOf, same?}
+use Rattle.orbits.specs.Classes.{test?, told, classes}
 
 -- 2-methylpentane: the two ends at the fork are one class, the third end is another
-fork : orbits (2 ∷ 2 ∷ 0 ∷ 0 ∷ 1 ∷ 0 ∷ []) ≡ 1 ∷ 2 ∷ 3 ∷ 3 ∷ 4 ∷ 5 ∷ []
-unfolding orbits told test? classOf greatest same? Dec·and parent codes decode edgesFrom flatten ℕ-discrete
+fork : classes (2 ∷ 2 ∷ 0 ∷ 0 ∷ 1 ∷ 0 ∷ []) ≡ 1 ∷ 2 ∷ 3 ∷ 3 ∷ 4 ∷ 5 ∷ []
+unfolding classes told test? classOf greatest same? Dec·and parent codes decode edgesFrom flatten ℕ-discrete
 fork = refl
 
 -- butane turns over: its middles are one class, and its ends
-chain : orbits (2 ∷ 1 ∷ 0 ∷ 0 ∷ []) ≡ 1 ∷ 1 ∷ 2 ∷ 2 ∷ []
-unfolding orbits told test? classOf greatest same? Dec·and parent codes decode edgesFrom flatten ℕ-discrete
+chain : classes (2 ∷ 1 ∷ 0 ∷ 0 ∷ []) ≡ 1 ∷ 1 ∷ 2 ∷ 2 ∷ []
+unfolding classes told test? classOf greatest same? Dec·and parent codes decode edgesFrom flatten ℕ-discrete
 chain = refl
 
 -- neopentane: its four ends
-ends : orbits (4 ∷ 0 ∷ 0 ∷ 0 ∷ 0 ∷ []) ≡ 1 ∷ 2 ∷ 2 ∷ 2 ∷ 2 ∷ []
-unfolding orbits told test? classOf greatest same? Dec·and parent codes decode edgesFrom flatten ℕ-discrete
+ends : classes (4 ∷ 0 ∷ 0 ∷ 0 ∷ 0 ∷ []) ≡ 1 ∷ 2 ∷ 2 ∷ 2 ∷ 2 ∷ []
+unfolding classes told test? classOf greatest same? Dec·and parent codes decode edgesFrom flatten ℕ-discrete
 ends = refl
 
 -- a chain of four with three more ends at either end, and it turns over: the other middle is vertex 6 and not 2
-late : orbits (2 ∷ 3 ∷ 0 ∷ 0 ∷ 0 ∷ 1 ∷ 3 ∷ 0 ∷ 0 ∷ 0 ∷ []) ≡ 1 ∷ 2 ∷ 3 ∷ 3 ∷ 3 ∷ 1 ∷ 2 ∷ 3 ∷ 3 ∷ 3 ∷ []
-unfolding orbits told test? classOf greatest same? Dec·and parent codes decode edgesFrom flatten ℕ-discrete
+late : classes (2 ∷ 3 ∷ 0 ∷ 0 ∷ 0 ∷ 1 ∷ 3 ∷ 0 ∷ 0 ∷ 0 ∷ []) ≡ 1 ∷ 2 ∷ 3 ∷ 3 ∷ 3 ∷ 1 ∷ 2 ∷ 3 ∷ 3 ∷ 3 ∷ []
+unfolding classes told test? classOf greatest same? Dec·and parent codes decode edgesFrom flatten ℕ-discrete
 late = refl

@@ -25,10 +25,9 @@ use Rattle.skeleton.specs.Walks.{turn}
 use Rattle.numbering.specs.document.Decoded.{starts, begins, parent}
 use Rattle.numbering.specs.Decoded.{rooted-decoded}
 use Rattle.numbering.specs.Standing.{bare, Known, at-root, its-codes, its-order}
-use Rattle.vertices.specs.document.Vertices.{subtree}
 use Rattle.orbits.specs.Joins.{Ones, ones-perm, ones-more, join-ends, Same, same-join, join-same, same-less}
 use Rattle.orbits.specs.Sides.{branches-ones, Edge}
-use Rattle.orbits.specs.Parents.{root-parent, falling, parent-arc, arc-down}
+use Rattle.orbits.specs.Parents.{subtree, root-parent, falling, parent-arc, arc-down}
 
 -- what is left of the code where the root's child v is cut off
 abbrev pub rest : List ℕ → ℕ → List ℕ

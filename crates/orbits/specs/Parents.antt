@@ -24,7 +24,6 @@ use Rattle.skeleton.specs.Theorems.{decoded-tree}
 use Rattle.skeleton.specs.Walks.{turn, arc-end}
 use Rattle.numbering.specs.document.Decoded.{IsVertex, starts, begins, parent}
 use Rattle.numbering.specs.Decoded.{rooted-decoded}
-use Rattle.vertices.specs.document.Vertices.{subtree}
 
 -- the root has no parent, and what has one is another vertex
 pub root-parent : (c : List ℕ) → parent c 1 ≡ 0
@@ -54,6 +53,10 @@ unfolding starts
 starts-high v j [] m = absurd (List·Memᴰ·not-nil m)
 starts-high v j (c ∷ cs) (List·Memᴰ·head e) = omega arith
 starts-high v j (c ∷ cs) (List·Memᴰ·tail m) = omega (arith, starts-high v (j + length c) cs m)
+
+-- the code of vertex v with all that hangs on it: the first of those that the digits from v on make
+abbrev pub subtree : List ℕ → ℕ → List ℕ
+subtree c v = getD (codes plain (drop (v - 1) c)) 0 []
 
 -- the subtree code of a vertex: its digit, then its children's codes
 subtree-is : (c : List ℕ) (v : ℕ) → 1 ≤ v → v ≤ length c → subtree c v ≡ digit c v ∷ flatten (childCodes plain c v)

@@ -13,11 +13,11 @@ use Rattle.skeleton.specs.IsRooted.{IsRooted}
 use Rattle.skeleton.specs.Walks.{turn}
 use Rattle.form.specs.document.Form.{centred}
 use Rattle.numbering.specs.document.Decoded.{parent}
-use Rattle.vertices.specs.document.Vertices.{subtree}
 use Rattle.orbits.specs.Joins.{far-end, near-side, two-sides}
 use Rattle.orbits.specs.Sides.{Edge, edge}
-use Rattle.orbits.specs.Parents.{tree-of, parent-low, parent-arc, side-code}
-use Rattle.orbits.specs.Carried.{Carried, carried-codes, root-moves, parent-carried}
+use Rattle.orbits.specs.Parents.{subtree, tree-of, parent-low, parent-arc, side-code}
+use Rattle.orbits.specs.document.Carried.{Carried}
+use Rattle.orbits.specs.Carried.{carried-codes, root-moves, parent-carried}
 use Rattle.orbits.specs.Half.{rest, others-rest}
 
 module _ (c : List ℕ) (x : IsRooted c) where

@@ -1,37 +1,96 @@
--- Whether two vertices are alike, by the depths and the ends of the parts that are known. Assumes nothing.
+-- Whether a vertex before it is like a vertex, by the parents and the ends of the parts that are known, and by the classes that stand.
+--
+-- In order: the array of the parents; the root; another vertex. Assumes nothing.
 use mathlib.Core.Path.{_≡_, sym, ap, _∙_}
 use mathlib.Core.Bool.{Bool, false}
-use mathlib.Core.List.{List, []}
-use Prim.Native.Nat.{ℕ, suc, _-_, _<_}
+use mathlib.Core.List.{List}
+use Prim.Native.Nat.{ℕ, zero, suc, _+_, _-_, _*_, _≤_, _<_}
 use native.Mathlib.Omega.{arith}
-use lib.ListN.{length, getD, drop}
-use Rattle.laws.specs.Part.{part, part-length}
+use lib.ListN.{length, getD, take, drop, List·getD-append}
+use lib.Seq.{getD-take}
+use Rattle.laws.specs.document.Laid.{laidOver, Laid}
+use Rattle.laws.specs.Laid.{laid-length}
+use Rattle.laws.specs.Part.{part}
 use Rattle.laws.specs.Tells.{Tells, holds, denies}
-use Rattle.digit_code.specs.document.Code.{plain, codes}
+use Rattle.limits.specs.document.Limits.{size}
+use Rattle.digit_code.specs.document.Code.{plain, decode}
+use Rattle.digit_code.specs.Parts.{Ending}
 use Rattle.digit_code.specs.Search.{Known}
-use Rattle.vertices.specs.document.Vertices.{depths, depth, subtree, Alike}
-use Rattle.vertices.specs.Search.{Deep}
+use Rattle.skeleton.specs.IsRooted.{IsRooted}
+use Rattle.numbering.specs.document.Decoded.{parent}
+use Rattle.orbits.specs.document.Numbering.{class}
+use Rattle.orbits.specs.Parents.{subtree, tree-of, parent-low}
+use Rattle.orbits.specs.Half.{rest}
+use Rattle.orbits.specs.Classes.{Turns, Test}
+use Rattle.vertices.specs.Search.{Above}
+use Rattle.vertices.proofs.Parts.{subtree-part, subtree-long}
 
-module _ {c ends deep : List ℕ} {u v : ℕ} (k : Known plain c ends 0) (d : Deep c deep) (in-u : u < length c) (in-v : v < length c) where
-  depth-is : (i : ℕ) → i < length c → depth c (suc i) ≡ getD deep i 0
-  depth-is i h = let e : suc i - 1 ≡ i = omega arith in ap (λ (x : ℕ). getD (depths c) x 0) e ∙ sym (d .each i h)
+-- ---- the array of the parents
 
-  subtree-is : (i : ℕ) → i < length c → subtree c (suc i) ≡ part i (getD ends i 0) c
-  subtree-is i h =
-      let e : suc i - 1 ≡ i = omega arith in
-      ap (λ (x : ℕ). getD (codes plain (drop x c)) 0 []) e ∙ ap (λ (x : List (List ℕ)). getD x 0 []) (k .ending i (omega arith) h .part)
+-- the edges fit
+pub edges-fit : (c : List ℕ) → IsRooted c → length c ≤ size → length (decode c) ≤ 2 * (size - 1)
+edges-fit c x h = omega (arith, tree-of c x .edges)
 
-  pub depths-differ : (getD deep u 0 ≡ getD deep v 0 → ⊥) → Tells (Alike c (suc u) (suc v)) false
-  depths-differ n = denies (λ h. n (sym (depth-is u in-u) ∙ h .0 ∙ depth-is v in-v))
+-- written, they are the parents
+pub above-all : {c old edges : List ℕ} {r : ℕ} → IsRooted c → length c ≤ size → length old ≡ 2 * (size - 1) → Laid (decode c) old edges r → Above c edges
+unfolding parent laidOver
+above-all {c} {old} {edges} x h l k = record { right = x; long = ap length (k .lies) ∙ laid-length (decode c) old (omega (arith, edges-fit c x h)) ∙ l; each = at }
+  where
+    at : (i : ℕ) → 1 ≤ i → i < length c → getD edges (i + i - 2) 0 ≡ parent c (suc i)
+    at zero a b = let z : ⊥ = omega arith in absurd z
+    at (suc i) a b =
+        let e : suc i + suc i - 2 ≡ 2 * i = omega arith in
+        ap (λ (j : ℕ). getD edges j 0) e
+        ∙ ap (λ (s : List ℕ). getD s (2 * i) 0) (k .lies)
+        ∙ List·getD-append (decode c) (drop (length (decode c)) old) 0 (2 * i) (omega (arith, tree-of c x .edges))
 
-  pub lengths-differ : (getD ends u 0 - u ≡ getD ends v 0 - v → ⊥) → Tells (Alike c (suc u) (suc v)) false
-  lengths-differ n =
-      denies (λ h. n (sym (long u in-u) ∙ ap length (sym (subtree-is u in-u) ∙ h .1 ∙ subtree-is v in-v) ∙ long v in-v))
-    where
-      long : (i : ℕ) → i < length c → length (part i (getD ends i 0) c) ≡ getD ends i 0 - i
-      long i h = part-length i (getD ends i 0) c (k .ending i (omega arith) h .within)
+module _ {c edges : List ℕ} (a : Above c edges) where
+  -- a parent stands before its child
+  pub parent-before : (i : ℕ) → 1 ≤ i → i < length c → (1 ≤ getD edges (i + i - 2) 0) × (getD edges (i + i - 2) 0 ≤ i)
+  parent-before i h l = let (p, q) = parent-low c (a .right) (suc i) (omega arith) l in (omega (arith, a .each i h l), omega (arith, a .each i h l))
 
-  -- at one depth the codes decide
-  pub codes-decide : {r : Bool} → getD deep u 0 ≡ getD deep v 0 → Tells (part u (getD ends u 0) c ≡ part v (getD ends v 0) c) r → Tells (Alike c (suc u) (suc v)) r
-  codes-decide e (holds q) = holds (depth-is u in-u ∙ e ∙ sym (depth-is v in-v), subtree-is u in-u ∙ q ∙ sym (subtree-is v in-v))
-  codes-decide e (denies n) = denies (λ h. n (sym (subtree-is u in-u) ∙ h .1 ∙ subtree-is v in-v))
+  -- ---- the root
+
+  module _ {v : ℕ} (o : 1 ≤ v) (l : v < length c) where
+    pub no-child : (getD edges (v + v - 2) 0 ≡ 1 → ⊥) → Tells (Turns c (suc v)) false
+    no-child n = denies (λ h. n (a .each v o l ∙ h .0))
+
+    pub halves-decide : {r : Bool} → getD edges (v + v - 2) 0 ≡ 1 → Tells (subtree c (suc v) ≡ rest c (suc v)) r → Tells (Turns c (suc v)) r
+    halves-decide e (holds h) = holds (sym (a .each v o l) ∙ e, h)
+    halves-decide e (denies n) = denies (λ h. n (h .1))
+
+  -- ---- another vertex
+
+  module _ (known : List ℕ) {ends : List ℕ} {u v : ℕ} (k : Known plain c ends 0) (o : 1 ≤ u) (m : u < v) (l : v < length c) where
+    -- the class of the parent of the vertex of digit i, where it stands
+    abbrev above : ℕ → ℕ
+    above i = getD known (getD edges (i + i - 2) 0 - 1) 0
+
+    above-is : (i : ℕ) → 1 ≤ i → i ≤ v → class (take v known) (parent c (suc i)) ≡ above i
+    above-is i h j =
+        let (p, q) = parent-before i h (omega arith) in
+        ap (class (take v known)) (sym (a .each i h (omega arith))) ∙ getD-take v known (getD edges (i + i - 2) 0 - 1) 0 (omega arith)
+
+    ending : (i : ℕ) → i < length c → Ending plain c i (getD ends i 0)
+    ending i h = k .ending i (omega arith) h
+
+    -- the test of a vertex that is not the root, by what stands in the arrays
+    told-by : {r : Bool} → Tells ((above u ≡ above v) × (subtree c (suc u) ≡ subtree c (suc v))) r → Tells (Test c (take v known) (suc u) (suc v)) r
+    told-by = by u o (above-is u o (omega arith)) (above-is v (omega arith) (omega arith))
+      where
+        by : {x y : ℕ} (i : ℕ) → 1 ≤ i → class (take v known) (parent c (suc i)) ≡ x → class (take v known) (parent c (suc v)) ≡ y
+            → {r : Bool} → Tells ((x ≡ y) × (subtree c (suc i) ≡ subtree c (suc v))) r → Tells (Test c (take v known) (suc i) (suc v)) r
+        by zero h e f t = let z : ⊥ = omega arith in absurd z
+        by (suc i) h e f (holds (p, q)) = holds (e ∙ p ∙ sym f, q)
+        by (suc i) h e f (denies n) = denies (λ g. n (sym e ∙ g .0 ∙ f, g .1))
+
+    pub parents-differ : (above u ≡ above v → ⊥) → Tells (Test c (take v known) (suc u) (suc v)) false
+    parents-differ n = told-by (denies (λ h. n (h .0)))
+
+    pub lengths-differ : (getD ends u 0 - u ≡ getD ends v 0 - v → ⊥) → Tells (Test c (take v known) (suc u) (suc v)) false
+    lengths-differ n = told-by (denies (λ h. n (sym (subtree-long (ending u (omega arith))) ∙ ap length (h .1) ∙ subtree-long (ending v l))))
+
+    -- where the parents are of one class, the codes decide
+    pub codes-decide : {r : Bool} → above u ≡ above v → Tells (part u (getD ends u 0) c ≡ part v (getD ends v 0) c) r → Tells (Test c (take v known) (suc u) (suc v)) r
+    codes-decide e (holds q) = told-by (holds (e, subtree-part (ending u (omega arith)) ∙ q ∙ sym (subtree-part (ending v l))))
+    codes-decide e (denies n) = told-by (denies (λ h. n (sym (subtree-part (ending u (omega arith))) ∙ h .1 ∙ subtree-part (ending v l))))

@@ -1,8 +1,2 @@
--- Equal vertices: what they are, and how their classes are numbered. Assumes nothing.
-pub mod Classes
-pub mod Appearance
-pub mod Depths
+-- Equal vertices: what the functions that find their classes keep. Assumes nothing.
 pub mod Search
-pub mod Theorems
-pub mod Examples
-pub mod document

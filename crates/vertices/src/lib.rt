@@ -1,8 +1,11 @@
-// Equal vertices: the class of each vertex of a right code, by depth and subtree code, numbered by first appearance.
+// Equal vertices: the class of each vertex of a centred code, one for two vertices where a renumbering of the skeleton onto itself carries one to
+// the other, numbered by first appearance. A vertex other than the root is told by its parent's class and its subtree code, the root by the two
+// halves of the code.
 use digit_code::Order;
 use digit_code::compare;
 use digit_code::ends_of;
-use digit_code::push;
+use digit_code::write_edges;
+use limits::ENDS;
 use limits::SIZE;
 ghost use mathlib.Core.Path.{_≡_};
 ghost use Prim.Native.Nat.{suc, _≤_, _<_};
@@ -10,43 +13,75 @@ ghost use lib.ListN.{length, take};
 ghost use Rattle.laws.specs.document.Laid.{Laid};
 ghost use Rattle.laws.specs.Tells.{Tells};
 ghost use Rattle.limits.specs.document.Limits.{size};
-ghost use Rattle.digit_code.specs.Ends.{Ends};
 ghost use Rattle.digit_code.specs.document.Code.{plain};
+ghost use Rattle.digit_code.specs.Ends.{Ends};
+ghost use Rattle.digit_code.specs.Parts.{Ending};
 ghost use Rattle.digit_code.specs.Search.{Known};
-ghost use Rattle.vertices.specs.document.Vertices.{Alike};
-ghost use Rattle.vertices.specs.Classes.{classOf, alike?, classes};
-ghost use Rattle.vertices.specs.Search.{Deep};
+ghost use Rattle.skeleton.specs.IsRooted.{IsRooted};
+ghost use Rattle.orbits.specs.Found.{classOf};
+ghost use Rattle.orbits.specs.Parents.{subtree};
+ghost use Rattle.orbits.specs.Half.{rest};
+ghost use Rattle.orbits.specs.Classes.{Turns, Test, test?, classes};
+ghost use Rattle.vertices.specs.Search.{Above};
 
-// How deep each vertex lies: the open places are kept, each by the depth of the vertex that is to stand there.
-fn depths_of(code: &[u8], deep: &mut [u8])
-    requires { ⌜ Ends 1 (now code) ⌝ }
-    requires { ⌜ length (now code) ≤ size ⌝ }
-    requires { ⌜ length (now deep) ≡ size ⌝ }
-    ensures { λ _. ⌜ Deep (now (code .entry)) (now (deep .exit)) ⌝ }
+// Whether two codes are equal.
+fn equal(a: &[u8], b: &[u8]) -> bool
+    ensures { λ r. ⌜ Tells (now (a .entry) ≡ now (b .entry)) r ⌝ }
 {
-    let mut places = [0u8; SIZE];
-    let mut t = 1;
-    let mut i = 0;
-    while i < code.len() {
-        t -= 1;
-        let d = places[t];
-        deep[i] = d;
-        t = push(&mut places, t, d + 1, code[i]);
-        i += 1;
+    match compare(a, b) {
+        Order::Less(_) => false,
+        Order::Equal(_) => true,
+        Order::Greater(_) => false,
     }
 }
 
-// Whether the vertices of digits u and v have equal depth and equal subtree code. Codes of different lengths are told apart unread.
-fn alike(code: &[u8], ends: &[u8], deep: &[u8], u: usize, v: usize) -> bool
-    requires { ⌜ Known plain (now code) (now ends) 0 ⌝ }
-    requires { ⌜ Deep (now code) (now deep) ⌝ }
-    requires { ⌜ u < length (now code) ⌝ }
-    requires { ⌜ v < length (now code) ⌝ }
-    ensures { λ r. ⌜ Tells (Alike (now (code .entry)) (suc u) (suc v)) r ⌝ }
+// Whether the part of digit v, which ends before digit b, is what the code is without it: as long, the root's digit one less, and then digit by
+// digit. What stands before the part is held against the part's first digits, what stands behind it against its last.
+fn halves(code: &[u8], v: usize, b: usize) -> bool
+    requires { ⌜ Ends 1 (now code) ⌝ }
+    requires { ⌜ 1 ≤ v ⌝ }
+    requires { ⌜ Ending plain (now code) v b ⌝ }
+    ensures { λ r. ⌜ Tells (subtree (now (code .entry)) (suc v) ≡ rest (now (code .entry)) (suc v)) r ⌝ }
 {
-    let x = deep[u];
-    let y = deep[v];
-    if x != y {
+    let n = code.len();
+    if b - v != n - (b - v) {
+        return false;
+    }
+    if code[v] != code[0] - 1 {
+        return false;
+    }
+    let w = v + v;
+    if equal(&code[v + 1..w], &code[1..v]) {
+        return equal(&code[w..b], &code[b..n]);
+    }
+    false
+}
+
+// Whether the root is like the vertex of digit v: a child of its own, and the skeleton can be turned over there.
+fn turns(code: &[u8], ends: &[u8], edges: &[u8], v: usize) -> bool
+    requires { ⌜ Known plain (now code) (now ends) 0 ⌝ }
+    requires { ⌜ Above (now code) (now edges) ⌝ }
+    requires { ⌜ (1 ≤ v) × (v < length (now code)) ⌝ }
+    ensures { λ r. ⌜ Tells (Turns (now (code .entry)) (suc v)) r ⌝ }
+{
+    if edges[v + v - 2] != 1 {
+        return false;
+    }
+    halves(code, v, ends[v] as usize)
+}
+
+// Whether the vertex of digit u, which is not the root, is like that of digit v behind it: their parents are of one class, and their subtree codes
+// equal. Codes of different lengths are told apart unread.
+fn alike(code: &[u8], ends: &[u8], edges: &[u8], known: &[u8], u: usize, v: usize) -> bool
+    requires { ⌜ Known plain (now code) (now ends) 0 ⌝ }
+    requires { ⌜ Above (now code) (now edges) ⌝ }
+    requires { ⌜ (1 ≤ u) × (u < v) × (v < length (now code)) ⌝ }
+    requires { ⌜ v ≤ length (now known) ⌝ }
+    ensures { λ r. ⌜ Tells (Test (now (code .entry)) (take v (now (known .entry))) (suc u) (suc v)) r ⌝ }
+{
+    let p = edges[u + u - 2] as usize;
+    let q = edges[v + v - 2] as usize;
+    if known[p - 1] != known[q - 1] {
         return false;
     }
     let a = ends[u] as usize;
@@ -54,24 +89,26 @@ fn alike(code: &[u8], ends: &[u8], deep: &[u8], u: usize, v: usize) -> bool
     if a - u != b - v {
         return false;
     }
-    match compare(&code[u..a], &code[v..b]) {
-        Order::Less(_) => false,
-        Order::Equal(_) => true,
-        Order::Greater(_) => false,
-    }
+    equal(&code[u..a], &code[v..b])
 }
 
 // The class of the first vertex before that of digit v which is like it; `new` where there is none.
-fn class_of(code: &[u8], ends: &[u8], deep: &[u8], known: &[u8], v: usize, new: u8) -> u8
+fn class_of(code: &[u8], ends: &[u8], edges: &[u8], known: &[u8], v: usize, new: u8) -> u8
     requires { ⌜ Known plain (now code) (now ends) 0 ⌝ }
-    requires { ⌜ Deep (now code) (now deep) ⌝ }
+    requires { ⌜ Above (now code) (now edges) ⌝ }
     requires { ⌜ v < length (now code) ⌝ }
     requires { ⌜ v ≤ length (now known) ⌝ }
-    ensures { λ r. ⌜ r ≡ classOf (alike? (now (code .entry))) (suc v) new 1 (take v (now (known .entry))) ⌝ }
+    ensures { λ r. ⌜ r ≡ classOf (test? (now (code .entry)) (take v (now (known .entry)))) (suc v) new 1 (take v (now (known .entry))) ⌝ }
 {
-    let mut u = 0;
+    if v == 0 {
+        return new;
+    }
+    if turns(code, ends, edges, v) {
+        return known[0];
+    }
+    let mut u = 1;
     while u < v {
-        if alike(code, ends, deep, u, v) {
+        if alike(code, ends, edges, known, u, v) {
             return known[u];
         }
         u += 1;
@@ -79,21 +116,21 @@ fn class_of(code: &[u8], ends: &[u8], deep: &[u8], known: &[u8], v: usize, new: 
     new
 }
 
-// The class of each vertex of a code, from the start of the output; how many there are.
+// The class of each vertex of a rooted code, from the start of the output; how many there are.
 pub fn write_classes(code: &[u8], out: &mut [u8]) -> usize
-    requires { ⌜ Ends 1 (now code) ⌝ }
+    requires { ⌜ IsRooted (now code) ⌝ }
     requires { ⌜ length (now code) ≤ size ⌝ }
     requires { ⌜ length (now code) ≤ length (now out) ⌝ }
     ensures { λ r. ⌜ Laid (classes (now (code .entry))) (now (out .entry)) (now (out .exit)) r ⌝ }
 {
     let mut ends = [0u8; SIZE];
     ends_of(code, &mut ends);
-    let mut deep = [0u8; SIZE];
-    depths_of(code, &mut deep);
+    let mut edges = [0u8; ENDS];
+    write_edges(code, &mut edges);
     let mut top = 0;
     let mut i = 0;
     while i < code.len() {
-        let k = class_of(code, &ends, &deep, out, i, top + 1);
+        let k = class_of(code, &ends, &edges, out, i, top + 1);
         out[i] = k;
         if top < k {
             top = k;

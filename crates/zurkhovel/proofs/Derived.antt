@@ -21,6 +21,10 @@ use Rattle.lines.specs.Damage.{Code}
 use Rattle.lines.specs.Lawful.{lawful}
 use Rattle.zurkhovel.specs.Accepted.{skeleton-of}
 
+-- what was written is the centred code
+pub code-centred : {N : ℕ} {E old digits : List ℕ} → Writes (centred N E) old N digits → centred N E (take N digits)
+code-centred {N} {E} w = subst (centred N E) (sym (written w)) (w .right)
+
 -- the code that was written, where it is read again
 module _ {N : ℕ} {E old digits : List ℕ} (s : IsSkeleton size valence N E) (w : Writes (centred N E) old N digits) where
   code-clear : Clear (codeRows size valence (take N digits))
@@ -46,11 +50,11 @@ module _ (N : ℕ) (E : List ℕ) (clear : Clear (edgeRows size valence N E 1)) 
     all-sized l (c, x, o) = sized c l (centred-size c x) o
 
     pub of-short :
-        {old new : List ℕ} → ((c : List ℕ) → (l : List ℕ) × Of c l) → length old < n → new ≡ old
+        {old new : List ℕ} → ((c : List ℕ) → centred N E c → (l : List ℕ) × Of c l) → length old < n → new ≡ old
         → Gives (edgeRows size valence N E 1) (Made N E Of) old new (refuses 15 n)
     of-short some h e =
         let (c, x) = centred-form .some N E (skeleton-of clear .tree) in
-        let (l, o) = some c in refused-short clear all-sized (c, x, o) h e
+        let (l, o) = some c x in refused-short clear all-sized (c, x, o) h e
 
     pub of-given :
         {l old new digits before : List ℕ} {m : ℕ} → n ≤ length old → Writes (centred N E) before N digits → Of (take N digits) l → Laid l old new m
@@ -59,7 +63,7 @@ module _ (N : ℕ) (E : List ℕ) (clear : Clear (edgeRows size valence N E 1)) 
         let e : m ≡ n = k .count ∙ sized (take N digits) l (sym (written-length w)) o in
         subst (λ (i : ℕ). Gives (edgeRows size valence N E 1) (Made N E Of) old new (gives i)) (sym e)
         (given clear all-sized h
-        (record { result = l; right = (take N digits, subst (centred N E) (sym (written w)) (w .right), o); count = sym e ∙ k .count; lies = k .lies }))
+        (record { result = l; right = (take N digits, code-centred w, o); count = sym e ∙ k .count; lies = k .lies }))
 
   -- the same of what f makes of the code
   module _ (f : List ℕ → List ℕ) (n : ℕ) (sized : (c : List ℕ) → length c ≡ N → length (f c) ≡ n) where
@@ -70,7 +74,7 @@ module _ (N : ℕ) (E : List ℕ) (clear : Clear (edgeRows size valence N E 1)) 
     derived-size {digits = digits} w = sized (take N digits) (sym (written-length w))
 
     pub derived-short : {old new : List ℕ} → length old < n → new ≡ old → Gives (edgeRows size valence N E 1) (ofCentred N E f) old new (refuses 15 n)
-    derived-short = of-short (λ c l. l ≡ f c) n made-sized (λ c. (f c, refl))
+    derived-short = of-short (λ c l. l ≡ f c) n made-sized (λ c x. (f c, refl))
 
     pub derived-given :
         {old new digits before : List ℕ} {m : ℕ} → n ≤ length old → Writes (centred N E) before N digits → Laid (f (take N digits)) old new m

@@ -1,9 +1,9 @@
 -- Document 01, "Skeletons to hold it against": the rows marked P and 001's line below them, as one table about the definitions that the
--- promises of the calls cite.
+-- promises of the calls cite. The rows of butane, neopentane and 2-methylpentane have the classes of document 02, wish 3, beside them.
 --
 -- Where a skeleton has a name, its longest chain is numbered along, and its branches behind that. 002's example has the numbers of its code,
 -- and 001's skeleton has 001's own. What a row says is in `document.Figures`. Assumes nothing.
-use mathlib.Core.Path.{_≡_, refl}
+use mathlib.Core.Path.{_≡_, refl, subst}
 use mathlib.Core.Logic.{Dec·and, Dec·not}
 use mathlib.Core.List.{List, [], _∷_, _++_, flatten}
 use Prim.Native.Nat.{ℕ, _-_, _*_, _^_, _<_}
@@ -14,8 +14,9 @@ use Rattle.laws.specs.document.Order.{dec≽, insert, sort}
 use Rattle.laws.specs.Perms.{decIn}
 use Rattle.laws.specs.Once.{upTo}
 use Rattle.limits.specs.document.Limits.{size, valence}
-use Rattle.digit_code.specs.document.Code.{sum, edgesFrom, decode}
+use Rattle.digit_code.specs.document.Code.{codes, sum, edgesFrom, decode}
 use Rattle.skeleton.specs.document.Skeleton.{arcs, neighbours, degree, IsSkeleton, children, join, codeAt, rooted}
+use Rattle.numbering.specs.document.Decoded.{parent}
 use Rattle.longest_path.specs.document.Path.{middle₁, middle₂}
 use Rattle.longest_path.specs.Run.{seek, sift, decTwo, peel}
 use Rattle.form.specs.document.Form.{nTuple, centred}
@@ -25,14 +26,21 @@ use Rattle.bits.specs.document.Bits.{bit, bits, word}
 use Rattle.adjacency.specs.document.Mixed.{mixed}
 use Rattle.adjacency.specs.document.Adjacency as A
 use Rattle.adjacency.specs.Entries.{none, more, cam-physical}
+use Rattle.orbits.specs.document.Carried.{ClassesOf}
+use Rattle.orbits.specs.Found.{greatest, classOf, same?}
+use Rattle.orbits.specs.Classes.{test?, told, classes}
+use Rattle.orbits.specs.Theorems.{classes-of}
 use Rattle.zurkhovel.specs.document.Matrix.{ByCode}
-use Rattle.zurkhovel.specs.document.Figures.{Figure, Numbered}
+use Rattle.zurkhovel.specs.document.Figures.{Figure, Classed, Numbered}
 
 row :
     {N : ℕ} {E c d : List ℕ} {x : ℕ} → IsSkeleton size valence N E × centred N E c × nTuple N E d → word (2 * length c - 1) x ≡ bits c ++ []
     → x < 2 ^ (2 * length c - 1) → Figure N E c d x
 row (s, c, d) e l =
     record { skeleton = s; centre = c; n-tuple = d; whole = record { carries = record { fill = []; same = e; may = refl }; below = l } }
+
+classed : {N : ℕ} {E c d : List ℕ} {x : ℕ} {l : List ℕ} → Figure N E c d x → classes c ≡ l → Classed N E c d x l
+classed {N} {E} {c} r e = record { figure = r; alike = subst (ClassesOf c) e (classes-of N E c (r .skeleton .tree) (r .centre)) }
 
 -- the numbering by code is that of the row's centred code
 by-code : {B : Type 0} {of : List ℕ → B} {N : ℕ} {E c : List ℕ} {b : B} → centred N E c → b ≡ of (decode c) → ByCode of N E b
@@ -52,13 +60,13 @@ pub table :
     -- propane
     × Figure 3 (1 ∷ 2 ∷ 2 ∷ 3 ∷ []) (2 ∷ 0 ∷ 0 ∷ []) (2 ∷ 0 ∷ 0 ∷ []) 24
     -- butane
-    × Figure 4 (1 ∷ 2 ∷ 2 ∷ 3 ∷ 3 ∷ 4 ∷ []) (2 ∷ 1 ∷ 0 ∷ 0 ∷ []) (2 ∷ 1 ∷ 0 ∷ 0 ∷ []) 104
+    × Classed 4 (1 ∷ 2 ∷ 2 ∷ 3 ∷ 3 ∷ 4 ∷ []) (2 ∷ 1 ∷ 0 ∷ 0 ∷ []) (2 ∷ 1 ∷ 0 ∷ 0 ∷ []) 104 (1 ∷ 1 ∷ 2 ∷ 2 ∷ [])
     -- isobutane
     × Figure 4 (1 ∷ 2 ∷ 2 ∷ 3 ∷ 2 ∷ 4 ∷ []) (3 ∷ 0 ∷ 0 ∷ 0 ∷ []) (3 ∷ 0 ∷ 0 ∷ 0 ∷ []) 112
     -- neopentane
-    × Figure 5 (1 ∷ 2 ∷ 2 ∷ 3 ∷ 2 ∷ 4 ∷ 2 ∷ 5 ∷ []) (4 ∷ 0 ∷ 0 ∷ 0 ∷ 0 ∷ []) (4 ∷ 0 ∷ 0 ∷ 0 ∷ 0 ∷ []) 480
+    × Classed 5 (1 ∷ 2 ∷ 2 ∷ 3 ∷ 2 ∷ 4 ∷ 2 ∷ 5 ∷ []) (4 ∷ 0 ∷ 0 ∷ 0 ∷ 0 ∷ []) (4 ∷ 0 ∷ 0 ∷ 0 ∷ 0 ∷ []) 480 (1 ∷ 2 ∷ 2 ∷ 2 ∷ 2 ∷ [])
     -- 2-methylpentane, the whole number of its centred code
-    × Figure 6 (1 ∷ 2 ∷ 2 ∷ 3 ∷ 3 ∷ 4 ∷ 4 ∷ 5 ∷ 2 ∷ 6 ∷ []) (2 ∷ 2 ∷ 0 ∷ 0 ∷ 1 ∷ 0 ∷ []) (3 ∷ 1 ∷ 1 ∷ 0 ∷ 0 ∷ 0 ∷ []) 1732
+    × Classed 6 (1 ∷ 2 ∷ 2 ∷ 3 ∷ 3 ∷ 4 ∷ 4 ∷ 5 ∷ 2 ∷ 6 ∷ []) (2 ∷ 2 ∷ 0 ∷ 0 ∷ 1 ∷ 0 ∷ []) (3 ∷ 1 ∷ 1 ∷ 0 ∷ 0 ∷ 0 ∷ []) 1732 (1 ∷ 2 ∷ 3 ∷ 3 ∷ 4 ∷ 5 ∷ [])
     -- 3-methylhexane
     × Figure 7 (1 ∷ 2 ∷ 2 ∷ 3 ∷ 3 ∷ 4 ∷ 4 ∷ 5 ∷ 5 ∷ 6 ∷ 3 ∷ 7 ∷ []) (3 ∷ 1 ∷ 1 ∷ 0 ∷ 1 ∷ 0 ∷ 0 ∷ []) (3 ∷ 1 ∷ 1 ∷ 0 ∷ 1 ∷ 0 ∷ 0 ∷ []) 7496
     -- 002's example
@@ -66,15 +74,15 @@ pub table :
     -- 001's line: 3-methylhexane in 001's numbering
     × Numbered 7 (1 ∷ 2 ∷ 2 ∷ 3 ∷ 2 ∷ 4 ∷ 3 ∷ 5 ∷ 1 ∷ 6 ∷ 6 ∷ 7 ∷ []) (3 ∷ 1 ∷ 1 ∷ 0 ∷ 1 ∷ 0 ∷ 0 ∷ []) (3 ∷ 1 ∷ 1 ∷ 0 ∷ 1 ∷ 0 ∷ 0 ∷ []) 7496
     (1 ∷ 2 ∷ 2 ∷ 3 ∷ 1 ∷ 6 ∷ []) 545 1646688 (1 ∷ 2 ∷ 3 ∷ 1 ∷ 5 ∷ 1 ∷ []) 624
-unfolding rooted codeAt join children neighbours degree arcs sort insert dec≽ flatten ℕ-discrete decLt Dec·and Dec·not decIn seek sift decTwo peel left larger upTo middle₁ middle₂ largest some-n-tuple word bit bits decode edgesFrom sum mixed A.from A.lower A.entry A.cam A.entryEdges A.zeroA A.columnSum A.powers A.aZero
+unfolding classes told test? classOf greatest same? parent codes rooted codeAt join children neighbours degree arcs sort insert dec≽ flatten ℕ-discrete decLt Dec·and Dec·not decIn seek sift decTwo peel left larger upTo middle₁ middle₂ largest some-n-tuple word bit bits decode edgesFrom sum mixed A.from A.lower A.entry A.cam A.entryEdges A.zeroA A.columnSum A.powers A.aZero
 table = (
   row (computed size valence 0 refl (omega arith) (omega arith) refl refl) refl (omega arith),
   row (computed size valence 0 refl (omega arith) (omega arith) refl refl) refl (omega arith),
   row (computed size valence 1 refl (omega arith) (omega arith) refl refl) refl (omega arith),
+  classed (row (computed size valence 1 refl (omega arith) (omega arith) refl refl) refl (omega arith)) refl,
   row (computed size valence 1 refl (omega arith) (omega arith) refl refl) refl (omega arith),
-  row (computed size valence 1 refl (omega arith) (omega arith) refl refl) refl (omega arith),
-  row (computed size valence 1 refl (omega arith) (omega arith) refl refl) refl (omega arith),
-  row (computed size valence 2 refl (omega arith) (omega arith) refl refl) refl (omega arith),
+  classed (row (computed size valence 1 refl (omega arith) (omega arith) refl refl) refl (omega arith)) refl,
+  classed (row (computed size valence 2 refl (omega arith) (omega arith) refl refl) refl (omega arith)) refl,
   row (computed size valence 2 refl (omega arith) (omega arith) refl refl) refl (omega arith),
   row (computed size valence 2 refl (omega arith) (omega arith) refl refl) refl (omega arith),
   numbered

@@ -17,8 +17,8 @@ use Rattle.lines.specs.document.Judged.{digitTable}
 use Rattle.lines.specs.declared.Progress.{Progress}
 use Rattle.lines.specs.Theorems as Lines
 use Rattle.listing_text.specs.Theorems as Answers
-use Rattle.vertices.specs.document.Vertices.{ClassesOf}
-use Rattle.vertices.specs.Theorems.{one-classes}
+use Rattle.orbits.specs.document.Carried.{ClassesOf}
+use Rattle.orbits.specs.Theorems.{one-classes}
 use Rattle.zurkhovel.specs.declared.text.Counts.{Counts}
 use Rattle.zurkhovel.specs.document.Lines.{ReadLine, WriteLine, ReadText, Counted, ListText}
 use Rattle.zurkhovel.specs.document.Alike.{EqualVertices}

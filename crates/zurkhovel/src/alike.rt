@@ -9,7 +9,8 @@ ghost use Rattle.form_coder.specs.document.Pairs.{centredPairs};
 ghost use Rattle.zurkhovel.specs.document.Alike.{EqualVertices};
 ghost use Rattle.zurkhovel.specs.document.Reported.{Reporting};
 
-// The class of each vertex, in the centred code's numbering.
+// The class of each vertex, in the centred code's numbering: one for two vertices that a renumbering of the skeleton onto itself carries to one
+// another.
 pub fn equal_vertices(n: usize, edges: &[u8], out: &mut [u8]) -> Reported
     ensures { λ r. ⌜ Reporting (EqualVertices n (now (edges .entry)) (now (out .entry)) (now (out .exit))) (centredPairs n (now (edges .entry))) (told (r .answer)) (r .pairs) ⌝ }
 {

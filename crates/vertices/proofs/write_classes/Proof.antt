@@ -1,25 +1,24 @@
 -- `vertices::write_classes` meets its contract: the loop keeps the classes written and the greatest of them. Assumes nothing.
 use mathlib.Core.Path.{_≡_, refl, sym}
 use mathlib.Core.Logic.{⊎-elim}
-use mathlib.Core.List.{List}
-use Prim.Native.Nat.{ℕ, max, _-_, _≤_}
+use Prim.Native.Nat.{max, _-_}
 use native.Mathlib.Omega.{arith}
 use denote.Ref.{now}
 use lib.ListN.{length}
-use Rattle.laws.specs.document.Laid.{Laid}
 use Rattle.digit_code.specs.document.Code.{plain}
 use Rattle.digit_code.specs.Search.{Known}
-use Rattle.vertices.specs.Classes.{alike?, classes}
-use Rattle.vertices.specs.Search.{Deep}
+use Rattle.skeleton.specs.Theorems.{decode-code}
+use Rattle.vertices.specs.Search.{Above}
+use Rattle.vertices.proofs.Telling.{edges-fit, above-all}
 use Rattle.vertices.proofs.Writing.{Writing, writing-none, writing-length, writing-low, writing-next, writing-all}
 use Rattle.vertices.proofs.write_classes.Statement.{statement}
 use Rattle.vertices.proofs.write_classes.Tie as tie
 
 abbrev Inv-loop : tie.InvT-loop
-Inv-loop code out₀ ends deep top₀ i₀ out top i = Known plain code ends 0 × (Deep code deep × Writing (alike? code) (length code) out₀ out top i)
+Inv-loop code out₀ ends edges top₀ i₀ out top i = Known plain code ends 0 × (Above code edges × Writing code out₀ out top i)
 
 abbrev μ-loop : tie.MeasureT-loop
-μ-loop code out₀ ends deep top₀ i₀ out top i = length code - i
+μ-loop code out₀ ends edges top₀ i₀ out top i = length code - i
 
 -- where each vertex's part ends is known
 abbrev lent : tie.After-ends-of Inv-loop μ-loop → tie.Start Inv-loop μ-loop
@@ -28,10 +27,6 @@ lent c = c .before .before .before .before
 -- in a turn: the vertex has its class
 abbrev classed : tie.After-class-of Inv-loop μ-loop → tie.At-loop Inv-loop μ-loop
 classed c = c .before .before .before .before .before
-
-written : (c : List ℕ) {old out : List ℕ} {top i : ℕ} → Writing (alike? c) (length c) old out top i → length c ≤ i → Laid (classes c) old out i
-unfolding classes
-written c w h = writing-all (alike? c) w h
 
 -- the greatest class, where the two arms meet
 top-next : (c : tie.Joined1 Inv-loop μ-loop) → c .if1 .top ≡ max (classed (c .before) .loop .top) (c .before .class-of .result)
@@ -44,21 +39,19 @@ write-classes-spec =
     Inv-loop
     μ-loop
     (λ c. refl)
-    (λ c κs. let p = c .before .before .before .pre in (p .0, (p .1 .0, refl)))
+    (λ c κs. let p = c .before .before .before .pre in (decode-code _ .0 (p .0) .0, (p .1 .0, refl)))
     (λ c. refl)
-    (λ c κs. let p = lent (c .before .before) .pre in (p .0, (p .1 .0, refl)))
+    (λ c κs. let s = lent (c .before .before) in (decode-code _ .0 (s .pre .0) .0, (s .pre .1 .0, edges-fit (now (s .args .code)) (s .pre .0) (s .pre .1 .0))))
     (λ c. let e = c .before .before .before .before in
     let s = lent e in
-    (e .ends-of .ensures, (c .before .depths-of .ensures, writing-none (alike? _) (s .pre .1 .1))))
+    (e .ends-of .ensures, (above-all (s .pre .0) (s .pre .1 .0) refl (c .before .write-edges .ensures), writing-none (s .pre .1 .1))))
     (λ c. sym (c .before .before .loop .inv .0 .long))
     (λ c. sym (c .before .before .before .loop .inv .1 .0 .long))
-    (λ c. let l = c .before .before .before .before .loop .inv in omega (arith, writing-low (alike? _) (l .1 .1), l .0 .few))
-    (λ c κs. let l = c .before .before .before .before .loop .inv in
-    (l .0, (l .1 .0, (omega arith, omega (arith, writing-length (alike? _) (l .1 .1), l .1 .1 .room)))))
-    (λ c. let l = classed c .loop .inv in omega (arith, writing-length (alike? _) (l .1 .1), l .1 .1 .room))
+    (λ c. let l = c .before .before .before .before .loop .inv in omega (arith, writing-low (l .1 .1), l .0 .few))
+    (λ c κs. let l = c .before .before .before .before .loop .inv in (l .0, (l .1 .0, (omega arith, omega (arith, writing-length (l .1 .1), l .1 .1 .room)))))
+    (λ c. let l = classed c .loop .inv in omega (arith, writing-length (l .1 .1), l .1 .1 .room))
     (λ c. omega arith)
     (λ c. omega arith)
-    (λ c. let l = classed (c .before) .loop .inv in
-    (l .0, (l .1 .0, writing-next (alike? _) (l .1 .1) (omega arith) (c .before .class-of .ensures) (top-next c))))
-    (λ c. writing-length (alike? _) (c .before .loop .inv .1 .1))
-    (λ c. written _ (c .before .loop .inv .1 .1) (omega arith)))
+    (λ c. let l = classed (c .before) .loop .inv in (l .0, (l .1 .0, writing-next (l .1 .1) (omega arith) (c .before .class-of .ensures) (top-next c))))
+    (λ c. writing-length (c .before .loop .inv .1 .1))
+    (λ c. writing-all (c .before .loop .inv .1 .1) (omega arith)))

@@ -5,8 +5,9 @@ use Rattle.refusal.specs.document.Table.{Outcome, Gives}
 use Rattle.limits.specs.document.Limits.{size, valence}
 use Rattle.edge_list.specs.document.Edges.{edgeRows}
 use Rattle.form.specs.document.Form.{centred}
-use Rattle.vertices.specs.document.Vertices.{ClassesOf}
+use Rattle.orbits.specs.document.Carried.{ClassesOf}
 
--- the classes of the vertices "in the centred code's numbering"
+-- the classes of the vertices in the numbering of the centred code: one for two exactly when some renumbering of the skeleton onto itself, keeping
+-- all edges, carries one to the other
 abbrev pub EqualVertices : ℕ → List ℕ → List ℕ → List ℕ → Outcome ℕ → Type 0
 EqualVertices N E old new o = Gives (edgeRows size valence N E 1) (λ l. (c : List ℕ) × centred N E c × ClassesOf c l) old new o

@@ -8,11 +8,13 @@ use Rattle.refusal.specs.Laws.{was-clear, was-refused, at-most}
 use Rattle.refusal.specs.Giving.{refused-first, written-length}
 use Rattle.limits.specs.document.Limits.{size, valence}
 use Rattle.edge_list.specs.document.Edges.{edgeRows}
-use Rattle.vertices.specs.document.Vertices.{ClassesOf}
-use Rattle.vertices.specs.Classes.{classes}
-use Rattle.vertices.specs.Theorems.{classes-numbered}
+use Rattle.form.specs.document.Form.{centred}
+use Rattle.form.specs.Forms.{centred-form, is-rooted}
+use Rattle.orbits.specs.document.Carried.{ClassesOf}
+use Rattle.orbits.specs.Classes.{classes}
+use Rattle.orbits.specs.Theorems.{classes-of}
 use Rattle.zurkhovel.specs.Accepted.{skeleton-of, tabled}
-use Rattle.zurkhovel.proofs.Derived.{right-code, of-short, of-given}
+use Rattle.zurkhovel.proofs.Derived.{code-centred, right-code, of-short, of-given}
 use Rattle.zurkhovel.proofs.alike.equal_vertices.Statement.{statement}
 use Rattle.zurkhovel.proofs.alike.equal_vertices.Tie as tie
 
@@ -39,17 +41,20 @@ equal-vertices-spec =
     (λ c. search needs)
     (λ c. record { promised = refused-first (was-refused (c .before .before .before .check .ensures) (c .before .k .given .1)) refl; reported = refl })
     (λ c. search needs)
-    (λ c. let d = c .before in record { promised = of-short (start d .args .n) (now (start d .args .edges)) (clear d) ClassesOf (start d .args .n) (λ x l e k. k .count ∙ e) (λ x. (classes x, classes-numbered x)) (c .if1 .taken) refl; reported = refl })
+    (λ c. let d = c .before in record { promised = of-short (start d .args .n) (now (start d .args .edges)) (clear d) ClassesOf (start d .args .n) (λ x l e k. k .count ∙ e) (λ x z. (classes x, classes-of (start d .args .n) (now (start d .args .edges)) x (skeleton-of (clear d) .tree) z)) (c .if1 .taken) refl; reported = refl })
     (λ c. search needs)
     (λ c κs. let d = c .before .before in (tabled (skeleton-of (clear d)), omega (arith, at-most (clear d))))
     (λ c. let d = c .before .before .before .before in omega (arith, at-most (clear d)))
     (λ c. written-length (c .before .before .centred .ensures .0))
     (λ c κs. let w = c .before .before .before in
     let e = coded w in
-    let r = right-code (skeleton-of (clear (e .before))) (w .centred .ensures .0) in
-    (r .ends, (r .few, omega (arith, written-length (w .centred .ensures .0), e .if1 .left))))
+    let d = e .before in
+    let s = skeleton-of (clear d) in (
+      is-rooted centred centred-form (start d .args .n) (now (start d .args .edges)) _ (s .tree) (code-centred (w .centred .ensures .0)),
+      (right-code s (w .centred .ensures .0) .few, omega (arith, written-length (w .centred .ensures .0), e .if1 .left)),
+    ))
     (λ c. search needs)
     (λ c. let w = classed (c .before .before) in
     let e = coded w in
     let d = e .before in
-    record { promised = of-given (start d .args .n) (now (start d .args .edges)) (clear d) ClassesOf (start d .args .n) (λ x l e k. k .count ∙ e) (e .if1 .left) (w .centred .ensures .0) (classes-numbered _) (c .before .before .write-classes .ensures); reported = w .centred .ensures .1 }))
+    record { promised = of-given (start d .args .n) (now (start d .args .edges)) (clear d) ClassesOf (start d .args .n) (λ x l e k. k .count ∙ e) (e .if1 .left) (w .centred .ensures .0) (classes-of (start d .args .n) (now (start d .args .edges)) _ (skeleton-of (clear d) .tree) (code-centred (w .centred .ensures .0))) (c .before .before .write-classes .ensures); reported = w .centred .ensures .1 }))

@@ -1,7 +1,7 @@
 -- The numbering that goes from vertex to vertex, of an equivalence, is by first appearance, and it is the only one that is.
 --
 -- In order: the greatest number; which class a vertex is given; the numbering, places counted from 0; that there is one. What by first
--- appearance means is in `Numbering`, the numbering in `Classes`. Assumes nothing.
+-- appearance means is in `Numbering`, the numbering in `Found`. Assumes nothing.
 use mathlib.Core.Path.{_≡_, refl, sym, ap, _∙_, subst}
 use mathlib.Core.Logic.{_↔_, ite}
 use mathlib.Core.List.{List, [], _∷_, _++_}
@@ -10,8 +10,8 @@ use native.Mathlib.Decide.{decLt}
 use native.Mathlib.Omega.{arith}
 use lib.ListN.{length, getD, length-append, List·getD-append}
 use lib.Seq.{getD-at, ext-getD}
-use Rattle.vertices.specs.document.Numbering.{class, ByAppearance}
-use Rattle.vertices.specs.Classes.{greatest, classOf, numbering}
+use Rattle.orbits.specs.document.Numbering.{class, ByAppearance}
+use Rattle.orbits.specs.Found.{greatest, classOf, numbering}
 
 -- ---- the greatest number
 
@@ -54,7 +54,7 @@ module _ {R : ℕ → ℕ → Type 0} (R? : (u v : ℕ) → Dec (R u v)) where
           before (suc j) h r = f j (omega arith) (subst (λ (w : ℕ). R w v) (past j) r)
 
   -- it is at most the next number
-  class-most : (v u : ℕ) (l : List ℕ) → classOf R? v (suc (greatest l)) u l ≤ suc (greatest l)
+  pub class-most : (v u : ℕ) (l : List ℕ) → classOf R? v (suc (greatest l)) u l ≤ suc (greatest l)
   class-most v u l = at (finds v (suc (greatest l)) u l)
     where
       at : {x : ℕ} → Finds R v (suc (greatest l)) u l x → x ≤ suc (greatest l)
@@ -65,13 +65,6 @@ module _ {R : ℕ → ℕ → Type 0} (R? : (u v : ℕ) → Dec (R u v)) where
   unfolding numbering
   numbering-length zero = refl
   numbering-length (suc n) = omega (arith, length-append (numbering R? n) (classOf R? (suc n) (suc (greatest (numbering R? n))) 1 (numbering R? n) ∷ []), numbering-length n)
-
-  -- there are no more classes than vertices
-  pub numbering-most : (n : ℕ) → greatest (numbering R? n) ≤ n
-  unfolding numbering greatest
-  numbering-most zero = omega arith
-  numbering-most (suc n) =
-      omega (arith, greatest-more (numbering R? n) (classOf R? (suc n) (suc (greatest (numbering R? n))) 1 (numbering R? n)), class-most (suc n) 1 (numbering R? n), numbering-most n)
 
 -- ---- the numbering, places counted from 0
 

@@ -1,14 +1,12 @@
--- The classes of a code's vertices, found from vertex to vertex. No promise cites this: that the classes so found are numbered by first
--- appearance, and no others are, is in `Theorems`.
+-- Classes of vertices, found from vertex to vertex by a relation that is decided. No promise cites this: that the classes so found are numbered
+-- by first appearance, and no others are, is in `Appearance`.
 --
--- In order: the numbering of a relation that is decided; whether two vertices are alike; the classes. Assumes nothing.
+-- In order: which class a vertex is given; the classes of all; whether two codes are equal. Assumes nothing.
 use mathlib.Core.Path.{_≡_, refl, ap₂}
 use mathlib.Core.Logic.{ite}
 use mathlib.Core.List.{List, [], _∷_, _++_, cons≢nil, nil≢cons, head-eq-of-cons-eq, tail-eq-of-cons-eq}
 use Prim.Native.Nat.{ℕ, zero, suc, max}
 use native.Mathlib.Decide.{ℕ-discrete}
-use lib.ListN.{length}
-use Rattle.vertices.specs.document.Vertices.{depth, subtree, Alike}
 
 -- the greatest number of a list, 0 where it has none
 unfoldable pub greatest : List ℕ → ℕ
@@ -37,16 +35,3 @@ same? (a ∷ x) (b ∷ y) = step (ℕ-discrete a b) (same? x y)
     step (yes e) (yes f) = yes (ap₂ _∷_ e f)
     step (yes e) (no n) = no (λ h. n (tail-eq-of-cons-eq h))
     step (no n) f = no (λ h. n (head-eq-of-cons-eq h))
-
--- whether two vertices are alike
-unfoldable pub alike? : (c : List ℕ) (u v : ℕ) → Dec (Alike c u v)
-alike? c u v = step (ℕ-discrete (depth c u) (depth c v)) (same? (subtree c u) (subtree c v))
-  where
-    step : Dec (depth c u ≡ depth c v) → Dec (subtree c u ≡ subtree c v) → Dec (Alike c u v)
-    step (yes d) (yes s) = yes (d, s)
-    step (yes d) (no n) = no (λ h. n (h .1))
-    step (no n) s = no (λ h. n (h .0))
-
--- the class of each vertex, in the order of the digits
-unfoldable pub classes : List ℕ → List ℕ
-classes c = numbering (alike? c) (length c)
