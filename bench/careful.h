@@ -1,4 +1,4 @@
-/* A careful C implementation of seven of the library's calls, as a C programmer would ship it: the same inputs, the same checks, the same answer
+/* A careful C implementation of nine of the library's calls, as a C programmer would ship it: the same inputs, the same checks, the same answer
  * in one whole number. A function that only looks returns the refusal number, 0 for none, and has `*place` for its place. */
 #ifndef CAREFUL_H
 #define CAREFUL_H
@@ -43,6 +43,8 @@ uint32_t c_write_line(size_t n, const uint8_t *edges, size_t len, uint8_t *out, 
 uint32_t c_centred_code(size_t n, const uint8_t *edges, size_t len, uint8_t *out, size_t out_len, size_t *pairs);
 uint32_t c_n_tuple_code(size_t n, const uint8_t *edges, size_t len, uint8_t *out, size_t out_len, size_t *pairs);
 uint32_t c_same_skeleton(size_t n1, const uint8_t *e1, size_t l1, size_t n2, const uint8_t *e2, size_t l2, size_t *pairs);
+uint32_t c_renumbering(size_t n1, const uint8_t *e1, size_t l1, size_t n2, const uint8_t *e2, size_t l2, uint8_t *out, size_t out_len, size_t *pairs);
+uint32_t c_check_renumbering(size_t n1, const uint8_t *e1, size_t l1, size_t n2, const uint8_t *e2, size_t l2, const uint8_t *map, size_t len);
 uint32_t c_equal_vertices(size_t n, const uint8_t *edges, size_t len, uint8_t *out, size_t out_len, size_t *pairs);
 uint32_t c_pack(size_t n, const uint8_t *edges, size_t len, size_t root, uint8_t *out, size_t out_len, size_t *pairs);
 

@@ -16,6 +16,7 @@ enum { TREES = 500 };
 struct input {
     unsigned n;
     uint8_t edges[ZK_EDGES], other[ZK_EDGES]; /* other: the same tree under other numbers for every even input, another tree for every odd one */
+    uint8_t map[ZK_MAP]; /* from edges to other where they are the same tree, else each number once */
     uint8_t line[ZK_LINE];
     size_t line_len;
 };
@@ -92,6 +93,9 @@ static void make(struct input *x, unsigned n, int same) {
         grow(n, plain);
     shuffle(n, plain, x->other);
     size_t pairs;
+    for (unsigned v = 0; v < n; v++)
+        x->map[v] = (uint8_t)(v + 1);
+    c_renumbering(n, x->edges, 2 * (n - 1), n, x->other, 2 * (n - 1), x->map, ZK_MAP, &pairs);
     uint32_t answer = c_write_line(n, x->edges, 2 * (n - 1), x->line, ZK_LINE, &pairs);
     if (zk_refused(answer))
         exit(2);
@@ -151,10 +155,24 @@ static void equal_vertices(enum side s, const struct input *x, struct result *r)
         r->answer = c_equal_vertices(x->n, x->edges, 2 * (x->n - 1), r->out, ZK_DIGITS, &r->pairs);
 }
 
+static void renumbering(enum side s, const struct input *x, struct result *r) {
+    if (s == PROVED)
+        r->answer = zk_renumbering_pairs(x->n, x->edges, 2 * (x->n - 1), x->n, x->other, 2 * (x->n - 1), r->out, ZK_MAP, &r->pairs);
+    else if (s == PLAIN)
+        r->answer = c_renumbering(x->n, x->edges, 2 * (x->n - 1), x->n, x->other, 2 * (x->n - 1), r->out, ZK_MAP, &r->pairs);
+}
+
+static void judged(enum side s, const struct input *x, struct result *r) {
+    if (s == PROVED)
+        r->answer = zk_check_renumbering(x->n, x->edges, 2 * (x->n - 1), x->n, x->other, 2 * (x->n - 1), x->map, x->n);
+    else if (s == PLAIN)
+        r->answer = c_check_renumbering(x->n, x->edges, 2 * (x->n - 1), x->n, x->other, 2 * (x->n - 1), x->map, x->n);
+}
+
 static const struct call {
     const char *name;
     void (*run)(enum side, const struct input *, struct result *);
-} calls[] = {{"read_line", read_line}, {"write_line", write_line}, {"centred_code", centred}, {"n_tuple_code", n_tuple}, {"verdict", verdict}, {"packed", packed}, {"equal_vertices", equal_vertices}};
+} calls[] = {{"read_line", read_line}, {"write_line", write_line}, {"centred_code", centred}, {"n_tuple_code", n_tuple}, {"verdict", verdict}, {"packed", packed}, {"renumbering", renumbering}, {"judged", judged}, {"equal_vertices", equal_vertices}};
 enum { CALLS = sizeof calls / sizeof *calls };
 
 /* ---- What the program does ---- */
@@ -180,6 +198,7 @@ static void check(void) {
         for (int j = 0; j < 20; j++) {
             struct input x = inputs[i];
             x.edges[below(2 * (x.n - 1))] = (uint8_t)below(x.n + 2);
+            x.map[below(x.n)] = (uint8_t)below(x.n + 2);
             x.line[below((unsigned)x.line_len)] = (uint8_t)(j % 5 ? '0' + below(5) : below(256));
             compare(&x);
         }

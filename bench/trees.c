@@ -270,6 +270,82 @@ uint32_t c_same_skeleton(size_t n1, const uint8_t *e1, size_t l1, size_t n2, con
     return digits_compare(x, y, n1) == 0;
 }
 
+/* The centred code with the vertex of each digit; of two middle vertices that both have it the root is the one of the lower number. */
+static unsigned number_centred(const struct tree *t, uint8_t *order, uint8_t *out) {
+    unsigned first, second;
+    centre(t, &first, &second);
+    if (first > second) {
+        unsigned v = first;
+        first = second;
+        second = v;
+    }
+    unsigned looked = code_rooted(t, first, order, out);
+    if (first != second) {
+        uint8_t its[SIZE], other[SIZE];
+        looked += code_rooted(t, second, its, other);
+        if (digits_compare(out, other, t->n) < 0) {
+            memcpy(out, other, t->n);
+            memcpy(order, its, t->n);
+        }
+    }
+    return looked;
+}
+
+uint32_t c_renumbering(size_t n1, const uint8_t *e1, size_t l1, size_t n2, const uint8_t *e2, size_t l2, uint8_t *out, size_t out_len, size_t *pairs) {
+    struct tree a, b;
+    uint8_t x[SIZE], y[SIZE], from[SIZE], to[SIZE];
+    uint64_t place;
+    *pairs = 0;
+    uint32_t refused = tree_read(&a, n1, e1, l1, 1, &place);
+    if (refused)
+        return answered(refused, place);
+    refused = tree_read(&b, n2, e2, l2, 1, &place);
+    if (refused)
+        return 65536 + answered(refused, place);
+    if (n1 != n2)
+        return 0;
+    size_t looked = number_centred(&a, from, x);
+    looked += number_centred(&b, to, y);
+    int same = digits_compare(x, y, n1) == 0;
+    if (same && out_len < n1)
+        return 131072 + answered(15, n1);
+    *pairs = looked;
+    if (!same)
+        return 0;
+    for (size_t i = 0; i < n1; i++)
+        out[from[i] - 1] = to[i];
+    return (uint32_t)n1;
+}
+
+uint32_t c_check_renumbering(size_t n1, const uint8_t *e1, size_t l1, size_t n2, const uint8_t *e2, size_t l2, const uint8_t *map, size_t len) {
+    struct tree a, b;
+    uint64_t place;
+    uint32_t refused = tree_read(&a, n1, e1, l1, 1, &place);
+    if (refused)
+        return answered(refused, place);
+    refused = tree_read(&b, n2, e2, l2, 1, &place);
+    if (refused)
+        return 65536 + answered(refused, place);
+    if (n1 != n2 || len != n1)
+        return 131072 + answered(5, 0);
+    for (size_t p = 0; p < len; p++) {
+        if (map[p] == 0 || map[p] > n1)
+            return 131072 + answered(18, p + 1);
+        for (size_t q = 0; q < p; q++)
+            if (map[q] == map[p])
+                return 131072 + answered(18, p + 1);
+    }
+    for (size_t p = 1; p < n1; p++) {
+        uint8_t u = map[e1[2 * p - 2] - 1], v = map[e1[2 * p - 1] - 1];
+        size_t q = 0;
+        while (q < l2 && !(e2[q] == u && e2[q + 1] == v) && !(e2[q] == v && e2[q + 1] == u))
+            q += 2;
+        if (q == l2)
+            return 131072 + answered(19, p);
+    }
+    return 0;
+}
+
 uint32_t c_pack(size_t n, const uint8_t *edges, size_t len, size_t root, uint8_t *out, size_t out_len, size_t *pairs) {
     struct tree t;
     uint8_t order[SIZE], code[SIZE];

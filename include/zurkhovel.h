@@ -6,9 +6,10 @@
  *
  * THE ANSWER of a call is one whole number: 256 times the refusal number plus the place. Below 256 there is no refusal, and the number is
  * what the call gives: the bytes written at the start of `out`; of zk_same_skeleton 1 (the same) or 0; of a call that only checks, or sets
- * `*value`, 0. A refusal of the second list of zk_same_skeleton has 65,536 added. zk_refused, zk_number, zk_place and zk_list_of below take
- * an answer apart, and zk_words says a refusal number in words. Where several refusals apply, the lowest number is given, at its first
- * place. Three calls refuse nothing and return something else: zk_read_text, zk_count and zk_list, at the end.
+ * `*value`, 0. Of a call that takes two lists a refusal of the second has 65,536 added, and one of the map between them 131,072; so the
+ * map's 5 is told from the first list's. zk_refused, zk_number, zk_place and zk_list_of below take an answer apart, and zk_words says a
+ * refusal number in words. Where several refusals apply, the lowest number is given, at its first place. Three calls refuse nothing and
+ * return something else: zk_read_text, zk_count and zk_list, at the end.
  *
  * ANY INPUT may be handed in: any numbers, any bytes, any lengths. Each call makes its own checks and ends. A refusal leaves `out` and
  * `*value` as they were; a success leaves what stands behind its result in `out`. A pointer with its length must be memory of that length;
@@ -28,7 +29,7 @@
 #include <stddef.h>
 #include <stdint.h>
 
-#define ZK_VERSION "0.5.0"
+#define ZK_VERSION "0.6.0"
 
 /* Sizes to lend, in bytes: with so much room no call answers 15, whatever it is handed. */
 #define ZK_DIGITS 64 /* the digits of a code or a line, or the classes of vertices: N */
@@ -36,6 +37,7 @@
 #define ZK_LINE 68   /* a line, its line feed included */
 #define ZK_PACKED 16 /* a packed code */
 #define ZK_CAM 63    /* the entries of a CAM: N-1 */
+#define ZK_MAP 64    /* the entries of a map: N */
 #define ZK_RECORD 64 /* what zk_read_text takes of `records` for each line */
 
 /* ---- The answer, taken apart and put together ---- */
@@ -46,7 +48,7 @@ static inline int zk_refused(uint32_t answer)
     return answer >= 256;
 }
 
-/* The refusal number, 1 to 15; 0 where there is none. */
+/* The refusal number, 1 to 15, 18 or 19; 0 where there is none. */
 static inline uint32_t zk_number(uint32_t answer)
 {
     return answer >> 8 & 255;
@@ -59,7 +61,7 @@ static inline uint32_t zk_place(uint32_t answer)
     return answer & 255;
 }
 
-/* Which list zk_same_skeleton refuses, 1 or 2. Of every other answer 1. */
+/* Of a refusal of a call that takes two lists, what is refused: list 1 or 2, or 3 for the map between them. Of every other answer 1. */
 static inline uint32_t zk_list_of(uint32_t answer)
 {
     return (answer >> 16) + 1;
@@ -80,7 +82,7 @@ static inline const char *zk_words(uint32_t number)
         "the line is not: count, one space, one or more digits 0 to 9",
         "the size, or the length of a code, is 0 or above its limit",
         "the number or the fraction is outside the range of its form",
-        "edges, entries, ones or digits are not as many as the size asks for",
+        "edges, entries, ones or digits are not as many as the size asks for, or a map is between lists of different sizes",
         "a vertex number or the root is 0 or above the size, or a CAM entry is 0 or above its own number",
         "an edge joins a vertex to itself",
         "the ends of an edge are already joined, directly or through others, by earlier edges",
@@ -91,8 +93,12 @@ static inline const char *zk_words(uint32_t number)
         "a child's code is larger than that of the sibling before it",
         "a right code, but not of the form asked for, or a numbering that is not physical",
         "the lent output is too short: the place is the length needed",
+        NULL,
+        NULL,
+        "an entry of the map is 0 or above the size, or is used by an earlier entry",
+        "an edge of the first list is not carried to an edge of the second",
     };
-    return number < sizeof words / sizeof *words ? words[number] : "no such refusal number";
+    return number < sizeof words / sizeof *words && words[number] != NULL ? words[number] : "no such refusal number";
 }
 
 #ifdef __cplusplus
@@ -110,6 +116,15 @@ uint32_t zk_write_line(size_t n, const uint8_t *edges, size_t len, uint8_t *out,
 /* Whether two edge lists are the same skeleton, possibly under other vertex numbers: 1 or 0. Lists of different sizes are not the same,
  * which is no refusal. Refusals 3, 5 to 9 of either list, the first list's first. */
 uint32_t zk_same_skeleton(size_t n1, const uint8_t *edges1, size_t len1, size_t n2, const uint8_t *edges2, size_t len2);
+
+/* A renumbering of the first edge list onto the second, where they are the same skeleton: N bytes, of which byte v is the number in the second
+ * list of vertex v of the first; where they are not the same 0, and nothing is written. Which of several it is, is fixed: docs/CODES.md says
+ * how. Refusals 3, 5 to 9 of either list, the first list's first; then 15 of the map. */
+uint32_t zk_renumbering(size_t n1, const uint8_t *edges1, size_t len1, size_t n2, const uint8_t *edges2, size_t len2, uint8_t *out, size_t out_len);
+
+/* Whether a map, as zk_renumbering writes one, carries every edge of the first list to an edge of the second and uses each number once: 0.
+ * Refusals 3, 5 to 9 of either list, the first list's first; then of the map 5, 18 (place: the entry) and 19 (place: the edge of the first list). */
+uint32_t zk_check_renumbering(size_t n1, const uint8_t *edges1, size_t len1, size_t n2, const uint8_t *edges2, size_t len2, const uint8_t *map, size_t map_len);
 
 /* The packed form of the rooted code at the vertex `root`: 2N-1 bits, filled up with zeros to whole bytes. Refusals 3, 5 to 9, 15. */
 uint32_t zk_pack(size_t n, const uint8_t *edges, size_t len, size_t root, uint8_t *out, size_t out_len);
@@ -173,12 +188,14 @@ uint32_t zk_decode_a_zero(size_t n, uint64_t value, uint8_t *out, size_t out_len
 
 /* Each of these is the function without `_pairs`; `*pairs` gets how many pairs of digits were looked at to put siblings in order, every two of
  * them compared once: up to and including the first pair that differs, or the whole code if they are equal. Of the N-tuple code, and of what
- * goes by the centred code, it is the sum over all roots at which that code is looked for; of zk_same_skeleton both lists' sum, or 0 where their
- * sizes differ. It is at most 3 times N times the whole part of log2 N for each root. Finished codes that are compared are not counted. A refusal
- * sets it to 0. */
+ * goes by the centred code, it is the sum over all roots at which that code is looked for; of zk_same_skeleton and zk_renumbering both lists' sum,
+ * or 0 where their sizes differ. It is at most 3 times N times the whole part of log2 N for each root. Finished codes that are compared are not
+ * counted. A refusal sets it to 0. */
 uint32_t zk_write_line_pairs(size_t n, const uint8_t *edges, size_t len, uint8_t *out, size_t out_len, size_t *pairs);
 uint32_t zk_same_skeleton_pairs(size_t n1, const uint8_t *edges1, size_t len1, size_t n2, const uint8_t *edges2, size_t len2,
                                 size_t *pairs);
+uint32_t zk_renumbering_pairs(size_t n1, const uint8_t *edges1, size_t len1, size_t n2, const uint8_t *edges2, size_t len2, uint8_t *out, size_t out_len,
+                              size_t *pairs);
 uint32_t zk_pack_pairs(size_t n, const uint8_t *edges, size_t len, size_t root, uint8_t *out, size_t out_len, size_t *pairs);
 uint32_t zk_rooted_code_pairs(size_t n, const uint8_t *edges, size_t len, size_t root, uint8_t *out, size_t out_len, size_t *pairs);
 uint32_t zk_n_tuple_code_pairs(size_t n, const uint8_t *edges, size_t len, uint8_t *out, size_t out_len, size_t *pairs);

@@ -64,8 +64,8 @@ static size_t below(size_t bound) {
 
 /* What a call is handed. */
 struct given {
-    size_t n, root, len, n2, len2;
-    const uint8_t *in, *in2;
+    size_t n, root, len, n2, len2, len3;
+    const uint8_t *in, *in2, *in3;
     uint64_t number;
     double x;
     size_t *pairs; /* where a call hands over the pairs looked at */
@@ -108,18 +108,27 @@ static void damage(uint8_t *bytes, size_t *len, unsigned values) {
         bytes[below(*len)] = (uint8_t)below(values);
 }
 
-enum kind { EDGES, LISTS, CODE, N_TUPLE, CENTRED, PACKED, CAM, LINE, WHOLE, FRACTION, ZERO_A, A_ZERO };
+enum kind { EDGES, LISTS, MAP, CODE, N_TUPLE, CENTRED, PACKED, CAM, LINE, WHOLE, FRACTION, ZERO_A, A_ZERO };
 
 static struct given make(enum kind kind, size_t most) {
-    static uint8_t in[MOST], in2[MOST], edges[MOST];
+    static uint8_t in[MOST], in2[MOST], in3[MOST], edges[MOST];
     static size_t pairs;
-    struct given g = {.n = 1 + below(most), .in = in, .in2 = in2, .pairs = &pairs};
+    struct given g = {.n = 1 + below(most), .in = in, .in2 = in2, .in3 = in3, .pairs = &pairs};
     size_t n = g.n, len = tree(n, edges, kind == EDGES && below(2));
     g.root = 1 + below(n);
     memcpy(in, edges, g.len = len);
     if (kind == LISTS) {
         g.n2 = below(4) ? n : 1 + below(most);
         g.len2 = tree(g.n2, in2, 1);
+    } else if (kind == MAP) {
+        for (size_t v = 0; v < n; v++) {
+            size_t other = below(v + 1);
+            in3[v] = in3[other];
+            in3[other] = (uint8_t)(v + 1);
+        }
+        for (size_t i = 0; i < len; i++)
+            in2[i] = in3[edges[i] - 1];
+        g.n2 = n, g.len2 = len, g.len3 = n;
     } else if (kind == CODE)
         g.len = zk_rooted_code(n, edges, len, g.root, in, MOST);
     else if (kind == N_TUPLE)
@@ -148,6 +157,11 @@ static struct given make(enum kind kind, size_t most) {
         g.root += below(8) == 0 ? n : 0;
         if (kind == LISTS && below(2))
             damage(in2, &g.len2, (unsigned)g.n2 + 3);
+        if (kind == MAP && below(2)) {
+            memcpy(in, edges, g.len = len);
+            g.n = n;
+            damage(in3, &g.len3, (unsigned)n + 3);
+        }
     }
     return g;
 }
@@ -171,6 +185,8 @@ CALL(rooted_code, g->n, g->in, g->len, g->root, out, out_len)
 CALL(n_tuple_code, g->n, g->in, g->len, out, out_len)
 CALL(centred_code, g->n, g->in, g->len, out, out_len)
 CALL(same_skeleton, g->n, g->in, g->len, g->n2, g->in2, g->len2)
+CALL(renumbering, g->n, g->in, g->len, g->n2, g->in2, g->len2, out, out_len)
+CALL(check_renumbering, g->n, g->in, g->len, g->n2, g->in2, g->len2, g->in3, g->len3)
 CALL(pack, g->n, g->in, g->len, g->root, out, out_len)
 CALL(unpack, g->in, g->len, out, out_len)
 CALL(whole, g->n, g->in, g->len, g->root, (uint64_t *)(void *)out)
@@ -193,6 +209,7 @@ CALL(rooted_code_pairs, g->n, g->in, g->len, g->root, out, out_len, g->pairs)
 CALL(n_tuple_code_pairs, g->n, g->in, g->len, out, out_len, g->pairs)
 CALL(centred_code_pairs, g->n, g->in, g->len, out, out_len, g->pairs)
 CALL(same_skeleton_pairs, g->n, g->in, g->len, g->n2, g->in2, g->len2, g->pairs)
+CALL(renumbering_pairs, g->n, g->in, g->len, g->n2, g->in2, g->len2, out, out_len, g->pairs)
 CALL(pack_pairs, g->n, g->in, g->len, g->root, out, out_len, g->pairs)
 CALL(whole_pairs, g->n, g->in, g->len, g->root, (uint64_t *)(void *)out, g->pairs)
 CALL(fraction_pairs, g->n, g->in, g->len, g->root, (double *)(void *)out, g->pairs)
@@ -214,6 +231,7 @@ static const struct call {
     ROW(check_code, CODE, 64, NOTHING),      ROW(decode_code, CODE, 64, BYTES),         ROW(decode_n_tuple, N_TUPLE, 64, BYTES),
     ROW(decode_centred, CENTRED, 64, BYTES), ROW(check_edges, EDGES, 64, NOTHING),      ROW(rooted_code, EDGES, 64, BYTES),
     ROW(n_tuple_code, EDGES, 64, BYTES),     ROW(centred_code, EDGES, 64, BYTES),       ROW(same_skeleton, LISTS, 64, NOTHING),
+    ROW(renumbering, MAP, 64, BYTES),        ROW(check_renumbering, MAP, 64, NOTHING),
     ROW(pack, EDGES, 64, BYTES),             ROW(unpack, PACKED, 64, BYTES),            ROW(whole, EDGES, 32, VALUE),
     ROW(unwhole, WHOLE, 32, BYTES),          ROW(fraction, EDGES, 27, VALUE),           ROW(unfraction, FRACTION, 27, BYTES),
     ROW(cam, EDGES, 64, BYTES),              ROW(zero_a, EDGES, 21, VALUE),             ROW(a_zero, EDGES, 11, VALUE),
@@ -224,6 +242,7 @@ static const struct call {
     ROW(same_skeleton_pairs, LISTS, 64, NOTHING), ROW(pack_pairs, EDGES, 64, BYTES), ROW(whole_pairs, EDGES, 32, VALUE),
     ROW(fraction_pairs, EDGES, 27, VALUE), ROW(cam_by_code_pairs, EDGES, 64, BYTES), ROW(zero_a_by_code_pairs, EDGES, 21, VALUE),
     ROW(a_zero_by_code_pairs, EDGES, 11, VALUE), ROW(equal_vertices_pairs, EDGES, 64, BYTES), ROW(write_line_pairs, EDGES, 64, BYTES),
+    ROW(renumbering_pairs, MAP, 64, BYTES),
 };
 enum { CALLS = sizeof calls / sizeof *calls };
 
@@ -267,13 +286,14 @@ static void compare(const struct call *call, const struct given *g, size_t out_l
     cases++;
     *g->pairs = 7;
     uint32_t wanted = call->run(g, ample, out_len);
-    uint8_t *in = lend_copy(0, g->in, g->len, side), *in2 = lend_copy(1, g->in2, g->len2, side), *out = lend(2, out_len, side);
+    uint8_t *in = lend_copy(0, g->in, g->len, side), *in2 = lend_copy(1, g->in2, g->len2, side), *out = lend(2, out_len, side), *in3 = lend_copy(3, g->in3, g->len3, side);
 #ifndef HEAP
     memset(out, 0x5a, out_len);
 #endif
     lent.in = in;
     lent.in2 = in2;
-    lent.pairs = lend(3, sizeof *lent.pairs, side);
+    lent.in3 = in3;
+    lent.pairs = lend(4, sizeof *lent.pairs, side);
     *lent.pairs = 7;
     uint32_t got = call->run(&lent, out, out_len);
     if (got != wanted)
@@ -282,9 +302,9 @@ static void compare(const struct call *call, const struct given *g, size_t out_l
         report("writes otherwise than with ample memory");
     if (*lent.pairs != *g->pairs)
         report("hands over other pairs than with ample memory");
-    if (memcmp(in, g->in, g->len) != 0 || memcmp(in2, g->in2, g->len2) != 0)
+    if (memcmp(in, g->in, g->len) != 0 || memcmp(in2, g->in2, g->len2) != 0 || memcmp(in3, g->in3, g->len3) != 0)
         report("changes an input");
-    give_back(in), give_back(in2), give_back(out), give_back(lent.pairs);
+    give_back(in), give_back(in2), give_back(in3), give_back(out), give_back(lent.pairs);
 }
 
 static unsigned met[2]; /* whether successes and refusals were met */

@@ -42,6 +42,9 @@ CALL(centred_code, 1, in, 0, a.out, 4)
 VARIANT(centred_code_short, centred_code, 1, in, 0, to, 0)
 VARIANT(centred_code_none, centred_code, 2, in, 0, to, 0)
 CALL(same_skeleton, 1, in, 0, 1, in, 0)
+CALL(renumbering, 1, in, 0, 1, in, 0, a.out, 4)
+VARIANT(renumbering_short, renumbering, 1, in, 0, 1, in, 0, to, 0)
+CALL(check_renumbering, 1, in, 0, 1, in, 0, in, 0)
 CALL(pack, 1, in, 0, 1, a.out, 4)
 VARIANT(pack_short, pack, 1, in, 0, 1, to, 0)
 CALL(unpack, in, 0, to, 0)
@@ -73,7 +76,8 @@ static void list_no_room(void) { a.one = zk_list(zero, 1, 0, to, 0); }
 
 static void (*const calls[])(void) = {
     check_code, decode_code, decode_n_tuple, decode_centred, decode_code_1, decode_n_tuple_1, decode_centred_1, check_edges, rooted_code, rooted_code_short,
-    n_tuple_code, n_tuple_code_short, centred_code, centred_code_short, centred_code_none, same_skeleton, pack, pack_short, unpack, unpack_1, whole, unwhole, fraction,
+    n_tuple_code, n_tuple_code_short, centred_code, centred_code_short, centred_code_none, same_skeleton, renumbering, renumbering_short,
+    check_renumbering, pack, pack_short, unpack, unpack_1, whole, unwhole, fraction,
     unfraction, cam, cam_by_code, decode_cam, zero_a, zero_a_by_code, decode_zero_a, a_zero, a_zero_by_code, decode_a_zero, read_line, write_line,
     write_line_short, equal_vertices, equal_vertices_short, read_text, read_text_no_room, count, list, list_no_room,
 };

@@ -15,7 +15,7 @@ static const char *piece;
 enum { most_input = 4096 };
 static const char *name_now = "";
 static struct input input_now;
-static uint8_t kept[most_input], kept2[most_input];
+static uint8_t kept[most_input], kept2[most_input], kept3[most_input];
 
 uint64_t random64(void)
 {
@@ -52,6 +52,8 @@ void begin_case(const char *name, const struct input *in)
     input_now.bytes = memcpy(kept, in->bytes, input_now.len);
     if (in->bytes2 != NULL)
         input_now.bytes2 = memcpy(kept2, in->bytes2, in->len2);
+    if (in->bytes3 != NULL)
+        input_now.bytes3 = memcpy(kept3, in->bytes3, in->len3);
 }
 
 void begin_piece(const char *name, uint64_t seed)
@@ -88,11 +90,19 @@ static void print_input(const struct input *in)
         printf("  n of the second list %" PRIu64 "\n", in->n2);
         print_bytes("second list", in->bytes2, in->len2);
     }
+    if (in->bytes3 != NULL)
+        print_bytes("map", in->bytes3, in->len3);
 }
 
 static void print_head(const char *what, const char *name)
 {
     printf("%s in zk_%s: piece %s, case %" PRIu64 ", seed %" PRIu64 "\n", what, name, piece, cases, seed_of_run);
+}
+
+static const char *whose(struct answer answer)
+{
+    static const char *const words[] = {"", " of the second list", " of the map"};
+    return answer.lists_before < 3 ? words[answer.lists_before] : " of a list that there is not";
 }
 
 _Noreturn void mismatch(const char *name, const struct input *in, const char *more,
@@ -101,8 +111,8 @@ _Noreturn void mismatch(const char *name, const struct input *in, const char *mo
     print_head("MISMATCH", name);
     print_input(in);
     printf("  %s\n", more);
-    printf("  ours   %u at %" PRIu64 "%s\n", ours.number, ours.place, ours.second_list ? " of the second list" : "");
-    printf("  theirs %u at %" PRIu64 "%s\n", theirs.number, theirs.place, theirs.second_list ? " of the second list" : "");
+    printf("  ours   %u at %" PRIu64 "%s\n", ours.number, ours.place, whose(ours));
+    printf("  theirs %u at %" PRIu64 "%s\n", theirs.number, theirs.place, whose(theirs));
     exit(1);
 }
 
@@ -142,20 +152,20 @@ void fill_pattern(void *memory, size_t bytes, uint64_t salt)
 
 static int equal(struct answer a, struct answer b)
 {
-    return a.number == b.number && a.place == b.place && a.second_list == b.second_list;
+    return a.number == b.number && a.place == b.place && a.lists_before == b.lists_before;
 }
 
 /* The whole number of an answer, from the words: 256 times the number plus the place, and 65,536 more for
- * the second list. */
+ * the second list, 131,072 for the map. */
 static uint64_t whole_number(struct answer answer)
 {
-    return 256 * (uint64_t)answer.number + answer.place + (answer.second_list ? 65536 : 0);
+    return 256 * (uint64_t)answer.number + answer.place + 65536 * (uint64_t)answer.lists_before;
 }
 
 /* A whole number as the header takes it apart. */
 static struct answer taken_apart(uint32_t whole)
 {
-    return (struct answer){.number = zk_number(whole), .place = zk_place(whole), .second_list = zk_list_of(whole) == 2};
+    return (struct answer){.number = zk_number(whole), .place = zk_place(whole), .lists_before = zk_list_of(whole) - 1};
 }
 
 struct lent {
@@ -224,7 +234,7 @@ static void check_room(const struct call *call, const struct input *in, size_t r
     got = before = wanted;
     struct answer ours = ample;
     if (ample.number == 0 && room < ample.place)
-        ours = (struct answer){.number = 15, .place = ample.place};
+        ours = (struct answer){.number = 15, .place = ample.place, .lists_before = call->output == lent_map ? 2 : 0};
     else if (ample.number == 0)
         memcpy(wanted.byte + guard, result, ample.place);
     uint32_t theirs = call->theirs(in, got.byte + guard, room);

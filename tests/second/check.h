@@ -32,15 +32,18 @@ struct input {
     uint64_t n2;
     const uint8_t *bytes2;
     size_t len2;
+    const uint8_t *bytes3;
+    size_t len3;
 };
 
 enum output {
     lent_bytes, /* a lent output of any length */
+    lent_map,   /* the same of a call on two lists, where 15 is the map's */
     one_value,  /* eight bytes for one number */
     no_output
 };
 
-enum { numbers = 16 };
+enum { numbers = 20 };
 
 struct call {
     const char *name;

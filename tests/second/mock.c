@@ -41,6 +41,19 @@
     X(form, finished_counted)    /* the codes at two middle vertices, compared with each other */ \
     X(form, first_list_counted)  /* and not the second */ \
     X(form, sizes_counted)       /* lists of different sizes */ \
+    X(maps, map_not_added)       /* 131,072 is not added for the map */ \
+    X(maps, map_turned)          /* from the second list to the first */ \
+    X(maps, higher_root)         /* of two middle vertices with the centred code the higher number */ \
+    X(maps, last_listed)         /* of equal siblings the one whose edge is listed last */ \
+    X(maps, fifteen_always)      /* 15 also where there is no map */ \
+    X(maps, repeat_at_first)     /* 18 at the first use of a number */ \
+    X(maps, edge_of_second)      /* 19 at an edge of the second list */ \
+    X(maps, one_way)             /* an edge is carried only as it is listed */ \
+    X(maps, five_first)          /* the map's 5 comes before the second list's refusal */ \
+    X(maps, map_first_counted)   /* the pairs of the first list alone */ \
+    X(maps, no_map_uncounted)    /* where the lists are not the same, no pairs are told */ \
+    X(maps, map_sizes_counted)   /* lists of different sizes tell pairs */ \
+    X(maps, map_pairs_on_15)     /* a map without room tells what was looked at */ \
     X(bits, pairs_at_1)          /* the pairs at vertex 1 */ \
     X(bits, packed_pairs_on_15)  /* a packed form without room tells what was looked at */ \
     X(bits, spare_byte)          /* a zero byte too many is taken */ \
@@ -104,7 +117,7 @@ static uint32_t give(struct answer answer)
         answer.place = 0;
     if (wrong == bytes_not_given && answer.number == 0)
         answer.place = 0;
-    return (uint32_t)(256 * answer.number + answer.place) + (answer.second_list ? 65536 : 0);
+    return (uint32_t)(256 * answer.number + answer.place) + 65536 * answer.lists_before;
 }
 
 /* ---- The pairs looked at, counted again from the digits of a code ---- */
@@ -282,14 +295,89 @@ uint32_t zk_same_skeleton(size_t n1, const uint8_t *e1, size_t l1, size_t n2, co
 {
     struct answer answer = oracle_same_skeleton(n1, e1, l1, n2, e2, l2);
     if (wrong == list_forgotten)
-        answer.second_list = false;
+        answer.lists_before = 0;
     if (wrong == list_1_added)
-        answer.second_list = answer.number != 0;
+        answer.lists_before = answer.number != 0;
     if (wrong == verdict_exchanged && answer.number == 0)
         answer.place = 1 - answer.place;
     if (wrong == sizes_unchecked && n1 != n2)
         answer = (struct answer){.number = 0};
     return give(answer);
+}
+
+static struct answer wrong_map(struct answer answer)
+{
+    if (wrong == map_not_added && answer.lists_before == 2)
+        answer.lists_before = 0;
+    return answer;
+}
+
+uint32_t zk_renumbering(size_t n1, const uint8_t *e1, size_t l1, size_t n2, const uint8_t *e2, size_t l2, uint8_t *out, size_t out_len)
+{
+    struct answer answer = oracle_renumbering(n1, e1, l1, n2, e2, l2, out, out_len);
+    bool given = answer.number == 0 && answer.place > 0;
+    if (wrong == fifteen_always && answer.number == 0 && answer.place == 0 && out_len < n1)
+        answer = (struct answer){.number = 15, .place = n1, .lists_before = 2};
+    if (wrong == map_turned && given) {
+        uint8_t map[most_vertices];
+        memcpy(map, out, n1);
+        for (size_t v = 0; v < n1; v++)
+            out[map[v] - 1] = (uint8_t)(v + 1);
+    }
+    if (wrong == last_listed && given) {
+        uint8_t back[2 * most_vertices];
+        for (size_t i = 0; i < l1; i++)
+            back[i] = e1[l1 - 1 - i];
+        oracle_renumbering(n1, back, l1, n2, e2, l2, out, out_len);
+    }
+    if (wrong == higher_root && given) {
+        uint8_t other[2 * most_vertices], map[most_vertices];
+        for (size_t i = 0; i < l1; i++)
+            other[i] = (uint8_t)(n1 + 1 - e1[i]);
+        oracle_renumbering(n1, other, l1, n2, e2, l2, map, n1);
+        for (size_t v = 0; v < n1; v++)
+            out[v] = map[n1 - 1 - v];
+    }
+    return give(wrong_map(answer));
+}
+
+/* Whether an edge of a list goes from u to v as it is listed. */
+static bool listed(const uint8_t *edges, size_t len, unsigned u, unsigned v)
+{
+    for (size_t i = 0; i + 1 < len; i += 2)
+        if (edges[i] == u && edges[i + 1] == v)
+            return true;
+    return false;
+}
+
+uint32_t zk_check_renumbering(size_t n1, const uint8_t *e1, size_t l1, size_t n2, const uint8_t *e2, size_t l2, const uint8_t *map, size_t len)
+{
+    struct answer answer = oracle_check_renumbering(n1, e1, l1, n2, e2, l2, map, len);
+    if (wrong == repeat_at_first && answer.number == 18)
+        for (size_t p = 1; p < answer.place; p++)
+            if (map[p - 1] == map[answer.place - 1])
+                answer.place = p;
+    if (wrong == edge_of_second && answer.number == 19)
+        for (size_t e = 1; 2 * e <= l2; e++) {
+            bool met = false;
+            for (size_t i = 0; i < l1; i += 2) {
+                unsigned u = map[e1[i] - 1], v = map[e1[i + 1] - 1];
+                met |= (e2[2 * e - 2] == u && e2[2 * e - 1] == v) || (e2[2 * e - 2] == v && e2[2 * e - 1] == u);
+            }
+            if (!met) {
+                answer.place = e;
+                break;
+            }
+        }
+    if (wrong == one_way && answer.number == 0)
+        for (size_t e = 1; 2 * e <= l1; e++)
+            if (!listed(e2, l2, map[e1[2 * e - 2] - 1], map[e1[2 * e - 1] - 1])) {
+                answer = (struct answer){.number = 19, .place = e, .lists_before = 2};
+                break;
+            }
+    if (wrong == five_first && answer.lists_before == 1 && (n1 != n2 || len != n1))
+        answer = (struct answer){.number = 5, .lists_before = 2};
+    return give(wrong_map(answer));
 }
 
 uint32_t zk_pack(size_t n, const uint8_t *edges, size_t len, size_t root, uint8_t *out, size_t out_len)
@@ -563,6 +651,21 @@ uint32_t zk_same_skeleton_pairs(size_t n1, const uint8_t *e1, size_t l1, size_t 
             counted += centred_pairs(n2, e2);
     }
     return tell(answer, counted, pairs);
+}
+
+uint32_t zk_renumbering_pairs(size_t n1, const uint8_t *e1, size_t l1, size_t n2, const uint8_t *e2, size_t l2, uint8_t *out, size_t out_len, size_t *pairs)
+{
+    uint32_t answer = zk_renumbering(n1, e1, l1, n2, e2, l2, out, out_len);
+    uint64_t counted = 0;
+    if (was_coded(answer) && (n1 == n2 || wrong == map_sizes_counted)) {
+        counted = centred_pairs(n1, e1);
+        if (wrong != map_first_counted)
+            counted += centred_pairs(n2, e2);
+    }
+    tell(answer, wrong == no_map_uncounted && answer == 0 ? 0 : counted, pairs);
+    if (wrong == map_pairs_on_15 && zk_number(answer) == 15)
+        *pairs = counted;
+    return answer;
 }
 
 uint32_t zk_pack_pairs(size_t n, const uint8_t *edges, size_t len, size_t root, uint8_t *out, size_t out_len, size_t *pairs)

@@ -1,4 +1,4 @@
-/* The second program's own answers: every call of document 01, written from that page alone.
+/* The second program's own answers: every call of document 01, and the requests' calls, written from those pages alone.
  *
  * Each call returns number and place: number 0 is success, and its place is then the count of bytes
  * written at the front of `out` (0 where nothing is written), or for the verdict 1 (same) or 0. A refusal
@@ -15,8 +15,8 @@
 struct answer {
     unsigned number;
     uint64_t place;
-    bool second_list; /* whether it is a refusal of the verdict's second list */
-    uint64_t pairs;   /* of digits looked at where siblings were put in order */
+    unsigned lists_before; /* of a refusal: 0 the first list's, 1 the second's, 2 the map's of two lists */
+    uint64_t pairs;        /* of digits looked at where siblings were put in order */
 };
 
 struct answer oracle_check_code(const uint8_t *code, size_t len);
@@ -32,6 +32,11 @@ struct answer oracle_centred_code(uint64_t n, const uint8_t *edges, size_t len, 
 
 struct answer oracle_same_skeleton(uint64_t n1, const uint8_t *e1, size_t l1,
                                    uint64_t n2, const uint8_t *e2, size_t l2);
+
+struct answer oracle_renumbering(uint64_t n1, const uint8_t *e1, size_t l1, uint64_t n2, const uint8_t *e2, size_t l2,
+                                 uint8_t *out, size_t room);
+struct answer oracle_check_renumbering(uint64_t n1, const uint8_t *e1, size_t l1, uint64_t n2, const uint8_t *e2, size_t l2,
+                                       const uint8_t *map, size_t len);
 
 struct answer oracle_pack(uint64_t n, const uint8_t *edges, size_t len, uint64_t root,
                           uint8_t *out, size_t room);

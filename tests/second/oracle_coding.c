@@ -3,7 +3,7 @@
 
 #include "oracle_parts.h"
 
-static bool larger(const struct code *a, const struct code *b)
+bool larger(const struct code *a, const struct code *b)
 {
     return order_of(a->digit, a->length, b->digit, b->length) == 2;
 }
@@ -33,7 +33,7 @@ struct answer telling(struct answer answer, uint64_t pairs)
 
 /* The code of a vertex seen from its parent: the count of its children, then their codes, always the
  * largest of those not yet written. The pairs are those of each child, and those of every two children. */
-static struct code part_code(const struct tree *tree, unsigned vertex, unsigned parent)
+struct code part_code(const struct tree *tree, unsigned vertex, unsigned parent)
 {
     struct code child[most_neighbours];
     unsigned children = 0;
@@ -195,7 +195,7 @@ struct answer oracle_same_skeleton(uint64_t n1, const uint8_t *e1, size_t l1,
 {
     struct answer first = oracle_check_edges(n1, e1, l1, no_root);
     struct answer second = oracle_check_edges(n2, e2, l2, no_root);
-    second.second_list = true;
+    second.lists_before = 1;
     if (first.number != 0)
         return first;
     if (second.number != 0)

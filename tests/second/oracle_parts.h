@@ -80,6 +80,8 @@ struct tree tree_of(uint64_t n, const uint8_t *edges);
 struct tree tree_of_code(const uint8_t *digits, size_t n);
 bool are_joined(const struct tree *tree, unsigned u, unsigned v);
 
+struct code part_code(const struct tree *tree, unsigned vertex, unsigned parent); /* of what hangs at a vertex */
+bool larger(const struct code *a, const struct code *b);
 struct code rooted_code(const struct tree *tree, unsigned root);
 struct code n_tuple_code(const struct tree *tree);
 struct code centred_code(const struct tree *tree);

@@ -18,7 +18,8 @@ enum { STACK = 1 << 18, LINES = 4 };
 /* What a call is handed. `lines` is LINES times the line of the skeleton. */
 static size_t n, root, len, packed_len, lines_len;
 static uint64_t whole, zero_a, a_zero;
-static uint8_t edges[ZK_EDGES], other[ZK_EDGES], code[ZK_DIGITS], n_tuple[ZK_DIGITS], centred[ZK_DIGITS], packed[ZK_PACKED], cam[ZK_CAM], lines[LINES * ZK_LINE];
+static uint8_t edges[ZK_EDGES], other[ZK_EDGES], code[ZK_DIGITS], n_tuple[ZK_DIGITS], centred[ZK_DIGITS], packed[ZK_PACKED], cam[ZK_CAM], map[ZK_MAP],
+    lines[LINES * ZK_LINE];
 static double fraction;
 
 /* What it answers with. */
@@ -44,6 +45,8 @@ CALL(rooted_code, n, edges, len, root, out, sizeof out)
 CALL(n_tuple_code, n, edges, len, out, sizeof out)
 CALL(centred_code, n, edges, len, out, sizeof out)
 CALL(same_skeleton, n, edges, len, n, other, len)
+CALL(renumbering, n, edges, len, n, other, len, out, sizeof out)
+CALL(check_renumbering, n, edges, len, n, other, len, map, n)
 CALL(pack, n, edges, len, root, out, sizeof out)
 CALL(unpack, packed, packed_len, out, sizeof out)
 CALL(whole, n, edges, len, root, &value)
@@ -68,6 +71,7 @@ CALL(rooted_code_pairs, n, edges, len, root, out, sizeof out, &one)
 CALL(n_tuple_code_pairs, n, edges, len, out, sizeof out, &one)
 CALL(centred_code_pairs, n, edges, len, out, sizeof out, &one)
 CALL(same_skeleton_pairs, n, edges, len, n, other, len, &one)
+CALL(renumbering_pairs, n, edges, len, n, other, len, out, sizeof out, &one)
 CALL(pack_pairs, n, edges, len, root, out, sizeof out, &one)
 CALL(whole_pairs, n, edges, len, root, &value, &one)
 CALL(fraction_pairs, n, edges, len, root, &exact, &one)
@@ -106,10 +110,11 @@ static const struct call {
     ROW(zero_a, 21, 0),         ROW(a_zero, 11, 0),         ROW(cam_by_code, 64, 0),    ROW(zero_a_by_code, 21, 0),
     ROW(a_zero_by_code, 11, 0), ROW(decode_cam, 64, 0),     ROW(decode_zero_a, 21, 0),  ROW(decode_a_zero, 11, 0),
     ROW(equal_vertices, 64, 0), ROW(read_line, 64, 0),      ROW(write_line, 64, 0),     ROW(read_text, 64, 0),
-    ROW(count, 64, 0),          ROW(list, 64, 0),
+    ROW(count, 64, 0),          ROW(list, 64, 0),           ROW(renumbering, 64, 0),    ROW(check_renumbering, 64, 0),
     ROW(rooted_code_pairs, 64, 1), ROW(n_tuple_code_pairs, 64, 0), ROW(centred_code_pairs, 64, 0), ROW(same_skeleton_pairs, 64, 0),
     ROW(pack_pairs, 64, 1), ROW(whole_pairs, 32, 1), ROW(fraction_pairs, 27, 1), ROW(cam_by_code_pairs, 64, 0),
     ROW(zero_a_by_code_pairs, 21, 0), ROW(a_zero_by_code_pairs, 11, 0), ROW(write_line_pairs, 64, 0), ROW(equal_vertices_pairs, 64, 0),
+    ROW(renumbering_pairs, 64, 0),
 };
 
 /* ---- The skeletons ---- */
@@ -154,6 +159,7 @@ static void make(const struct shape *shape, unsigned m) {
         must(zk_zero_a(n, edges, len, &zero_a), "zero_a");
     if (n <= 11)
         must(zk_a_zero(n, edges, len, &a_zero), "a_zero");
+    must(zk_renumbering(n, edges, len, n, other, len, map, sizeof map), "renumbering");
     size_t line = must(zk_write_line(n, edges, len, lines, sizeof lines), "write_line");
     for (unsigned i = 1; i < LINES; i++)
         memcpy(lines + i * line, lines, line);

@@ -58,7 +58,7 @@ fn sizes(most: usize, n: usize, edges: &[u8]) -> Check
 }
 
 // Whether v is 0 or above n.
-fn outside(n: usize, v: usize) -> bool
+pub fn outside(n: usize, v: usize) -> bool
     ensures { λ r. ⌜ Tells (Outside n v) r ⌝ }
 {
     v == 0 || n < v

@@ -20,17 +20,21 @@ use Rattle.fraction.specs.declared.Fraction.the-variants as fraction
 use Rattle.form.specs.document.Form.{nTuple, centred}
 use Rattle.zurkhovel.specs.declared.codes.Verdict.{Verdict}
 use Rattle.zurkhovel.specs.declared.codes.Verdict.the-variants as verdict
+use Rattle.zurkhovel.specs.declared.maps.Mapping.{Mapping}
+use Rattle.zurkhovel.specs.declared.maps.Mapping.the-variants as maps
 use Rattle.zurkhovel.specs.document.Codes.{CheckCode, DecodeCode, DecodeForm, CheckEdges, RootedCode, FormCode}
 use Rattle.zurkhovel.specs.document.Same.{Finding, said, SameSkeleton}
+use Rattle.zurkhovel.specs.document.Maps.{MapOutcome, mapped, HandOut, CheckRenumbering}
 use Rattle.zurkhovel.specs.document.Bits.{Pack, Unpack, Whole, Unwhole, InFraction, Unfraction}
 use Rattle.zurkhovel.specs.document.Matrix.{DecodeCam, DecodeZeroA, DecodeAZero, Cam, ZeroA, AZero, CamByCode, ZeroAByCode, AZeroByCode}
 use Rattle.zurkhovel.specs.document.Alike.{EqualVertices}
 use Rattle.zurkhovel.specs.document.Lines.{ReadLine, WriteLine}
 use Rattle.zurkhovel.specs.One as codes
 use Rattle.zurkhovel.specs.OneBits as bits
+use Rattle.zurkhovel.specs.OneMaps as carried
 use Rattle.zurkhovel.specs.OneMatrix as matrix
 use Rattle.zurkhovel.specs.OneText as text
-use Rattle.exports.specs.document.Packing.{packed, truth, withList, held, PackedAnswer, PackedFinding, PackedValue}
+use Rattle.exports.specs.document.Packing.{packed, truth, withList, held, PackedAnswer, PackedFinding, PackedMapping, PackedValue}
 
 -- ---- each kind of answer
 
@@ -51,6 +55,10 @@ pub finding : (o : Finding) → (r : Verdict) × (o ≡ said r)
 finding (gives true) = (verdict.Same, refl)
 finding (gives false) = (verdict.Different, refl)
 finding (refuses (i, k) p) = (verdict.Refused i k p, refl)
+
+pub mapping : (o : MapOutcome) → (r : Mapping) × (o ≡ mapped r)
+mapping (gives n) = (maps.Done n, refl)
+mapping (refuses (i, k) p) = (maps.Refused i k p, refl)
 
 -- a call that only checks
 one-check :
@@ -134,6 +142,22 @@ one-zk-same-skeleton N E P F r s (o, x, e) (q, y, g) =
     let (a, i) = finding o in
     let (b, j) = finding q in
     e ∙ ap (packed withList truth) (i ∙ ap said (codes.one-same-skeleton N E P F a b (subst (SameSkeleton N E P F) i x) (subst (SameSkeleton N E P F) j y)) ∙ sym j) ∙ sym g
+
+pub one-zk-renumbering :
+    (N : ℕ) (E : List ℕ) (P : ℕ) (F old new new′ : List ℕ) (r s : ℕ) → PackedMapping (HandOut N E P F old new) r → PackedMapping (HandOut N E P F old new′) s
+    → (r ≡ s) × (new ≡ new′)
+one-zk-renumbering N E P F old new new′ r s (o, x, e) (q, y, g) =
+    let (a, i) = mapping o in
+    let (b, j) = mapping q in
+    let (h, l) = carried.one-renumbering N E P F old new new′ a b (subst (HandOut N E P F old new) i x) (subst (HandOut N E P F old new′) j y) in
+    (e ∙ ap (packed withList (λ n. n)) (i ∙ ap mapped h ∙ sym j) ∙ sym g, l)
+
+pub one-zk-check-renumbering :
+    (N : ℕ) (E : List ℕ) (P : ℕ) (F w : List ℕ) (r s : ℕ) → PackedMapping (CheckRenumbering N E P F w) r → PackedMapping (CheckRenumbering N E P F w) s → r ≡ s
+one-zk-check-renumbering N E P F w r s (o, x, e) (q, y, g) =
+    let (a, i) = mapping o in
+    let (b, j) = mapping q in
+    e ∙ ap (packed withList (λ n. n)) (i ∙ ap mapped (carried.one-check-renumbering N E P F w a b (subst (CheckRenumbering N E P F w) i x) (subst (CheckRenumbering N E P F w) j y)) ∙ sym j) ∙ sym g
 
 pub one-zk-pack :
     (N : ℕ) (E : List ℕ) (root : ℕ) (old new new′ : List ℕ) (r s : ℕ) → PackedAnswer (Pack N E root old new) r → PackedAnswer (Pack N E root old new′) s

@@ -16,16 +16,18 @@ use Rattle.zurkhovel.specs.declared.reported.Reported.{Reported}
 use Rattle.zurkhovel.specs.declared.reported.ReportedNumber.{ReportedNumber}
 use Rattle.zurkhovel.specs.declared.reported.ReportedFraction.{ReportedFraction}
 use Rattle.zurkhovel.specs.declared.reported.ReportedVerdict.{ReportedVerdict}
+use Rattle.zurkhovel.specs.declared.reported.ReportedMapping.{ReportedMapping}
 use Rattle.zurkhovel.specs.document.Codes.{RootedCode, FormCode}
 use Rattle.zurkhovel.specs.document.Same.{said, SameSkeleton}
+use Rattle.zurkhovel.specs.document.Maps.{mapped, HandOut}
 use Rattle.zurkhovel.specs.document.Bits.{Pack, Whole, InFraction}
 use Rattle.zurkhovel.specs.document.Matrix.{CamByCode, ZeroAByCode, AZeroByCode}
 use Rattle.zurkhovel.specs.document.Alike.{EqualVertices}
 use Rattle.zurkhovel.specs.document.Lines.{WriteLine}
 use Rattle.zurkhovel.specs.document.Reported.{Reporting, atRoot, OfBoth}
 use Rattle.zurkhovel.specs.OneReported as calls
-use Rattle.exports.specs.document.Packing.{packed, truth, withList, held, PackedAnswer, PackedFinding, PackedValue}
-use Rattle.exports.specs.One.{answer, value, exact, finding}
+use Rattle.exports.specs.document.Packing.{packed, truth, withList, held, PackedAnswer, PackedFinding, PackedMapping, PackedValue}
+use Rattle.exports.specs.One.{answer, value, exact, finding, mapping}
 
 -- ---- each kind of answer
 
@@ -96,6 +98,16 @@ one-zk-same-skeleton-pairs N E P F m m′ r s (o, x, e) (q, y, g) =
     let h = calls.one-same-skeleton-reported N E P F (record { answer = a; pairs = m }) (record { answer = b; pairs = m′ })
     (subst (λ w. Reporting (SameSkeleton N E P F) (OfBoth N E P F) w m) i x) (subst (λ w. Reporting (SameSkeleton N E P F) (OfBoth N E P F) w m′) j y) in
     (e ∙ ap (packed withList truth) (i ∙ ap (λ (v : ReportedVerdict). said (v .answer)) h ∙ sym j) ∙ sym g, ap (λ (v : ReportedVerdict). v .pairs) h)
+
+pub one-zk-renumbering-pairs :
+    (N : ℕ) (E : List ℕ) (P : ℕ) (F old new new′ : List ℕ) (m m′ r s : ℕ) → PackedMapping (λ o. Reporting (HandOut N E P F old new) (OfBoth N E P F) o m) r
+    → PackedMapping (λ o. Reporting (HandOut N E P F old new′) (OfBoth N E P F) o m′) s → (r ≡ s) × (new ≡ new′) × (m ≡ m′)
+one-zk-renumbering-pairs N E P F old new new′ m m′ r s (o, x, e) (q, y, g) =
+    let (a, i) = mapping o in
+    let (b, j) = mapping q in
+    let (h, l) = calls.one-renumbering-reported N E P F old new new′ (record { answer = a; pairs = m }) (record { answer = b; pairs = m′ })
+    (subst (λ w. Reporting (HandOut N E P F old new) (OfBoth N E P F) w m) i x) (subst (λ w. Reporting (HandOut N E P F old new′) (OfBoth N E P F) w m′) j y) in
+    (e ∙ ap (packed withList (λ n. n)) (i ∙ ap (λ (v : ReportedMapping). mapped (v .answer)) h ∙ sym j) ∙ sym g, l, ap (λ (v : ReportedMapping). v .pairs) h)
 
 pub one-zk-pack-pairs :
     (N : ℕ) (E : List ℕ) (root : ℕ) (old new new′ : List ℕ) (m m′ r s : ℕ) → PackedAnswer (λ o. Reporting (Pack N E root old new) (atRoot N E root) o m) r

@@ -1,7 +1,7 @@
 -- "A place is always below 256": so number, place and list are read back from the whole number, and two answers never pack alike.
 --
--- In order: a refusal taken apart; the answer of a call that writes or only checks, the verdict, the answer of a call that is asked for a value;
--- what a C function promises, of the answer that is read back. Assumes nothing.
+-- In order: a refusal taken apart; the answer of a call that writes or only checks, the verdict, the answer of a call on maps, and of a call that is asked for a
+-- value;-- what a C function promises, of the answer that is read back. Assumes nothing.
 use mathlib.Core.Path.{_≡_, refl, sym, ap, ap₂, subst, _∙_}
 use mathlib.Core.Bool.{Bool, true, false}
 use mathlib.Core.Logic.{ite, ⊎-elim}
@@ -9,10 +9,11 @@ use Prim.Native.Nat.{ℕ, _+_, _*_, _≤_, _<_}
 use native.Mathlib.Omega.{arith}
 use native.Mathlib.Decide.{decLt}
 use lib.Dec.{eqb}
-use Rattle.refusal.specs.document.Table.{Outcome, gives, refuses}
+use Rattle.refusal.specs.document.Table.{OutcomeOf, Outcome, gives, refuses}
 use Rattle.refusal.specs.document.Small.{byteValues, SmallNumber, SmallOfList, Small, SmallAnswer, SmallRefusal}
 use Rattle.zurkhovel.specs.document.Same.{Finding}
-use Rattle.exports.specs.document.Packing.{packed, truth, withList, held, numberIn, placeIn, listIn, unpacked, unpackedFinding, unpackedValue, PackedAnswer, PackedFinding, PackedValue}
+use Rattle.zurkhovel.specs.document.Maps.{MapOutcome, SmallOfThree}
+use Rattle.exports.specs.document.Packing.{packed, truth, withList, held, numberIn, placeIn, listIn, unpacked, unpackedFinding, unpackedMapping, unpackedValue, PackedAnswer, PackedFinding, PackedMapping, PackedValue}
 
 -- ---- a refusal taken apart
 
@@ -52,16 +53,25 @@ value-back (refuses k p) old ((a, b), l) =
     let r : ℕ = byteValues * k + p in
     above (gives old) (refuses (numberIn r) (placeIn r)) r (omega arith) ∙ ap₂ refuses (number-back k p b l) (place-back k p l)
 
+-- one of several lists, where v is read of a success
+list-back :
+    {A : Type 0} (v : ℕ → A) (i k p : ℕ) → (1 ≤ i) × (i ≤ 3) → SmallNumber k → p < byteValues
+    → let r : ℕ = byteValues * withList (i, k) + p in _≡_ {A = OutcomeOf (ℕ × ℕ) A} (ite (decLt r byteValues) (gives (v r)) (refuses (listIn r, numberIn r) (placeIn r))) (refuses (i, k) p)
+list-back v i k p (x, y) (a, b) l =
+    let r : ℕ = byteValues * withList (i, k) + p in
+    let list : listIn r ≡ i = omega arith in
+    let number : numberIn r ≡ k = omega arith in
+    let place : placeIn r ≡ p = omega arith in
+    above (gives (v r)) (refuses (listIn r, numberIn r) (placeIn r)) r (omega arith) ∙ ap₂ refuses (ap₂ (λ (x y : ℕ). (x, y)) list number) place
+
 pub finding-back : (o : Finding) → Small SmallOfList (λ b. Unit {0}) o → unpackedFinding (packed withList truth o) ≡ o
 finding-back (gives true) s = below (gives true) (refuses (1, 0) 1) 1 (omega arith)
 finding-back (gives false) s = below (gives false) (refuses (1, 0) 0) 0 (omega arith)
-finding-back (refuses (i, k) p) ((d, (a, b)), l) =
-    let c : (1 ≤ i) × (i ≤ 2) = ⊎-elim (λ e. (omega arith, omega arith)) (λ e. (omega arith, omega arith)) d in
-    let r : ℕ = byteValues * withList (i, k) + p in
-    let list : listIn r ≡ i = omega (arith, c .0, c .1) in
-    let number : numberIn r ≡ k = omega (arith, c .0, c .1) in
-    let place : placeIn r ≡ p = omega arith in
-    above (gives (eqb r 1)) (refuses (listIn r, numberIn r) (placeIn r)) r (omega arith) ∙ ap₂ refuses (ap₂ (λ (x y : ℕ). (x, y)) list number) place
+finding-back (refuses (i, k) p) ((d, n), l) = list-back (λ r. eqb r 1) i k p (⊎-elim (λ e. (omega arith, omega arith)) (λ e. (omega arith, omega arith)) d) n l
+
+pub mapping-back : (o : MapOutcome) → Small SmallOfThree (λ n. n < byteValues) o → unpackedMapping (packed withList (λ n. n) o) ≡ o
+mapping-back (gives n) s = below (gives n) (refuses (listIn n, numberIn n) (placeIn n)) n s
+mapping-back (refuses (i, k) p) ((d, n), l) = list-back (λ r. r) i k p d n l
 
 -- ---- what a C function promises, of the answer that is read back
 
@@ -71,6 +81,10 @@ answer-read {P} s (o, x, e) = subst P (sym (ap unpacked e ∙ answer-back o (s o
 pub finding-read :
     {P : Finding → Type 0} {r : ℕ} → ((o : Finding) → P o → Small SmallOfList (λ b. Unit {0}) o) → PackedFinding P r → P (unpackedFinding r)
 finding-read {P} s (o, x, e) = subst P (sym (ap unpackedFinding e ∙ finding-back o (s o x))) x
+
+pub mapping-read :
+    {P : MapOutcome → Type 0} {r : ℕ} → ((o : MapOutcome) → P o → Small SmallOfThree (λ n. n < byteValues) o) → PackedMapping P r → P (unpackedMapping r)
+mapping-read {P} s (o, x, e) = subst P (sym (ap unpackedMapping e ∙ mapping-back o (s o x))) x
 
 pub value-read :
     {A : Type 0} {P : Outcome A → Type 0} {old new : A} {r : ℕ} → ((o : Outcome A) → P o → SmallRefusal o) → PackedValue P old new r

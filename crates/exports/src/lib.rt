@@ -5,8 +5,9 @@ use fraction::Fraction;
 use refusal::Answer;
 use refusal::Number;
 use zurkhovel::codes::Verdict;
+use zurkhovel::maps::Mapping;
 ghost use mathlib.Core.Path.{_≡_};
-ghost use Prim.Native.Nat.{_+_, _*_, _<_};
+ghost use Prim.Native.Nat.{_+_, _*_, _≤_, _<_};
 ghost use Rattle.refusal.specs.document.Outcome.{told, numbered};
 ghost use Rattle.refusal.specs.document.Small.{byteValues, Small, SmallOfList, SmallAnswer, SmallRefusal};
 ghost use Rattle.fraction.specs.document.Outcome.{toldFraction};
@@ -15,11 +16,12 @@ ghost use Rattle.form_coder.specs.document.Pairs.{centredPairs, nTuplePairs};
 ghost use Rattle.zurkhovel.specs.document.Reported.{Reporting, atRoot, OfBoth};
 ghost use Rattle.zurkhovel.specs.document.Codes.{CheckCode, DecodeCode, DecodeForm, CheckEdges, RootedCode, FormCode};
 ghost use Rattle.zurkhovel.specs.document.Same.{SameSkeleton, said};
+ghost use Rattle.zurkhovel.specs.document.Maps.{SmallOfThree, mapped, HandOut, CheckRenumbering};
 ghost use Rattle.zurkhovel.specs.document.Bits.{Pack, Unpack, Whole, Unwhole, InFraction, Unfraction};
 ghost use Rattle.zurkhovel.specs.document.Matrix.{DecodeCam, DecodeZeroA, DecodeAZero, Cam, ZeroA, AZero, CamByCode, ZeroAByCode, AZeroByCode};
 ghost use Rattle.zurkhovel.specs.document.Alike.{EqualVertices};
 ghost use Rattle.zurkhovel.specs.document.Lines.{ReadLine, WriteLine, ReadText, Counted, ListText};
-ghost use Rattle.exports.specs.document.Packing.{packed, truth, withList, held, PackedAnswer, PackedFinding, PackedValue};
+ghost use Rattle.exports.specs.document.Packing.{packed, truth, withList, held, PackedAnswer, PackedFinding, PackedMapping, PackedValue};
 
 // The values of a byte.
 const BYTE: u32 = 256;
@@ -43,7 +45,15 @@ fn answered(answer: Answer) -> u32
     }
 }
 
-// The verdict. A refusal of the second list adds 256 times 256.
+// A refusal of one of several, which are called 1, 2 and 3: each adds 256 times 256 to the one before it.
+fn refused_of(i: u8, k: u8, p: usize) -> u32
+    requires { ⌜ (1 ≤ i) × (i ≤ 3) × (p < byteValues) ⌝ }
+    ensures { λ r. ⌜ r ≡ byteValues * withList (i, k) + p ⌝ }
+{
+    BYTE * BYTE * (i as u32 - 1) + refused(k, p)
+}
+
+// The verdict.
 fn found(verdict: Verdict) -> u32
     requires { ⌜ Small SmallOfList (λ b. Unit {0}) (said verdict) ⌝ }
     ensures { λ r. ⌜ r ≡ packed withList truth (said verdict) ⌝ }
@@ -51,7 +61,18 @@ fn found(verdict: Verdict) -> u32
     match verdict {
         Verdict::Same => 1,
         Verdict::Different => 0,
-        Verdict::Refused(i, k, p) => BYTE * BYTE * (i as u32 - 1) + refused(k, p),
+        Verdict::Refused(i, k, p) => refused_of(i, k, p),
+    }
+}
+
+// The answer of a call on maps.
+fn sent(answer: Mapping) -> u32
+    requires { ⌜ Small SmallOfThree (λ n. n < byteValues) (mapped answer) ⌝ }
+    ensures { λ r. ⌜ r ≡ packed withList (λ n. n) (mapped answer) ⌝ }
+{
+    match answer {
+        Mapping::Done(n) => n as u32,
+        Mapping::Refused(i, k, p) => refused_of(i, k, p),
     }
 }
 
@@ -214,6 +235,51 @@ pub extern "C" fn zk_same_skeleton_pairs(
     *pairs = r.pairs;
     let answer = r.answer;
     found(answer)
+}
+
+#[no_mangle]
+pub extern "C" fn zk_renumbering(
+    n1: usize,
+    edges1: &[u8],
+    n2: usize,
+    edges2: &[u8],
+    out: &mut [u8],
+) -> u32
+    ensures { λ r. ⌜ PackedMapping (HandOut n1 (now (edges1 .entry)) n2 (now (edges2 .entry)) (now (out .entry)) (now (out .exit))) r ⌝ }
+{
+    let r = zurkhovel::maps::renumbering(n1, edges1, n2, edges2, out);
+    let answer = r.answer;
+    sent(answer)
+}
+
+#[no_mangle]
+pub extern "C" fn zk_renumbering_pairs(
+    n1: usize,
+    edges1: &[u8],
+    n2: usize,
+    edges2: &[u8],
+    out: &mut [u8],
+    pairs: &mut usize,
+) -> u32
+    ensures { λ r. ⌜ PackedMapping (λ o. Reporting (HandOut n1 (now (edges1 .entry)) n2 (now (edges2 .entry)) (now (out .entry)) (now (out .exit))) (OfBoth n1 (now (edges1 .entry)) n2 (now (edges2 .entry))) o (now (pairs .exit))) r ⌝ }
+{
+    let r = zurkhovel::maps::renumbering(n1, edges1, n2, edges2, out);
+    *pairs = r.pairs;
+    let answer = r.answer;
+    sent(answer)
+}
+
+#[no_mangle]
+pub extern "C" fn zk_check_renumbering(
+    n1: usize,
+    edges1: &[u8],
+    n2: usize,
+    edges2: &[u8],
+    map: &[u8],
+) -> u32
+    ensures { λ r. ⌜ PackedMapping (CheckRenumbering n1 (now (edges1 .entry)) n2 (now (edges2 .entry)) (now (map .entry))) r ⌝ }
+{
+    sent(zurkhovel::maps::check_renumbering(n1, edges1, n2, edges2, map))
 }
 
 #[no_mangle]

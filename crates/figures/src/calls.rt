@@ -1,5 +1,6 @@
 // One worked example for each public call, as docs/CALLS.md shows it.
 use fraction::Fraction;
+use refusal::Answer;
 use shown::answer;
 use shown::front;
 use shown::given;
@@ -12,6 +13,7 @@ use shown::text;
 use shown::value;
 use shown::valued;
 use zurkhovel::codes::Verdict;
+use zurkhovel::maps::Mapping;
 use zurkhovel::reported::Reported;
 use zurkhovel::reported::ReportedNumber;
 
@@ -84,6 +86,17 @@ fn edge_codes(edges: &[u8]) {
     told(b"equal_vertices", f, &out);
 }
 
+// A refusal of a call with two lists: which list, or 3 for the map; its number, and its place.
+fn refused_of(list: u8, k: u8, p: usize) {
+    text(b" = Refused(");
+    number(list as u64);
+    text(b", ");
+    number(k as u64);
+    text(b", ");
+    number(p as u64);
+    text(b")\n");
+}
+
 fn same(n1: usize, edges1: &[u8], n2: usize, edges2: &[u8]) {
     sized(b"same_skeleton", n1, edges1);
     sized(b",", n2, edges2);
@@ -92,17 +105,46 @@ fn same(n1: usize, edges1: &[u8], n2: usize, edges2: &[u8]) {
     match a {
         Verdict::Same => text(b" = Same\n"),
         Verdict::Different => text(b" = Different\n"),
-        Verdict::Refused(list, k, p) => {
-            text(b" = Refused(");
-            number(list as u64);
-            text(b", ");
-            number(k as u64);
-            text(b", ");
-            number(p as u64);
-            text(b")\n");
-        }
+        Verdict::Refused(list, k, p) => refused_of(list, k, p),
     }
     looked(b"same_skeleton", r.pairs);
+}
+
+// An answer about a map, and what was written.
+fn mapped(a: Mapping, out: &[u8]) {
+    match a {
+        Mapping::Done(n) => answer(Answer::Done(n), out),
+        Mapping::Refused(list, k, p) => refused_of(list, k, p),
+    }
+}
+
+fn handed(edges1: &[u8], edges2: &[u8]) {
+    let mut out = [0u8; 64];
+    sized(b"renumbering", 4, edges1);
+    sized(b",", 4, edges2);
+    let r = zurkhovel::maps::renumbering(4, edges1, 4, edges2, &mut out);
+    let a = r.answer;
+    mapped(a, &out);
+    looked(b"renumbering", r.pairs);
+}
+
+fn judged(edges1: &[u8], edges2: &[u8], map: &[u8]) {
+    sized(b"check_renumbering", 4, edges1);
+    sized(b",", 4, edges2);
+    given(b",", map);
+    mapped(
+        zurkhovel::maps::check_renumbering(4, edges1, 4, edges2, map),
+        &[],
+    );
+}
+
+// Butane twice, and isobutane.
+fn maps(edges1: &[u8], edges2: &[u8]) {
+    handed(edges1, edges2);
+    handed(edges1, &[1, 2, 1, 3, 1, 4]);
+    judged(edges1, edges2, &[3, 1, 4, 2]);
+    judged(edges1, edges2, &[3, 1, 4, 3]);
+    judged(edges1, edges2, &[1, 3, 4, 2]);
 }
 
 // Of 002's example.
@@ -248,6 +290,7 @@ pub(crate) fn examples() {
     same(4, &[1, 2, 2, 3, 3, 4], 4, &[1, 4, 4, 2, 2, 3]);
     same(4, &[1, 2, 2, 3, 3, 4], 3, &[1, 2, 1, 2]);
     same(4, &[1, 2, 2, 3, 3, 4], 3, &[1, 2, 2, 3]);
+    maps(&[1, 2, 2, 3, 3, 4], &[3, 1, 1, 4, 4, 2]);
     bits_of(&[1, 2, 2, 3, 3, 4, 2, 5, 1, 6, 6, 7, 1, 8]);
     bits_read();
     matrices(&[1, 2, 2, 3, 2, 4, 3, 5, 1, 6, 6, 7]);

@@ -1,5 +1,6 @@
 -- The forms of a code: N-tuple and centred. Assumes nothing.
 pub mod One
+pub mod Root
 pub mod Carried
 pub mod Labelled
 pub mod Forms

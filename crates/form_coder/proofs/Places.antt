@@ -14,7 +14,8 @@ use Rattle.laws.specs.document.Laid.{laidOver}
 use Rattle.laws.specs.Places.{place, place-at, at-place}
 use Rattle.refusal.specs.document.Table.{Writes}
 use Rattle.skeleton.specs.document.Skeleton.{IsTree}
-use Rattle.numbering.specs.Numbers.{order, Numbers, order-numbers}
+use Rattle.numbering.specs.document.Order.{order}
+use Rattle.numbering.specs.Numbers.{Numbers, order-numbers}
 use Rattle.numbering.specs.Same.{map-in}
 use Rattle.rooted_coder.specs.Ordered.{markOf}
 use Rattle.form_coder.specs.Numbered.{Numbered, Counts, ByPlace}

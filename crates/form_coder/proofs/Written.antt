@@ -16,10 +16,11 @@ use Rattle.laws.specs.Laying.{laid-front}
 use Rattle.refusal.specs.document.Table.{Writes}
 use Rattle.skeleton.specs.document.Skeleton.{IsTree, rooted}
 use Rattle.skeleton.specs.Theorems.{code-length}
-use Rattle.numbering.specs.Numbers.{order}
+use Rattle.numbering.specs.document.Order.{order}
 use Rattle.longest_path.specs.document.Path.{IsCentre}
 use Rattle.longest_path.specs.Theorems.{centre-inside}
 use Rattle.form.specs.One.{at-first, at-second}
+use Rattle.form.specs.Root.{root-first, root-second}
 use Rattle.form_coder.specs.Raised.{Raised, kept, raised}
 use Rattle.form_coder.specs.Numbered.{Numbered}
 
@@ -50,9 +51,9 @@ module _ {n : ℕ} {E : List ℕ} {v : ℕ} (t : IsTree n E) (h : 1 ≤ v) (k : 
   unfolding laidOver
   front-room = rw (l, length-append) (omega (arith, code-length n E v t h k))
 
--- ---- the centred code
+-- ---- the centred code, of two middle vertices u and v, the lower number first
 
-module _ {n : ℕ} {E : List ℕ} (t : IsTree n E) {u v : ℕ} (z : IsCentre n E u v) where
+module _ {n : ℕ} {E : List ℕ} (t : IsTree n E) {u v : ℕ} (z : IsCentre n E u v) (up : u ≤ v) where
   first-size : length (rooted n E u) ≡ n
   first-size = let ((h, k), g) = centre-inside n E t u v z in code-length n E u t h k
 
@@ -65,7 +66,7 @@ module _ {n : ℕ} {E : List ℕ} (t : IsTree n E) {u v : ℕ} (z : IsCentre n E
     first-larger g =
         record {
           result = rooted n E u;
-          right = record { root = u; inside = centre-inside n E t u v z .0; code = refl; right = at-first z g; order = e };
+          right = record { root = u; inside = centre-inside n E t u v z .0; code = refl; right = at-first z g; rule = root-first t z up g; order = e };
           count = sym first-size;
           lies = l;
         }
@@ -96,6 +97,7 @@ module _ {n : ℕ} {E : List ℕ} (t : IsTree n E) {u v : ℕ} (z : IsCentre n E
               inside = centre-inside n E t u v z .1;
               code = refl;
               right = at-second z (below≽ (rooted n E u) (rooted n E v) (rw (both, f) at g));
+              rule = root-second t z (rw (both, f) at g);
               order = ap (take n) behind ∙ take-append-le n its (drop (length its) o) m ∙ i;
             };
             count = sym second-size;

@@ -6,15 +6,17 @@ use lib.ListN.{getD}
 use Rattle.laws.specs.Places.{place}
 use Rattle.digit_code.specs.document.Code.{decode}
 use Rattle.skeleton.specs.document.Skeleton.{rooted, Renumbering}
-use Rattle.numbering.specs.Numbers as numbers
+use Rattle.numbering.specs.document.Order as numbers
 use Rattle.form.specs.document.Form.{centred}
+use Rattle.form.specs.document.Root.{CentredRoot}
 
--- c is the centred code of E, the one at root, and o has the vertex of each digit
+-- c is the centred code of E, the one at root, of equal ones that of the lower number, and o has the vertex of each digit
 pub record Numbered (N : ℕ) (E o c : List ℕ) : Type 0 where
   pub root : ℕ
   pub inside : (1 ≤ root) × (root ≤ N)
   pub code : c ≡ rooted N E root
   pub right : centred N E c
+  pub rule : CentredRoot N E root
   pub order : o ≡ numbers.order N E root
 
 -- t has at each of the first n of o its place, 1 for the first

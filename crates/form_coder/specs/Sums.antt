@@ -9,6 +9,8 @@ use mathlib.Core.List.{List}
 use Prim.Native.Nat.{ℕ, zero, suc, _+_, _-_, _*_, _^_, _≤_, _<_}
 use native.Mathlib.Decide.{ℕ-discrete}
 use native.Mathlib.Omega.{arith}
+use Rattle.limits.specs.document.Limits.{size}
+use Rattle.limits.specs.Width.{width}
 use Rattle.skeleton.specs.document.Skeleton.{degree, IsTree, IsSkeleton}
 use Rattle.longest_path.specs.document.Path.{IsCentre}
 use Rattle.longest_path.specs.Theorems.{one-centre, centre-inside}
@@ -119,6 +121,10 @@ module _ (most R N : ℕ) (E : List ℕ) (s : IsSkeleton most R N E) (j : ℕ) (
       step : {u v B : ℕ} (d : Dec (u ≡ v)) → rootedPairs N E u ≤ B → rootedPairs N E v ≤ B → ite d (rootedPairs N E u) (rootedPairs N E u + rootedPairs N E v) ≤ 2 * B
       step (yes p) g h = omega arith
       step (no p) g h = omega arith
+
+-- of a skeleton that the code takes
+pub centred-few : {N n : ℕ} {E : List ℕ} → IsSkeleton size width N E → centredPairs N E n → n ≤ size * size
+centred-few {N} {n} {E} s x = omega (arith, centred-power size width N E s 6 (omega (arith, s .few)) n x, s .few)
 
 -- ---- how many roots
 

@@ -1,5 +1,6 @@
 // The codes of an accepted edge list: rooted at a vertex, N-tuple and centred; its edges in the numbering by code. Each tells how many pairs of
 // digits were looked at to put siblings in order. Whether digits are an N-tuple code.
+use centre::Middles;
 use digit_code::Order;
 use limits::BYTES;
 use limits::ENDS;
@@ -7,8 +8,8 @@ use limits::SIZE;
 use limits::WIDTH;
 use refusal::Check;
 ghost use mathlib.Core.Path.{_≡_};
-ghost use mathlib.Core.List.{[], _∷_};
-ghost use Prim.Native.Nat.{_≤_, _<_};
+ghost use mathlib.Core.List.{List, [], _∷_};
+ghost use Prim.Native.Nat.{ℕ, _≤_, _<_};
 ghost use lib.ListN.{length, take, set};
 ghost use Rattle.laws.specs.document.Once.{Once};
 ghost use Rattle.refusal.specs.document.Table.{Writes};
@@ -18,7 +19,9 @@ ghost use Rattle.limits.specs.Width.{width};
 ghost use Rattle.digit_code.specs.document.Code.{decode};
 ghost use Rattle.digit_code.specs.Ends.{Ends};
 ghost use Rattle.skeleton.specs.document.Skeleton as tree;
+ghost use Rattle.edge_list.specs.Table.{IsTable, Held};
 ghost use Rattle.numbering.specs.document.Pairs.{rootedPairs};
+ghost use Rattle.longest_path.specs.document.Path.{IsCentre};
 ghost use Rattle.form.specs.document.Form.{nTuple, centred, row14-form, formRows};
 ghost use Rattle.form_coder.specs.document.Pairs.{centredPairs, nTuplePairs};
 ghost use Rattle.form_coder.specs.Numbered.{Numbered, Counts, ByPlace};
@@ -50,8 +53,29 @@ fn raise(best: &mut [u8], other: &[u8], n: usize) -> bool
     true
 }
 
-// The centred code, and the vertex of each digit. Of two middle vertices with equal codes the first one found is the root.
-fn numbered(n: usize, edges: &[u8], order: &mut [u8; SIZE], out: &mut [u8]) -> usize
+// The middle vertices, the lower number first.
+fn middles(rows: &[[u8; WIDTH]; SIZE], degs: &[u8; SIZE], n: usize) -> Middles
+    requires { ⌜ Held n (now rows) (now degs) ⌝ }
+    ensures { λ r. ⌜ r .first ≤ r .second ⌝ }
+    ensures { λ r. ⌜ ((E : List ℕ) → tree.IsTree n E → IsTable n E (now (rows .entry)) (now (degs .entry)) → IsCentre n E (r .first) (r .second)) ⌝ }
+{
+    let m = centre::centre(rows, degs, n);
+    let a = m.first;
+    let b = m.second;
+    if a <= b {
+        return Middles {
+            first: a,
+            second: b,
+        };
+    }
+    Middles {
+        first: b,
+        second: a,
+    }
+}
+
+// The centred code, and the vertex of each digit. Of two middle vertices with equal codes the one of the lower number is the root.
+pub fn numbered(n: usize, edges: &[u8], order: &mut [u8; SIZE], out: &mut [u8]) -> usize
     requires { ⌜ tree.IsSkeleton size width n (now edges) ⌝ }
     requires { ⌜ (length (now order) ≡ size) × (n ≤ length (now out)) ⌝ }
     ensures { λ _. ⌜ length (now (order .exit)) ≡ size ⌝ }
@@ -61,7 +85,7 @@ fn numbered(n: usize, edges: &[u8], order: &mut [u8; SIZE], out: &mut [u8]) -> u
     let mut rows = [[0u8; WIDTH]; SIZE];
     let mut degs = [0u8; SIZE];
     edge_list::fill(n, edges, &mut rows, &mut degs);
-    let m = centre::centre(&rows, &degs, n);
+    let m = middles(&rows, &degs, n);
     let u = m.first;
     let v = m.second;
     let mut looked = rooted_coder::rooted(&rows, &degs, n, u, order, out);

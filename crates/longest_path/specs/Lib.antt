@@ -7,6 +7,7 @@ pub mod Centre
 pub mod Run
 pub mod Farthest
 pub mod Carry
+pub mod Turning
 pub mod Heights
 pub mod Balance
 pub mod Theorems

@@ -10,6 +10,7 @@ use Rattle.longest_path.specs.Centre.{centre-in}
 use Rattle.longest_path.specs.Run.{some-longest, middles-same, centre-same}
 use Rattle.longest_path.specs.Ways.{Way}
 use Rattle.longest_path.specs.Farthest.{Farthest, farthest-twice, ends-longest}
+use Rattle.longest_path.specs.Turning.{turned}
 use Rattle.longest_path.specs.Carry.{carry-centre}
 
 module _ (N : ℕ) (E : List ℕ) (t : IsTree N E) where
@@ -24,6 +25,10 @@ module _ (N : ℕ) (E : List ℕ) (t : IsTree N E) where
   -- A tree has one centre, of one vertex or two.
   pub one-centre : (u v x y : ℕ) → IsCentre N E u v → IsCentre N E x y → ((x ≡ u) × (y ≡ v)) ⊎ ((x ≡ v) × (y ≡ u))
   one-centre = centre-same N E t
+
+  -- The two of a centre have no order.
+  pub centre-turned : (u v : ℕ) → IsCentre N E u v → IsCentre N E v u
+  centre-turned u v c = turned c
 
   -- The centre is among the vertices 1 to N.
   pub centre-inside : (u v : ℕ) → IsCentre N E u v → ((1 ≤ u) × (u ≤ N)) × ((1 ≤ v) × (v ≤ N))

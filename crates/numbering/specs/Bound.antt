@@ -20,7 +20,8 @@ use Rattle.skeleton.specs.Arcs.{near-arc}
 use Rattle.skeleton.specs.Walks.{turn, arc-end}
 use Rattle.skeleton.specs.Label.{Marks}
 use Rattle.skeleton.specs.Base.{base}
-use Rattle.numbering.specs.Order.{orderBy, pairsBy}
+use Rattle.numbering.specs.document.Order.{orderBy}
+use Rattle.numbering.specs.Order.{pairsBy}
 use Rattle.numbering.specs.Sorted.{flatten-length, sorted-length}
 use Rattle.numbering.specs.Numbers.{markAt, orderₗ, orderₗ-numbers, pairsₗ}
 use Rattle.numbering.specs.Pairs.{siblings-counted, pairs-counted}

@@ -9,8 +9,7 @@ use lib.ListN.{getD}
 use Rattle.laws.specs.document.Order.{dec≽, insert, sort}
 use Rattle.digit_code.specs.document.Code.{sum, codes, childCodes, decode, edgesFrom}
 use Rattle.skeleton.specs.document.Skeleton.{arcs, neighbours, degree, children, join, codeAt, rooted}
-use Rattle.numbering.specs.Order.{insertBy, sortBy, orderBy}
-use Rattle.numbering.specs.Numbers.{kidsOf, order}
+use Rattle.numbering.specs.document.Order.{insertBy, sortBy, orderBy, kidsOf, order}
 use Rattle.numbering.specs.document.Decoded.{starts, begins, parent}
 use Rattle.numbering.specs.document.Pairs.{digitPairs, siblingPairs, pairsAt, rootedPairs, log2}
 

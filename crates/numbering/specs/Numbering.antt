@@ -22,7 +22,8 @@ use Rattle.skeleton.specs.Decoding.{width, marks, marks-digits, marks-labels}
 use Rattle.skeleton.specs.Sorted.{branches-length}
 use Rattle.skeleton.specs.Degree.{roots-length}
 use Rattle.skeleton.specs.Numbered.{ToldBy, told}
-use Rattle.numbering.specs.Order.{orderBy, marksBy}
+use Rattle.numbering.specs.document.Order.{orderBy}
+use Rattle.numbering.specs.Order.{marksBy}
 use Rattle.numbering.specs.Sorted.{order-marks}
 use Rattle.numbering.specs.Turned.{Follows, arranged}
 

@@ -1,7 +1,7 @@
 -- Document 01, "Numbering by code": "The vertex of the i-th digit gets number i", of an edge list and a root: which vertex that is. Of equal
 -- siblings the one whose edge is listed first goes first.
 --
--- In order: the order of the vertices, with labels and for document 01's codes; what it is to be one (`Numbers`); two orders side by side
+-- In order: the order of the vertices (`document.Order`) with labels; what it is to be one (`Numbers`); two orders side by side
 -- (`Beside`); then the theorems, with labels, and for document 01's codes (`order-numbers`, `orders-beside`). Assumes nothing.
 use mathlib.Core.Path.{_≡_, refl, ap, sym, _∙_, subst}
 use mathlib.Core.Logic.{ite, if-pos, if-neg}
@@ -20,16 +20,9 @@ use Rattle.skeleton.specs.Label.{Marks, rootedₗ, digits, labels, Keeps}
 use Rattle.skeleton.specs.Base.{base, rooted-base, digits-base}
 use Rattle.skeleton.specs.Renumber.{rooted-within, back, after}
 use Rattle.skeleton.specs.Numbered.{ToldBy, getD-map-in}
-use Rattle.numbering.specs.Order.{orderBy, pairsBy}
+use Rattle.numbering.specs.document.Order.{orderBy, kidsOf, order}
+use Rattle.numbering.specs.Order.{pairsBy}
 use Rattle.numbering.specs.Numbering.{Reads, Orders, tree-numbering}
-
--- how many children v has where r is the root: all its neighbours, or all but one
-unfoldable pub kidsOf : List ℕ → ℕ → ℕ → ℕ
-kidsOf E r v = ite (ℕ-discrete v r) (degree E v) (degree E v - 1)
-
--- document 01's codes: the vertices of the tree E of N vertices in the order of the digits of its rooted code at r
-unfoldable pub order : ℕ → List ℕ → ℕ → List ℕ
-order N E r = orderBy (kidsOf E r) (children (arcs E)) N 0 r
 
 module _ (M : Marks) (label : ℕ → M .Label) where
   -- with labels: the mark of v where r is the root

@@ -23,11 +23,12 @@ use Rattle.skeleton.specs.Grow.{rooted-tree}
 use Rattle.skeleton.specs.Codes.{roots}
 use Rattle.skeleton.specs.Degree.{roots-length}
 use Rattle.skeleton.specs.Base.{base}
-use Rattle.numbering.specs.Order.{pairs, orderBy, marksBy, pairsBy}
+use Rattle.numbering.specs.document.Order.{orderBy, kidsOf}
+use Rattle.numbering.specs.Order.{pairs, marksBy, pairsBy}
 use Rattle.numbering.specs.Sorted.{order-marks}
 use Rattle.numbering.specs.Turned.{Follows}
 use Rattle.numbering.specs.Numbering.{Reads, Fit, root-kids, root-mark, is-followed, is-fit}
-use Rattle.numbering.specs.Numbers.{kidsOf, pairsₗ, reads-tree}
+use Rattle.numbering.specs.Numbers.{pairsₗ, reads-tree}
 use Rattle.numbering.specs.Same.{map-in}
 use Rattle.numbering.specs.document.Pairs.{digitPairs, siblingPairs, pairsAt, rootedPairs}
 

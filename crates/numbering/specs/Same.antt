@@ -13,7 +13,8 @@ use Rattle.digit_code.specs.document.Code.{sum}
 use Rattle.skeleton.specs.Forest.{Forest, none, tree, vertices, count, Rooted}
 use Rattle.skeleton.specs.Label.{Marks}
 use Rattle.skeleton.specs.Codes.{roots}
-use Rattle.numbering.specs.Order.{insertBy, sortBy, pairs, orderBy, marksBy, pairsBy}
+use Rattle.numbering.specs.document.Order.{insertBy, sortBy, orderBy}
+use Rattle.numbering.specs.Order.{pairs, marksBy, pairsBy}
 use Rattle.numbering.specs.Sorted.{sort-by-self, order-marks}
 use Rattle.numbering.specs.Turned.{Follows}
 use Rattle.numbering.specs.Numbering.{Reads, is-followed, root-kids}

@@ -14,7 +14,8 @@ use Rattle.digit_code.specs.document.Code.{sum}
 use Rattle.digit_code.specs.Compare.{looked}
 use Rattle.digit_code.specs.Counting.{sum-append}
 use Rattle.digit_code.specs.Two.{map-flatten}
-use Rattle.numbering.specs.Order.{insertBy, sortBy, place, pairs, orderBy, marksBy}
+use Rattle.numbering.specs.document.Order.{insertBy, sortBy, orderBy}
+use Rattle.numbering.specs.Order.{place, pairs, marksBy}
 
 pub flatten-length : (cs : List (List ℕ)) → length (flatten cs) ≡ sum (map length cs)
 unfolding flatten sum

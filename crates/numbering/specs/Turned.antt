@@ -11,7 +11,7 @@ use Rattle.laws.specs.Once.{once-perm}
 use Rattle.skeleton.specs.Forest.{Forest, none, tree, vertices, count, hung, Rooted}
 use Rattle.skeleton.specs.Forests.{gather, gather-vertices, gather-hung, count-vertices, distinct-once}
 use Rattle.skeleton.specs.Codes.{roots}
-use Rattle.numbering.specs.Order.{sortBy, orderBy}
+use Rattle.numbering.specs.document.Order.{sortBy, orderBy}
 use Rattle.numbering.specs.Sorted.{sort-by-self}
 
 -- ---- the trees of a forest

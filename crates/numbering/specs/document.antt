@@ -1,3 +1,4 @@
 -- What must be believed: docs/READING.md lists it in the order of document 01. Assumes nothing.
+pub mod Order
 pub mod Decoded
 pub mod Pairs

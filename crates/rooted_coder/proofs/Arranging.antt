@@ -9,7 +9,8 @@ use lib.ListN.{length, getD}
 use Rattle.digit_code.specs.document.Code.{sum}
 use Rattle.limits.specs.document.Limits.{size}
 use Rattle.digit_code.specs.Compare.{looked}
-use Rattle.numbering.specs.Order.{pairs, insertBy, sortBy, place}
+use Rattle.numbering.specs.document.Order.{insertBy, sortBy}
+use Rattle.numbering.specs.Order.{pairs, place}
 use Rattle.numbering.specs.Sorted.{sort-more, sum-sorted, sorted-length, pairs-more}
 use Rattle.rooted_coder.specs.Ordered.{Heads, Stand, Standing, met, Waits, Waiting, Settles, Arranges}
 use Rattle.rooted_coder.proofs.Standing.{length-both, length-first, First, first-of, empty, heads-move}

@@ -6,7 +6,8 @@ use native.Mathlib.Omega.{arith}
 use lib.ListN.{length}
 use Rattle.digit_code.specs.document.Code.{sum}
 use Rattle.limits.specs.document.Limits.{size}
-use Rattle.numbering.specs.Order.{pairs, sortBy, orderBy, pairsBy}
+use Rattle.numbering.specs.document.Order.{sortBy, orderBy}
+use Rattle.numbering.specs.Order.{pairs, pairsBy}
 use Rattle.numbering.specs.Sorted.{sorted-length}
 use Rattle.rooted_coder.specs.Ordered.{markOf, marked, kids, ordered, compared}
 use Rattle.rooted_coder.proofs.Standing.{length-first}

@@ -14,7 +14,8 @@ use Rattle.digit_code.specs.document.Code.{sum}
 use Rattle.digit_code.specs.Counting.{sum-append}
 use Rattle.limits.specs.document.Limits.{size}
 use Rattle.limits.specs.Width.{width}
-use Rattle.numbering.specs.Order.{pairs, sortBy, insertBy}
+use Rattle.numbering.specs.document.Order.{sortBy, insertBy}
+use Rattle.numbering.specs.Order.{pairs}
 use Rattle.rooted_coder.specs.Ordered.{marked, row, cell, kids, ordered, compared, Rows, Heads, Stand, Standing, endOf, Arranges, Several, Hangs, Covers}
 use Rattle.rooted_coder.proofs.Standing.{flatten-one, length-one, length-both, length-first, heads-join, heads-move}
 use Rattle.rooted_coder.proofs.Depth.{branches, some-ordered, ordered-is, compared-is, ordered-length, alone}

@@ -19,7 +19,8 @@ use Rattle.skeleton.specs.document.Skeleton as tree
 use Rattle.skeleton.specs.Label.{Marks, rootedₗ}
 use Rattle.edge_list.specs.Table.{deg}
 use Rattle.numbering.specs.Numbers as numbers
-use Rattle.numbering.specs.Order.{place, pairs, sortBy, orderBy, pairsBy}
+use Rattle.numbering.specs.document.Order.{sortBy, orderBy}
+use Rattle.numbering.specs.Order.{place, pairs, pairsBy}
 
 -- ---- the order by the table
 

@@ -18,6 +18,7 @@ ghost use Rattle.skeleton.specs.document.Skeleton as tree;
 ghost use Rattle.skeleton.specs.Base.{base};
 ghost use Rattle.edge_list.specs.Table.{IsTable, Held};
 ghost use Rattle.numbering.specs.Numbers as numbers;
+ghost use Rattle.numbering.specs.document.Order as ordering;
 ghost use Rattle.rooted_coder.specs.Ordered.{marked, markOf, cell, kids, ordered, compared, Rows, Stand, Standing, Spot, met, Exchanged, Waits, Waiting, Settles, endOf, Arranges, Several, Hangs, Covers, Fills, Placed};
 
 // A place in the buffer, and how many pairs were looked at to find it.
@@ -365,7 +366,7 @@ pub fn rooted(
     requires { ⌜ (1 ≤ root) × (root ≤ n) × (length (now order) ≡ size) × (n ≤ length (now out)) ⌝ }
     ensures { λ _. ⌜ length (now (order .exit)) ≡ size ⌝ }
     ensures { λ r. ⌜ ((E : List ℕ) → tree.IsTree n E → IsTable n E (now (rows .entry)) (now (degs .entry))
-        → (take n (now (order .exit)) ≡ numbers.order n E root) × (now (out .exit) ≡ laidOver (tree.rooted n E root) (now (out .entry)))
+        → (take n (now (order .exit)) ≡ ordering.order n E root) × (now (out .exit) ≡ laidOver (tree.rooted n E root) (now (out .entry)))
         × (r ≡ numbers.pairsₗ base (λ v. tt) n E root)) ⌝ }
 {
     let mut marks = [0u8; BYTES];

@@ -8,5 +8,6 @@ pub mod Rooted
 pub mod Judged
 pub mod Counting
 pub mod Verdicts
+pub mod Handing
 pub mod Made
 pub mod Numbered

@@ -2,25 +2,16 @@
 use mathlib.Core.Path.{_≡_, refl, sym, _∙_, subst}
 use mathlib.Core.Bool.{true, false}
 use mathlib.Core.List.{List}
-use Prim.Native.Nat.{ℕ, _*_, _≤_}
-use native.Mathlib.Omega.{arith}
+use Prim.Native.Nat.{ℕ}
 use lib.ListN.{take}
 use Rattle.refusal.specs.Giving.{written}
 use Rattle.refusal.specs.document.Table.{ofList, Clear, FirstRefusal, gives, refuses, kept, left, Writes}
 use Rattle.refusal.specs.Laws.{refusal-front, refusal-back, list-clear, list-refused}
-use Rattle.limits.specs.document.Limits.{size, valence}
-use Rattle.skeleton.specs.document.Skeleton.{IsSkeleton}
 use Rattle.form.specs.document.Form.{centred}
 use Rattle.form.specs.Forms.{centred-form, form-size}
-use Rattle.form_coder.specs.document.Pairs.{centredPairs}
-use Rattle.form_coder.specs.Sums.{centred-power}
 use Rattle.zurkhovel.specs.document.Same.{listRows, SameSkeleton}
 use Rattle.zurkhovel.specs.Accepted.{tree-of}
 use Rattle.zurkhovel.specs.Theorems.{both-clear}
-
--- the pairs looked at for a centred code are few
-pub few : {N n : ℕ} {E : List ℕ} → IsSkeleton size valence N E → centredPairs N E n → n ≤ size * size
-few {N} {n} {E} s x = omega (arith, centred-power size valence N E s 6 (omega (arith, s .few)) n x, s .few)
 
 module _ (N P : ℕ) (E F : List ℕ) where
   -- the first list is refused, or the second

@@ -5,13 +5,17 @@ pub mod Places
 pub mod PlacesBits
 pub mod PlacesMatrix
 pub mod PlacesText
+pub mod PlacesMaps
 pub mod Accepted
 pub mod Theorems
+pub mod Threes
+pub mod Meaning
 pub mod One
 pub mod OneMatrix
 pub mod OneText
 pub mod Rooting
 pub mod OneBits
+pub mod OneMaps
 pub mod OneReported
 pub mod Looked
 pub mod Figures

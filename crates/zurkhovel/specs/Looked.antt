@@ -5,14 +5,13 @@
 -- In order: of an accepted skeleton; the law for a report; the calls. n: the number reported with the answer o; k: at how many roots the code is
 -- looked for, one or two for the centred code (`few-middles` of the crate `form_coder`). Assumes nothing.
 use mathlib.Core.Path.{_≡_, refl}
-use mathlib.Core.Bool.{Bool}
 use mathlib.Core.List.{List}
 use Prim.Native.Nat.{ℕ, _+_, _*_, _≤_}
 use native.Mathlib.Omega.{arith}
 use lib.Ieee.{Float}
-use Rattle.refusal.specs.document.Table.{Clear, OutcomeOf, Outcome, gives, refuses, kept, Answered, Gives}
+use Rattle.refusal.specs.document.Table.{Clear, OutcomeOf, Outcome, gives, refuses, Answered, Gives}
 use Rattle.refusal.specs.Giving.{gave, gave-value}
-use Rattle.limits.specs.document.Limits.{size, valence}
+use Rattle.limits.specs.document.Limits.{valence}
 use Rattle.edge_list.specs.document.Edges.{edgeRows}
 use Rattle.numbering.specs.document.Pairs.{rootedPairs, log2}
 use Rattle.numbering.specs.Bound.{pairs-bound}
@@ -20,14 +19,16 @@ use Rattle.form.specs.document.Form.{nTuple, centred}
 use Rattle.form_coder.specs.document.Pairs.{centredPairs, nTuplePairs, centredRoots, nTupleRoots}
 use Rattle.form_coder.specs.Sums.{centred-bound, n-tuple-bound}
 use Rattle.zurkhovel.specs.document.Codes.{RootedCode, FormCode}
-use Rattle.zurkhovel.specs.document.Same.{Finding, SameSkeleton}
+use Rattle.zurkhovel.specs.document.Same.{listRows, Finding, SameSkeleton}
+use Rattle.zurkhovel.specs.document.Maps.{MapOutcome, HandOut}
 use Rattle.zurkhovel.specs.document.Bits.{Pack, Whole, InFraction}
 use Rattle.zurkhovel.specs.document.Matrix.{CamByCode, ZeroAByCode, AZeroByCode}
 use Rattle.zurkhovel.specs.document.Lines.{WriteLine}
 use Rattle.zurkhovel.specs.document.Alike.{EqualVertices}
 use Rattle.zurkhovel.specs.document.Reported.{Reports, Reporting, atRoot, OfBoth, coded, not-coded, mostPairs}
 use Rattle.zurkhovel.specs.Accepted.{skeleton-of, root-of}
-use Rattle.zurkhovel.specs.Theorems.{both-clear}
+use Rattle.zurkhovel.specs.Theorems.{verdict-lists}
+use Rattle.zurkhovel.specs.Threes.{handed-lists}
 
 -- ---- of an accepted skeleton
 
@@ -75,6 +76,17 @@ middles-value-most :
     → Reporting (Answered (edgeRows most valence N E 1) Right) (centredPairs N E) o n → centredRoots N E k → n ≤ k * mostPairs valence N
 middles-value-most {N = N} E o n k g y = reported-most (k * mostPairs valence N) n (λ a p x. accepted-centred N E (gave-value p .0) n k x y) o g
 
+-- over the middles of both lists
+both-most :
+    {K A : Type 0} {Q : OutcomeOf K A → Type 0} (N : ℕ) (E : List ℕ) (P : ℕ) (F : List ℕ) (o : OutcomeOf K A) (n j k : ℕ)
+    → ((a : A) → Q (gives a) → Clear (listRows N E) × Clear (listRows P F)) → Reporting Q (OfBoth N E P F) o n → centredRoots N E j → centredRoots P F k
+    → n ≤ j * mostPairs valence N + k * mostPairs valence P
+both-most N E P F o n j k lists g y z = reported-most (j * mostPairs valence N + k * mostPairs valence P) n (λ a p x. by (lists a p) x) o g
+  where
+    by : {n : ℕ} → Clear (listRows N E) × Clear (listRows P F) → OfBoth N E P F n → n ≤ j * mostPairs valence N + k * mostPairs valence P
+    by (c, d) (coded e u v) = omega (arith, accepted-centred N E c _ j u y, accepted-centred P F d _ k v z)
+    by c (not-coded e) = omega arith
+
 -- ---- the calls
 
 pub looked-rooted-code :
@@ -95,14 +107,12 @@ looked-centred-code N E old new = middles-most E
 pub looked-same-skeleton :
     (N : ℕ) (E : List ℕ) (P : ℕ) (F : List ℕ) (o : Finding) (n j k : ℕ) → Reporting (SameSkeleton N E P F) (OfBoth N E P F) o n
     → centredRoots N E j → centredRoots P F k → n ≤ j * mostPairs valence N + k * mostPairs valence P
-looked-same-skeleton N E P F o n j k g y z = reported-most (j * mostPairs valence N + k * mostPairs valence P) n of-both o g
-  where
-    by : {n : ℕ} → Clear (edgeRows size valence N E 1) × Clear (edgeRows size valence P F 1) → OfBoth N E P F n → n ≤ j * mostPairs valence N + k * mostPairs valence P
-    by (c, d) (coded e u v) = omega (arith, accepted-centred N E c _ j u y, accepted-centred P F d _ k v z)
-    by c (not-coded e) = omega arith
+looked-same-skeleton N E P F o n j k = both-most N E P F o n j k (λ a. verdict-lists)
 
-    of-both : (a : Bool) → SameSkeleton N E P F (gives a) → OfBoth N E P F n → n ≤ j * mostPairs valence N + k * mostPairs valence P
-    of-both a (kept c r) x = by (both-clear N P E F .0 c) x
+pub looked-renumbering :
+    (N : ℕ) (E : List ℕ) (P : ℕ) (F old new : List ℕ) (o : MapOutcome) (n j k : ℕ) → Reporting (HandOut N E P F old new) (OfBoth N E P F) o n
+    → centredRoots N E j → centredRoots P F k → n ≤ j * mostPairs valence N + k * mostPairs valence P
+looked-renumbering N E P F old new o n j k = both-most N E P F o n j k (λ a. handed-lists)
 
 pub looked-pack :
     (N : ℕ) (E : List ℕ) (r : ℕ) (old new : List ℕ) (o : Outcome ℕ) (n : ℕ) → Reporting (Pack N E r old new) (atRoot N E r) o n → n ≤ mostPairs valence N

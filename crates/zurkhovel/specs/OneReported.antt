@@ -1,12 +1,12 @@
 -- Read from its promise alone, every public call that reports how many pairs it looked at has one possible result, its answer and the number, and
 -- one possible state of its lent output. r, s: the call's own results; new, new′: the output after it. Of the answer alone this is said in `One`,
--- `OneBits`, `OneMatrix` and `OneText`, which are cited here.
+-- `OneMaps`, `OneBits`, `OneMatrix` and `OneText`, which are cited here.
 --
 -- In order: the law; what is counted is one; the calls. Assumes nothing.
 use mathlib.Core.Path.{_≡_, refl, sym, ap₂, subst, _∙_}
 use mathlib.Core.List.{List}
 use Prim.Native.Nat.{ℕ, _+_}
-use Rattle.refusal.specs.document.Table.{Clear, OutcomeOf, Outcome, gives, refuses, kept, Answered, Gives}
+use Rattle.refusal.specs.document.Table.{Clear, OutcomeOf, Outcome, gives, refuses, Answered, Gives}
 use Rattle.refusal.specs.document.Outcome.{told, numbered}
 use Rattle.refusal.specs.declared.Answer.{Answer}
 use Rattle.refusal.specs.declared.Number.{Number}
@@ -19,20 +19,25 @@ use Rattle.form.specs.document.Form.{nTuple, centred}
 use Rattle.form_coder.specs.document.Pairs.{centredPairs, nTuplePairs}
 use Rattle.form_coder.specs.Sums.{one-over-middles, one-over-widest}
 use Rattle.zurkhovel.specs.declared.codes.Verdict.{Verdict}
+use Rattle.zurkhovel.specs.declared.maps.Mapping.{Mapping}
 use Rattle.zurkhovel.specs.declared.reported.Reported.{Reported}
 use Rattle.zurkhovel.specs.declared.reported.ReportedNumber.{ReportedNumber}
 use Rattle.zurkhovel.specs.declared.reported.ReportedFraction.{ReportedFraction}
 use Rattle.zurkhovel.specs.declared.reported.ReportedVerdict.{ReportedVerdict}
+use Rattle.zurkhovel.specs.declared.reported.ReportedMapping.{ReportedMapping}
 use Rattle.zurkhovel.specs.document.Codes.{RootedCode, FormCode}
-use Rattle.zurkhovel.specs.document.Same.{said, SameSkeleton}
+use Rattle.zurkhovel.specs.document.Same.{said, listRows, SameSkeleton}
+use Rattle.zurkhovel.specs.document.Maps.{mapped, HandOut}
 use Rattle.zurkhovel.specs.document.Bits.{Pack, Whole, InFraction}
 use Rattle.zurkhovel.specs.document.Matrix.{CamByCode, ZeroAByCode, AZeroByCode}
 use Rattle.zurkhovel.specs.document.Lines.{WriteLine}
 use Rattle.zurkhovel.specs.document.Alike.{EqualVertices}
 use Rattle.zurkhovel.specs.document.Reported.{Reports, Reporting, atRoot, OfBoth, coded, not-coded}
 use Rattle.zurkhovel.specs.Accepted.{tree-of}
-use Rattle.zurkhovel.specs.Theorems.{both-clear}
+use Rattle.zurkhovel.specs.Theorems.{verdict-lists}
+use Rattle.zurkhovel.specs.Threes.{handed-lists}
 use Rattle.zurkhovel.specs.One as codes
+use Rattle.zurkhovel.specs.OneMaps as maps
 use Rattle.zurkhovel.specs.OneBits as bits
 use Rattle.zurkhovel.specs.OneMatrix as matrix
 use Rattle.zurkhovel.specs.OneText as text
@@ -86,14 +91,13 @@ one-middles {N = N} {E} a p = one-centred N E (gave p .0)
 one-middles-value : {most N : ℕ} {E : List ℕ} {A : Type 0} {Right : A → Type 0} → OneCount (Answered (edgeRows most valence N E 1) Right) (centredPairs N E)
 one-middles-value {N = N} {E} a p = one-centred N E (gave-value p .0)
 
-one-both : (N : ℕ) (E : List ℕ) (P : ℕ) (F : List ℕ) → OneCount (SameSkeleton N E P F) (OfBoth N E P F)
-one-both N E P F a (kept c r) n m x y = by x y
-  where
-    by : {n m : ℕ} → OfBoth N E P F n → OfBoth N E P F m → n ≡ m
-    by (coded e u v) (coded f w z) = let (k, l) = both-clear N P E F .0 c in ap₂ _+_ (one-centred N E k _ _ u w) (one-centred P F l _ _ v z)
-    by (coded e u v) (not-coded f) = absurd (f e)
-    by (not-coded e) (coded f w z) = absurd (e f)
-    by (not-coded e) (not-coded f) = refl
+-- of two
+one-both :
+    {N P : ℕ} {E F : List ℕ} → Clear (listRows N E) × Clear (listRows P F) → {n m : ℕ} → OfBoth N E P F n → OfBoth N E P F m → n ≡ m
+one-both {N} {P} {E} {F} (k, l) (coded e u v) (coded f w z) = ap₂ _+_ (one-centred N E k _ _ u w) (one-centred P F l _ _ v z)
+one-both c (coded e u v) (not-coded f) = absurd (f e)
+one-both c (not-coded e) (coded f w z) = absurd (e f)
+one-both c (not-coded e) (not-coded f) = refl
 
 -- ---- the calls
 
@@ -121,7 +125,15 @@ pub one-same-skeleton-reported :
     → Reporting (SameSkeleton N E P F) (OfBoth N E P F) (said (s .answer)) (s .pairs) → r ≡ s
 one-same-skeleton-reported N E P F r s x y =
     let e = codes.one-same-skeleton N E P F (r .answer) (s .answer) (x .promised) (y .promised) in
-    ap₂ (λ (a : Verdict) (n : ℕ). record { answer = a; pairs = n }) e (one-number said (one-both N E P F) (r .answer) (s .answer) (r .pairs) (s .pairs) e x y)
+    ap₂ (λ (a : Verdict) (n : ℕ). record { answer = a; pairs = n }) e (one-number said (λ a p n m. one-both (verdict-lists p)) (r .answer) (s .answer) (r .pairs) (s .pairs) e x y)
+
+pub one-renumbering-reported :
+    (N : ℕ) (E : List ℕ) (P : ℕ) (F old new new′ : List ℕ) (r s : ReportedMapping)
+    → Reporting (HandOut N E P F old new) (OfBoth N E P F) (mapped (r .answer)) (r .pairs)
+    → Reporting (HandOut N E P F old new′) (OfBoth N E P F) (mapped (s .answer)) (s .pairs) → (r ≡ s) × (new ≡ new′)
+one-renumbering-reported N E P F old new new′ r s x y =
+    let (e, l) = maps.one-renumbering N E P F old new new′ (r .answer) (s .answer) (x .promised) (y .promised) in
+    (ap₂ (λ (a : Mapping) (n : ℕ). record { answer = a; pairs = n }) e (one-number mapped (λ a p n m. one-both (handed-lists p)) (r .answer) (s .answer) (r .pairs) (s .pairs) e x y), l)
 
 pub one-pack-reported :
     (N : ℕ) (E : List ℕ) (root : ℕ) (old new new′ : List ℕ) (r s : Reported)

@@ -1,7 +1,7 @@
 -- What the promises say without codes. Assumes nothing.
 use mathlib.Core.Path.{_≡_, refl, subst}
 use mathlib.Core.Logic.{_↔_}
-use mathlib.Core.Bool.{true}
+use mathlib.Core.Bool.{Bool, true}
 use mathlib.Core.List.{List}
 use Prim.Native.Nat.{ℕ}
 use Rattle.refusal.specs.document.Table.{ofList, Clear, gives, kept}
@@ -20,6 +20,10 @@ both-clear N P E F =
       (λ c. (one .1 (clear-left (ofList 1 (listRows N E)) (ofList 2 (listRows P F)) c), two .1 (clear-right (ofList 1 (listRows N E)) (ofList 2 (listRows P F)) c))),
       (λ c. clear-both (one .0 (c .0)) (two .0 (c .1))),
     )
+
+-- where there is a verdict, both are accepted
+pub verdict-lists : {N P : ℕ} {E F : List ℕ} {b : Bool} → SameSkeleton N E P F (gives b) → Clear (listRows N E) × Clear (listRows P F)
+verdict-lists {N} {P} {E} {F} (kept c r) = both-clear N P E F .0 c
 
 -- "the same" is said of two accepted lists exactly when they have equally many vertices and the numbers of one can be changed to make it
 -- the other

@@ -1,6 +1,7 @@
 -- What must be believed: docs/READING.md lists it in the order of document 01. Assumes nothing.
 pub mod Codes
 pub mod Same
+pub mod Maps
 pub mod Bits
 pub mod Matrix
 pub mod Lines

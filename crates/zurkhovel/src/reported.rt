@@ -1,6 +1,7 @@
 // What the calls that order children answer: the answer itself, and how many pairs of digits were looked at to put siblings in order. With a
 // refusal that number is 0.
 use super::codes::Verdict;
+use super::maps::Mapping;
 use fraction::Fraction;
 use refusal::Answer;
 use refusal::Number;
@@ -26,9 +27,15 @@ pub struct ReportedFraction {
     pub pairs: usize,
 }
 
-// Of the call on two edge lists.
+// Of the verdict on two edge lists.
 pub struct ReportedVerdict {
     pub answer: Verdict,
+    pub pairs: usize,
+}
+
+// Of the call that hands out a renumbering.
+pub struct ReportedMapping {
+    pub answer: Mapping,
     pub pairs: usize,
 }
 

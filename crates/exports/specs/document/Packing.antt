@@ -1,8 +1,9 @@
 -- Document 02, wish 1: "Each returns refusal number and place packed in one whole number, 256 times the number plus the place. On success
--- the number is 0 and the place is the bytes written, or for the verdict 1 (same) or 0; a refusal of the second list adds 65,536."
+-- the number is 0 and the place is the bytes written, or for the verdict 1 (same) or 0; a refusal of the second list adds 65,536." One of the map of two
+-- lists (wish 4) adds 131,072.
 --
 -- In order: the whole number of an answer; the promise of a C function, which is that of the call behind it, for a call that writes or only
--- checks, for the verdict, and for a call that is asked for a value; how the whole number is taken apart. That this reads the answer back,
+-- checks, for the verdict, for a call on maps, and for a call that is asked for a value; how the whole number is taken apart. That this reads the answer back,
 -- and that the whole number is one, is in `Unpacked` and `One`.
 -- Assumes nothing.
 use mathlib.Core.Path.{_≡_}
@@ -14,6 +15,7 @@ use lib.Dec.{eqb}
 use Rattle.refusal.specs.document.Table.{OutcomeOf, Outcome, gives, refuses}
 use Rattle.refusal.specs.document.Small.{byteValues}
 use Rattle.zurkhovel.specs.document.Same.{Finding}
+use Rattle.zurkhovel.specs.document.Maps.{MapOutcome}
 
 -- an answer in one whole number, where `value` is that of a success and `number` that of what a refusal is called
 abbrev pub packed : {K A : Type 0} → (K → ℕ) → (A → ℕ) → OutcomeOf K A → ℕ
@@ -33,13 +35,17 @@ abbrev pub truth : Bool → ℕ
 truth true = 1
 truth false = 0
 
--- "a refusal of the second list adds 65,536"
+-- "a refusal of the second list adds 65,536", and so twice as much one of the map, which is called 3
 abbrev pub withList : ℕ × ℕ → ℕ
 withList (i, k) = byteValues * (i - 1) + k
 
 -- of the verdict
 abbrev pub PackedFinding : (Finding → Type 0) → ℕ → Type 0
 PackedFinding P r = Packed withList truth P r
+
+-- of a call on maps: "the place is the bytes written"
+abbrev pub PackedMapping : (MapOutcome → Type 0) → ℕ → Type 0
+PackedMapping P r = Packed withList (λ n. n) P r
 
 -- what a lent place holds after a call that is asked for a value: the value, or where it is refused what it held before
 abbrev pub held : {A : Type 0} → A → Outcome A → A
@@ -58,7 +64,7 @@ numberIn r = r / byteValues % byteValues
 abbrev pub placeIn : ℕ → ℕ
 placeIn r = r % byteValues
 
--- the list of the verdict that is refused
+-- the list that is refused, or 3 for the map
 abbrev pub listIn : ℕ → ℕ
 listIn r = r / (byteValues * byteValues) + 1
 
@@ -69,6 +75,10 @@ unpacked r = ite (decLt r byteValues) (gives r) (refuses (numberIn r) (placeIn r
 -- of the verdict
 abbrev pub unpackedFinding : ℕ → Finding
 unpackedFinding r = ite (decLt r byteValues) (gives (eqb r 1)) (refuses (listIn r, numberIn r) (placeIn r))
+
+-- of a call on maps
+abbrev pub unpackedMapping : ℕ → MapOutcome
+unpackedMapping r = ite (decLt r byteValues) (gives r) (refuses (listIn r, numberIn r) (placeIn r))
 
 -- of a call that is asked for a value, where the lent place then holds new
 abbrev pub unpackedValue : {A : Type 0} → ℕ → A → Outcome A

@@ -8,7 +8,7 @@ use denote.Ref.{now}
 use Rattle.laws.specs.document.Laid.{laidOver}
 use Rattle.limits.specs.document.Limits.{size}
 use Rattle.skeleton.specs.document.Skeleton.{rooted}
-use Rattle.numbering.specs.Numbers.{order}
+use Rattle.numbering.specs.document.Order.{order}
 use Rattle.edge_list.specs.Table.{Held}
 use Rattle.longest_path.specs.document.Path.{IsCentre}
 use Rattle.longest_path.specs.Theorems.{centre-inside}
@@ -27,10 +27,10 @@ differ c = c .before .before .before .before .before
 abbrev first : tie.Then1 → tie.After-rooted
 first c = c .before .before .before
 
-abbrev middle : tie.After-rooted → tie.After-centre
+abbrev middle : tie.After-rooted → tie.After-middles
 middle c = c .before .before .before .before .before
 
-abbrev filled : tie.After-centre → tie.After-fill
+abbrev filled : tie.After-middles → tie.After-fill
 filled c = c .before .before .before
 
 abbrev start : tie.After-fill → tie.Start
@@ -40,19 +40,22 @@ start c = c .before .before .before .before .before
 held : (c : tie.After-fill) → Held (start c .args .n) (c .fill .last .1 .1 .0) (c .fill .last .1 .1 .1 .0)
 held c = let s = start c in record { edges = now (s .args .edges); skeleton = s .pre .0; table = c .fill .ensures }
 
-centre : (c : tie.After-centre) → let s = start (filled c) in IsCentre (s .args .n) (now (s .args .edges)) (c .centre .result .first) (c .centre .result .second)
-centre c = let f = filled c in let s = start f in c .centre .ensures (now (s .args .edges)) (s .pre .0 .tree) (f .fill .ensures)
+centre : (c : tie.After-middles) → let s = start (filled c) in IsCentre (s .args .n) (now (s .args .edges)) (c .middles .result .first) (c .middles .result .second)
+centre c = let f = filled c in let s = start f in c .middles .ensures .1 (now (s .args .edges)) (s .pre .0 .tree) (f .fill .ensures)
 
-abbrev one : tie.After-centre → ℕ
-one c = c .centre .result .first
+upward : (c : tie.After-middles) → c .middles .result .first ≤ c .middles .result .second
+upward c = c .middles .ensures .0
 
-abbrev other : tie.After-centre → ℕ
-other c = c .centre .result .second
+abbrev one : tie.After-middles → ℕ
+one c = c .middles .result .first
 
-one-inside : (c : tie.After-centre) → (1 ≤ one c) × (one c ≤ start (filled c) .args .n)
+abbrev other : tie.After-middles → ℕ
+other c = c .middles .result .second
+
+one-inside : (c : tie.After-middles) → (1 ≤ one c) × (one c ≤ start (filled c) .args .n)
 one-inside c = centre-inside _ _ (start (filled c) .pre .0 .tree) _ _ (centre c) .0
 
-other-inside : (c : tie.After-centre) → (1 ≤ other c) × (other c ≤ start (filled c) .args .n)
+other-inside : (c : tie.After-middles) → (1 ≤ other c) × (other c ≤ start (filled c) .args .n)
 other-inside c = centre-inside _ _ (start (filled c) .pre .0 .tree) _ _ (centre c) .1
 
 -- they are two
@@ -116,7 +119,7 @@ numbered-spec =
     let s = start (filled m) .pre .0 in
     let t = s .tree in
     let (h, k) = other-inside m in
-    (search needs, (second-rises t (centre m) _ _ (coded y .0) (coded y .1) _ (front t h k _ (coded2 d .1)) _ (r .raise .ensures) (q .if2 .taken) (coded2 d .0) (omega (arith, s .few, d .rooted2 .ensures .0)) (c .copy .ensures .1), both-summed s (centre m) (coded y .2) (coded2 d .2) (two d))))
+    (search needs, (second-rises t (centre m) (upward m) _ _ (coded y .0) (coded y .1) _ (front t h k _ (coded2 d .1)) _ (r .raise .ensures) (q .if2 .taken) (coded2 d .0) (omega (arith, s .few, d .rooted2 .ensures .0)) (c .copy .ensures .1), both-summed s (centre m) (coded y .2) (coded2 d .2) (two d))))
     (λ c. search needs)
     (λ c.
     let r = c .before .before .before in
@@ -126,11 +129,11 @@ numbered-spec =
     let s = start (filled m) .pre .0 in
     let t = s .tree in
     let (h, k) = other-inside m in
-    (y .rooted .ensures .0, (first-stays t (centre m) _ _ (coded y .0) (coded y .1) _ (front t h k _ (coded2 d .1)) (r .raise .ensures) (c .if2 .left), both-summed s (centre m) (coded y .2) (coded2 d .2) (two d))))
+    (y .rooted .ensures .0, (first-stays t (centre m) (upward m) _ _ (coded y .0) (coded y .1) _ (front t h k _ (coded2 d .1)) (r .raise .ensures) (c .if2 .left), both-summed s (centre m) (coded y .2) (coded2 d .2) (two d))))
     (λ c. search needs)
     (λ c.
     let y = c .before .before .before in
     let m = middle y in
     let s = start (filled m) .pre .0 in
-    let e : one m ≡ m .centre .result .second = c .if1 .left in
-    (y .rooted .ensures .0, (one-middle (s .tree) (centre m) _ _ (coded y .0) (coded y .1) e, one-summed s (centre m) (coded y .2) e))))
+    let e : one m ≡ m .middles .result .second = c .if1 .left in
+    (y .rooted .ensures .0, (one-middle (s .tree) (centre m) (upward m) _ _ (coded y .0) (coded y .1) e, one-summed s (centre m) (coded y .2) e))))

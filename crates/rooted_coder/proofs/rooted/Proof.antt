@@ -5,7 +5,8 @@ use Prim.Native.Nat.{ℕ}
 use borrow.Author.Needs.{needs}
 use Rattle.laws.specs.document.Laid.{laidOver}
 use Rattle.skeleton.specs.Base.{base, rooted-base}
-use Rattle.numbering.specs.Numbers.{order, orderₗ}
+use Rattle.numbering.specs.document.Order.{order}
+use Rattle.numbering.specs.Numbers.{orderₗ}
 use Rattle.rooted_coder.proofs.rooted.Statement.{statement}
 use Rattle.rooted_coder.proofs.rooted.Tie as tie
 

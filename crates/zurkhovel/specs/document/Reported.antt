@@ -25,7 +25,8 @@ pub record Reporting {K A : Type 0} (P : OutcomeOf K A → Type 0) (Count : ℕ 
 abbrev pub atRoot : ℕ → List ℕ → ℕ → ℕ → Type 0
 atRoot N E r n = n ≡ rootedPairs N E r
 
--- for the verdict on N vertices with the edges E and P vertices with the edges F: both lists' sum; where the sizes differ neither is coded
+-- for the verdict on N vertices with the edges E and P vertices with the edges F, and for a renumbering of the first onto the second: both lists' sum; where the
+-- sizes differ neither is coded
 pub data OfBoth (N : ℕ) (E : List ℕ) (P : ℕ) (F : List ℕ) : ℕ → Type 0 where
   coded : {n m : ℕ} → N ≡ P → centredPairs N E n → centredPairs P F m → OfBoth N E P F (n + m)
   not-coded : (N ≡ P → ⊥) → OfBoth N E P F 0

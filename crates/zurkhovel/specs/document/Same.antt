@@ -1,13 +1,15 @@
 -- Document 01, "Same skeleton": "Two edge lists are the same when their centred codes are equal. Different sizes are simply "not the
 -- same". A refusal says which list; the first list's comes first."
 --
--- In order: the verdict's cases as an outcome; the two tables, one behind the other; the promise. That the promise allows one verdict is
--- in `One`, and what the verdict is without codes in `Theorems`. Assumes nothing.
+-- In order: the verdict's cases as an outcome; the two tables, one behind the other; the same by codes and without them; the promise. That the promise
+-- allows one verdict is in `One`, and what the verdict is without codes in `Meaning`. Assumes nothing.
+use mathlib.Core.Path.{_≡_}
 use mathlib.Core.Bool.{Bool, true, false}
 use mathlib.Core.List.{List, _++_}
 use Prim.Native.Nat.{ℕ}
 use Rattle.refusal.specs.document.Table.{RowOf, Row, ofList, OutcomeOf, gives, refuses, Answered}
 use Rattle.limits.specs.document.Limits.{size, valence}
+use Rattle.skeleton.specs.document.Skeleton.{Renumbering}
 use Rattle.edge_list.specs.document.Edges.{edgeRows}
 use Rattle.form.specs.document.Form.{centred}
 use Rattle.zurkhovel.specs.declared.codes.Verdict.{Verdict}
@@ -35,6 +37,10 @@ bothRows N E P F = ofList 1 (listRows N E) ++ ofList 2 (listRows P F)
 abbrev pub EqualCodes : ℕ → List ℕ → ℕ → List ℕ → Bool → Type 0
 EqualCodes N E P F true = (c : List ℕ) × centred N E c × centred P F c
 EqualCodes N E P F false = (c : List ℕ) → centred N E c → centred P F c → ⊥
+
+-- what that means without codes: they have equally many vertices, and a renumbering carries the first onto the second. That the verdict says this is in `Meaning`
+abbrev pub SameUnder : ℕ → List ℕ → ℕ → List ℕ → Type 0
+SameUnder N E P F = (N ≡ P) × Renumbering N E F
 
 -- N vertices with the edges E, and P vertices with the edges F
 abbrev pub SameSkeleton : ℕ → List ℕ → ℕ → List ℕ → Finding → Type 0

@@ -10,10 +10,11 @@ use Rattle.digit_code.specs.declared.Order.{Order}
 use Rattle.digit_code.specs.Compare.{same?, told-same}
 use Rattle.refusal.specs.document.Table.{gives}
 use Rattle.refusal.specs.Giving.{written-room, written-length}
+use Rattle.form_coder.specs.Sums.{centred-few}
 use Rattle.zurkhovel.specs.document.Same.{SameSkeleton}
 use Rattle.zurkhovel.specs.document.Reported.{Reporting, OfBoth, coded, not-coded}
 use Rattle.zurkhovel.specs.Accepted.{skeleton-of, tabled}
-use Rattle.zurkhovel.proofs.Verdicts.{few, verdict-sizes, verdict-same, verdict-different}
+use Rattle.zurkhovel.proofs.Verdicts.{verdict-sizes, verdict-same, verdict-different}
 use Rattle.zurkhovel.proofs.codes.judge.Statement.{statement}
 use Rattle.zurkhovel.proofs.codes.judge.Tie as tie
 
@@ -59,7 +60,7 @@ judge-spec =
     (λ c.
     let b = c .before in
     let a = first b in
-    omega (arith, few (skeleton-of (start a .pre .0)) (a .centred .ensures .1), few (skeleton-of (start a .pre .1)) (b .centred2 .ensures .1)))
+    omega (arith, centred-few (tabled (skeleton-of (start a .pre .0))) (a .centred .ensures .1), centred-few (tabled (skeleton-of (start a .pre .1))) (b .centred2 .ensures .1)))
     (λ c. written-room (first (c .before) .centred .ensures .0))
     (λ c. written-length (first (c .before .before) .centred .ensures .0))
     (λ c. written-room (c .before .before .centred2 .ensures .0))
