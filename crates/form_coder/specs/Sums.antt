@@ -123,7 +123,7 @@ module _ (most R N : ℕ) (E : List ℕ) (s : IsSkeleton most R N E) (j : ℕ) (
       step (no p) g h = omega arith
 
 -- of a skeleton that the code takes
-pub centred-few : {N n : ℕ} {E : List ℕ} → IsSkeleton size width N E → centredPairs N E n → n ≤ size * size
+pub centred-few : {N n : ℕ} {E : List ℕ} → IsSkeleton size width N E → centredPairs N E n → n ≤ 2 * (size * size)
 centred-few {N} {n} {E} s x = omega (arith, centred-power size width N E s 6 (omega (arith, s .few)) n x, s .few)
 
 -- ---- how many roots

@@ -1,6 +1,7 @@
 -- The promises of the public calls. Assumes nothing.
 pub mod Tables
 pub mod Bounds
+pub mod Listed
 pub mod Places
 pub mod PlacesBits
 pub mod PlacesMatrix
@@ -27,4 +28,5 @@ pub mod Round
 pub mod RoundBits
 pub mod RoundMatrix
 pub mod RoundText
+pub mod Editions
 pub mod document

@@ -12,6 +12,6 @@ unfraction-spec =
     (λ c. search needs)
     (λ c κs. search needs)
     (λ c. search needs)
-    (λ c κs. form-readable (c .before .before .before .fraction-code .ensures))
+    (λ c κs. form-readable (c .before .before .before .fraction .ensures))
     (λ c. search needs)
-    (λ c. form-edges _ (c .before .before .before .before .before .before .fraction-code .ensures) (c .before .before .edges-of .ensures)))
+    (λ c. form-edges _ (c .before .before .before .before .before .before .fraction .ensures) (c .before .before .edges-of .ensures)))

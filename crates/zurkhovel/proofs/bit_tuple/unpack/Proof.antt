@@ -12,6 +12,6 @@ unpack-spec =
     (λ c. search needs)
     (λ c κs. search needs)
     (λ c. search needs)
-    (λ c κs. form-readable (c .before .before .before .packed-code .ensures))
+    (λ c κs. form-readable (c .before .before .before .packed .ensures))
     (λ c. search needs)
-    (λ c. form-edges _ (c .before .before .before .before .before .before .packed-code .ensures) (c .before .before .edges-of .ensures)))
+    (λ c. form-edges _ (c .before .before .before .before .before .before .packed .ensures) (c .before .before .edges-of .ensures)))

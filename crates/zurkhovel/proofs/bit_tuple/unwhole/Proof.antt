@@ -12,6 +12,6 @@ unwhole-spec =
     (λ c. search needs)
     (λ c κs. search needs)
     (λ c. search needs)
-    (λ c κs. form-readable (c .before .before .before .number-code .ensures))
+    (λ c κs. form-readable (c .before .before .before .whole .ensures))
     (λ c. search needs)
-    (λ c. form-edges _ (c .before .before .before .before .before .before .number-code .ensures) (c .before .before .edges-of .ensures)))
+    (λ c. form-edges _ (c .before .before .before .before .before .before .whole .ensures) (c .before .before .edges-of .ensures)))

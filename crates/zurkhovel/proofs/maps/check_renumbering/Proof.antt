@@ -1,32 +1,60 @@
 -- `zurkhovel::maps::check_renumbering` keeps its promise. Assumes nothing.
+use mathlib.Core.Path.{sym, _∙_}
 use denote.Ref.{now}
 use borrow.Author.Needs.{needs}
+use Rattle.refusal.specs.document.Table.{Clear}
 use Rattle.refusal.specs.Laws.{was-clear, was-refused}
-use Rattle.zurkhovel.proofs.Handing.{judge-first, judge-second}
+use Rattle.limits.specs.document.Limits.{size}
+use Rattle.edition.specs.Laws.{an-edition, lawful-limit}
+use Rattle.zurkhovel.specs.document.InEdition.{edgeTable}
+use Rattle.zurkhovel.proofs.Verdicts.{list-refuses, list-clears}
+use Rattle.zurkhovel.proofs.Handing.{judge-none, judge-first, judge-second}
 use Rattle.zurkhovel.proofs.maps.check_renumbering.Statement.{statement}
 use Rattle.zurkhovel.proofs.maps.check_renumbering.Tie as tie
 
-abbrev start : tie.After-check → tie.Start
+abbrev start : tie.After-limit-of → tie.Start
 start c = c .before .before .before .before
+
+-- there is such an edition
+abbrev named : tie.After-check → tie.Else1
+named c = c .before
+
+-- and the first list is accepted
+first : (c : tie.After-enum-told) → let s = start (named (c .before .before) .before) .args in Clear (edgeTable (s .edition) size (s .n1) (now (s .edges1)) 1)
+first c =
+    let d = c .before .before in
+    let s = start (named d .before) .args in
+    list-clears (s .edition) (named d .before .limit-of .ensures) (s .n1) (now (s .edges1)) (named d .if1 .left) (was-clear (d .check .ensures) (c .enum-told .given .1))
 
 pub check-renumbering-spec : {M : Type 1} → statement M
 check-renumbering-spec =
     tie.close
     (tie.spec
     (λ c κs. search needs)
+    (λ c.
+    let s = start (c .before) in
+    judge-none (s .args .n1) (s .args .n2) (now (s .args .edges1)) (now (s .args .edges2)) (now (s .args .map)) (sym (c .before .limit-of .ensures) ∙ c .if1 .taken))
+    (λ c κs. lawful-limit _ (c .before .limit-of .ensures) (c .if1 .left) .1)
     (λ c. search needs)
     (λ c.
     let d = c .before .before .before in
-    let s = start d in
-    judge-first _ (s .args .n2) (now (s .args .edges1)) (now (s .args .edges2)) (now (s .args .map)) (was-refused (d .check .ensures) (c .before .k .given .1)))
+    let n = named d in
+    let s = start (n .before) in
+    judge-first _ (s .args .n2) (now (s .args .edges1)) (now (s .args .edges2)) (now (s .args .map)) (an-edition _ (n .before .limit-of .ensures) (n .if1 .left))
+    (list-refuses _ (n .before .limit-of .ensures) (s .args .n1) (now (s .args .edges1)) (was-refused (d .check .ensures) (c .before .k .given .1))))
     (λ passed. search needs)
-    (λ c κs. search needs)
+    (λ c κs. let n = named (c .before .before) in lawful-limit _ (n .before .limit-of .ensures) (n .if1 .left) .1)
     (λ c. search needs)
     (λ c.
-    let e = c .before .before .before in
-    let d = e .before .before .before in
-    let s = start d in
-    judge-second _ _ (now (s .args .edges1)) (now (s .args .edges2)) (now (s .args .map)) (was-clear (d .check .ensures) (e .before .enum-told .given .1)) (was-refused (e .check2 .ensures) (c .before .k2 .given .1)))
+    let f = c .before .before .before in
+    let d = f .before in
+    let n = named (d .before .before) in
+    let s = start (n .before) in
+    judge-second _ _ (now (s .args .edges1)) (now (s .args .edges2)) (now (s .args .map)) (first d) (list-refuses _ (n .before .limit-of .ensures) (s .args .n2) (now (s .args .edges2)) (was-refused (f .check2 .ensures) (c .before .k2 .given .1))))
     (λ c. search needs)
-    (λ c κs. let d = c .before .before .before in (was-clear (d .before .before .check .ensures) (d .enum-told .given .1), was-clear (c .before .before .check2 .ensures) (c .enum-told2 .given .1)))
+    (λ c κs.
+    let e = c .before .before .before in
+    let n = named (e .before .before) in
+    let s = start (n .before) .args in
+    (first e, list-clears _ (n .before .limit-of .ensures) (s .n2) (now (s .edges2)) (n .if1 .left) (was-clear (c .before .before .check2 .ensures) (c .enum-told2 .given .1))))
     (λ c. c .judge .ensures))
