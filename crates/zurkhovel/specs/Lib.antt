@@ -10,6 +10,8 @@ pub mod PlacesMaps
 pub mod Accepted
 pub mod Theorems
 pub mod Threes
+pub mod Handing
+pub mod Means
 pub mod Meaning
 pub mod One
 pub mod OneMatrix
@@ -20,7 +22,6 @@ pub mod OneMaps
 pub mod OneReported
 pub mod Looked
 pub mod Figures
-pub mod Seen
 pub mod Demanded
 pub mod DigitsOnly
 pub mod Examples
