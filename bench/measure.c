@@ -1,10 +1,11 @@
-/* measure KIND check - N       both sides on the same inputs, whole and damaged: every answer and byte of output alike
- * measure KIND CALL WHO N      one call on TREES trees of N vertices; WHO is proved, c, or none (all but the call)
- * measure KIND graph6 - N      the same trees in graph6, one to a line
- * measure KIND pairs - N       how many pairs of digits are looked at on these trees
+/* measure EDITION KIND check - N     both sides on the same inputs, whole and damaged, in each edition and in none: every answer and byte of output alike
+ * measure EDITION KIND CALL WHO N    one call on TREES trees of N vertices; WHO is proved, c, or none (all but the call)
+ * measure EDITION KIND graph6 - N    the same trees in graph6, one to a line
+ * measure EDITION KIND pairs - N     how many pairs of digits are looked at on these trees
  *
- * KIND is random, where each new vertex hangs on a random earlier one with fewer than four neighbours; path, where it hangs on the last; star, four paths from one vertex; or
- * balanced, where each vertex gets as many neighbours as it may have before the next one does. Then vertices get random numbers, edges a random order and a random direction. */
+ * A vertex may have as many neighbours as the edition allows, four or nine. KIND is random, where each new vertex hangs on a random earlier one with fewer; crowded, where it
+ * hangs on a random one with fewer of the first 1 + N / 7 (in edition 1 1 + N / 2), which get nearly full; path, where it hangs on the last; star, as many paths from one vertex as it may have; or balanced,
+ * where each vertex gets as many neighbours as it may have before the next one does. Then vertices get random numbers, edges a random order and a random direction. */
 #include "careful.h"
 #include <stdio.h>
 #include <stdlib.h>
@@ -40,20 +41,23 @@ static unsigned below(unsigned k) {
     return (unsigned)((z ^ (z >> 31)) % k);
 }
 
-static enum { RANDOM, PATH, STAR, BALANCED } kind;
+static size_t edition;
+static unsigned limit; /* how many neighbours a vertex may have in it */
+static enum { RANDOM, CROWDED, PATH, STAR, BALANCED, KINDS } kind;
+static const char *const kinds[KINDS] = {"random", "crowded", "path", "star", "balanced"};
 
 /* the vertex that v hangs on, where the shape leaves no choice */
 static unsigned hangs_on(unsigned v) {
-    return kind == PATH ? v - 1 : kind == STAR ? (v <= 5 ? 1 : v - 4) : v <= 5 ? 1 : (v - 6) / 3 + 2;
+    return kind == PATH ? v - 1 : v <= limit + 1 ? 1 : kind == STAR ? v - limit : (v - limit - 2) / (limit - 1) + 2;
 }
 
 static void grow(unsigned n, uint8_t *edges) {
     unsigned degree[SIZE + 1] = {0};
     for (unsigned v = 2; v <= n; v++) {
-        unsigned u;
+        unsigned u, few = n / (limit - 2) + 1, first = kind == CROWDED && v - 1 > few ? few : v - 1;
         do
-            u = kind == RANDOM ? 1 + below(v - 1) : hangs_on(v);
-        while (degree[u] == VALENCE);
+            u = kind == RANDOM || kind == CROWDED ? 1 + below(first) : hangs_on(v);
+        while (degree[u] == limit);
         degree[u]++;
         degree[v]++;
         edges[2 * v - 4] = (uint8_t)u;
@@ -95,8 +99,8 @@ static void make(struct input *x, unsigned n, int same) {
     size_t pairs;
     for (unsigned v = 0; v < n; v++)
         x->map[v] = (uint8_t)(v + 1);
-    c_renumbering(n, x->edges, 2 * (n - 1), n, x->other, 2 * (n - 1), x->map, ZK_MAP, &pairs);
-    uint32_t answer = c_write_line(n, x->edges, 2 * (n - 1), x->line, ZK_LINE, &pairs);
+    c_renumbering(edition, n, x->edges, 2 * (n - 1), n, x->other, 2 * (n - 1), x->map, ZK_MAP, &pairs);
+    uint32_t answer = c_write_line(edition, n, x->edges, 2 * (n - 1), x->line, ZK_LINE, &pairs);
     if (zk_refused(answer))
         exit(2);
     x->line_len = zk_place(answer);
@@ -108,65 +112,65 @@ enum side { NONE, PROVED, PLAIN };
 
 static void read_line(enum side s, const struct input *x, struct result *r) {
     if (s == PROVED)
-        r->answer = zk_read_line(x->line, x->line_len, r->out, ZK_DIGITS);
+        r->answer = zk_read_line_edition(edition, x->line, x->line_len, r->out, ZK_DIGITS);
     else if (s == PLAIN)
-        r->answer = c_read_line(x->line, x->line_len, r->out, ZK_DIGITS);
+        r->answer = c_read_line(edition, x->line, x->line_len, r->out, ZK_DIGITS);
 }
 
 static void write_line(enum side s, const struct input *x, struct result *r) {
     if (s == PROVED)
-        r->answer = zk_write_line_pairs(x->n, x->edges, 2 * (x->n - 1), r->out, ZK_LINE, &r->pairs);
+        r->answer = zk_write_line_pairs(edition, x->n, x->edges, 2 * (x->n - 1), r->out, ZK_LINE, &r->pairs);
     else if (s == PLAIN)
-        r->answer = c_write_line(x->n, x->edges, 2 * (x->n - 1), r->out, ZK_LINE, &r->pairs);
+        r->answer = c_write_line(edition, x->n, x->edges, 2 * (x->n - 1), r->out, ZK_LINE, &r->pairs);
 }
 
 static void centred(enum side s, const struct input *x, struct result *r) {
     if (s == PROVED)
-        r->answer = zk_centred_code_pairs(x->n, x->edges, 2 * (x->n - 1), r->out, ZK_DIGITS, &r->pairs);
+        r->answer = zk_centred_code_pairs(edition, x->n, x->edges, 2 * (x->n - 1), r->out, ZK_DIGITS, &r->pairs);
     else if (s == PLAIN)
-        r->answer = c_centred_code(x->n, x->edges, 2 * (x->n - 1), r->out, ZK_DIGITS, &r->pairs);
+        r->answer = c_centred_code(edition, x->n, x->edges, 2 * (x->n - 1), r->out, ZK_DIGITS, &r->pairs);
 }
 
 static void n_tuple(enum side s, const struct input *x, struct result *r) {
     if (s == PROVED)
-        r->answer = zk_n_tuple_code_pairs(x->n, x->edges, 2 * (x->n - 1), r->out, ZK_DIGITS, &r->pairs);
+        r->answer = zk_n_tuple_code_pairs(edition, x->n, x->edges, 2 * (x->n - 1), r->out, ZK_DIGITS, &r->pairs);
     else if (s == PLAIN)
-        r->answer = c_n_tuple_code(x->n, x->edges, 2 * (x->n - 1), r->out, ZK_DIGITS, &r->pairs);
+        r->answer = c_n_tuple_code(edition, x->n, x->edges, 2 * (x->n - 1), r->out, ZK_DIGITS, &r->pairs);
 }
 
 static void verdict(enum side s, const struct input *x, struct result *r) {
     if (s == PROVED)
-        r->answer = zk_same_skeleton_pairs(x->n, x->edges, 2 * (x->n - 1), x->n, x->other, 2 * (x->n - 1), &r->pairs);
+        r->answer = zk_same_skeleton_pairs(edition, x->n, x->edges, 2 * (x->n - 1), x->n, x->other, 2 * (x->n - 1), &r->pairs);
     else if (s == PLAIN)
-        r->answer = c_same_skeleton(x->n, x->edges, 2 * (x->n - 1), x->n, x->other, 2 * (x->n - 1), &r->pairs);
+        r->answer = c_same_skeleton(edition, x->n, x->edges, 2 * (x->n - 1), x->n, x->other, 2 * (x->n - 1), &r->pairs);
 }
 
 static void packed(enum side s, const struct input *x, struct result *r) {
     if (s == PROVED)
-        r->answer = zk_pack_pairs(x->n, x->edges, 2 * (x->n - 1), 1, r->out, ZK_PACKED, &r->pairs);
+        r->answer = zk_pack_pairs(edition, x->n, x->edges, 2 * (x->n - 1), 1, r->out, ZK_PACKED, &r->pairs);
     else if (s == PLAIN)
-        r->answer = c_pack(x->n, x->edges, 2 * (x->n - 1), 1, r->out, ZK_PACKED, &r->pairs);
+        r->answer = c_pack(edition, x->n, x->edges, 2 * (x->n - 1), 1, r->out, ZK_PACKED, &r->pairs);
 }
 
 static void equal_vertices(enum side s, const struct input *x, struct result *r) {
     if (s == PROVED)
-        r->answer = zk_equal_vertices_pairs(x->n, x->edges, 2 * (x->n - 1), r->out, ZK_DIGITS, &r->pairs);
+        r->answer = zk_equal_vertices_pairs(edition, x->n, x->edges, 2 * (x->n - 1), r->out, ZK_DIGITS, &r->pairs);
     else if (s == PLAIN)
-        r->answer = c_equal_vertices(x->n, x->edges, 2 * (x->n - 1), r->out, ZK_DIGITS, &r->pairs);
+        r->answer = c_equal_vertices(edition, x->n, x->edges, 2 * (x->n - 1), r->out, ZK_DIGITS, &r->pairs);
 }
 
 static void renumbering(enum side s, const struct input *x, struct result *r) {
     if (s == PROVED)
-        r->answer = zk_renumbering_pairs(x->n, x->edges, 2 * (x->n - 1), x->n, x->other, 2 * (x->n - 1), r->out, ZK_MAP, &r->pairs);
+        r->answer = zk_renumbering_pairs(edition, x->n, x->edges, 2 * (x->n - 1), x->n, x->other, 2 * (x->n - 1), r->out, ZK_MAP, &r->pairs);
     else if (s == PLAIN)
-        r->answer = c_renumbering(x->n, x->edges, 2 * (x->n - 1), x->n, x->other, 2 * (x->n - 1), r->out, ZK_MAP, &r->pairs);
+        r->answer = c_renumbering(edition, x->n, x->edges, 2 * (x->n - 1), x->n, x->other, 2 * (x->n - 1), r->out, ZK_MAP, &r->pairs);
 }
 
 static void judged(enum side s, const struct input *x, struct result *r) {
     if (s == PROVED)
-        r->answer = zk_check_renumbering(x->n, x->edges, 2 * (x->n - 1), x->n, x->other, 2 * (x->n - 1), x->map, x->n);
+        r->answer = zk_check_renumbering(edition, x->n, x->edges, 2 * (x->n - 1), x->n, x->other, 2 * (x->n - 1), x->map, x->n);
     else if (s == PLAIN)
-        r->answer = c_check_renumbering(x->n, x->edges, 2 * (x->n - 1), x->n, x->other, 2 * (x->n - 1), x->map, x->n);
+        r->answer = c_check_renumbering(edition, x->n, x->edges, 2 * (x->n - 1), x->n, x->other, 2 * (x->n - 1), x->map, x->n);
 }
 
 static const struct call {
@@ -192,20 +196,31 @@ static void compare(const struct input *x) {
     }
 }
 
+/* The same in the other editions: both sides refuse much of it. */
+static void compare_elsewhere(const struct input *x) {
+    const size_t others[] = {0, 1, 2, 3, SIZE_MAX}, named = edition;
+    for (unsigned i = 0; i < sizeof others / sizeof *others; i++) {
+        edition = others[i];
+        compare(x);
+    }
+    edition = named;
+}
+
 static void check(void) {
     for (int i = 0; i < TREES; i++) {
         compare(&inputs[i]);
+        compare_elsewhere(&inputs[i]);
         for (int j = 0; j < 20; j++) {
             struct input x = inputs[i];
             x.edges[below(2 * (x.n - 1))] = (uint8_t)below(x.n + 2);
             x.map[below(x.n)] = (uint8_t)below(x.n + 2);
-            x.line[below((unsigned)x.line_len)] = (uint8_t)(j % 5 ? '0' + below(5) : below(256));
+            x.line[below((unsigned)x.line_len)] = (uint8_t)(j % 5 ? '0' + below(limit + 1) : below(256));
             compare(&x);
         }
     }
     if (refused == 0)
         exit(1);
-    printf("%d trees of %u vertices, whole and with 20 damages each: both sides answer alike, %u refusals among them\n", TREES, inputs[0].n, refused);
+    printf("edition %zu, %d %s trees of %u vertices, whole and with 20 damages each: both sides answer alike, %u refusals among them\n", edition, TREES, kinds[kind], inputs[0].n, refused);
 }
 
 static void measure(const char *name, const char *who) {
@@ -257,9 +272,9 @@ static void pairs(void) {
         const struct input *x = &inputs[i];
         uint8_t out[ZK_DIGITS];
         size_t looked[3];
-        zk_rooted_code_pairs(n, x->edges, 2 * (n - 1), 1, out, ZK_DIGITS, &looked[0]);
-        zk_centred_code_pairs(n, x->edges, 2 * (n - 1), out, ZK_DIGITS, &looked[1]);
-        zk_n_tuple_code_pairs(n, x->edges, 2 * (n - 1), out, ZK_DIGITS, &looked[2]);
+        zk_rooted_code_pairs(edition, n, x->edges, 2 * (n - 1), 1, out, ZK_DIGITS, &looked[0]);
+        zk_centred_code_pairs(edition, n, x->edges, 2 * (n - 1), out, ZK_DIGITS, &looked[1]);
+        zk_n_tuple_code_pairs(edition, n, x->edges, 2 * (n - 1), out, ZK_DIGITS, &looked[2]);
         for (int k = 0; k < 3; k++) {
             sum[k] += looked[k];
             most[k] = looked[k] > most[k] ? looked[k] : most[k];
@@ -268,29 +283,29 @@ static void pairs(void) {
     printf("%3u", n);
     for (int k = 0; k < 3; k++)
         printf(" %8.1f %6zu", (double)sum[k] / TREES, most[k]);
-    printf(" %6u\n", 3 * n * log2);
+    printf(" %6u\n", (limit - 1) * n * log2);
 }
 
 int main(int argc, char **argv) {
-    if (argc != 5)
+    if (argc != 6)
         return 2;
-    const char *const kinds[] = {"random", "path", "star", "balanced"};
-    for (unsigned k = 0; k < 4; k++)
-        if (strcmp(argv[1], kinds[k]) == 0)
-            kind = k;
-    unsigned n = (unsigned)atoi(argv[4]);
-    if (n < 2 || n > SIZE)
+    edition = strtoul(argv[1], NULL, 10);
+    limit = limit_of(edition);
+    while (kind < KINDS && strcmp(argv[2], kinds[kind]) != 0)
+        kind++;
+    unsigned n = (unsigned)atoi(argv[5]);
+    if (limit == 0 || kind == KINDS || n < 2 || n > SIZE)
         return 2;
     for (int i = 0; i < TREES; i++)
         make(&inputs[i], n, i % 2 == 0);
-    if (strcmp(argv[2], "check") == 0)
+    if (strcmp(argv[3], "check") == 0)
         check();
-    else if (strcmp(argv[2], "pairs") == 0)
+    else if (strcmp(argv[3], "pairs") == 0)
         pairs();
-    else if (strcmp(argv[2], "graph6") == 0)
+    else if (strcmp(argv[3], "graph6") == 0)
         for (int i = 0; i < TREES; i++)
             graph6(&inputs[i]);
     else
-        measure(argv[2], argv[3]);
+        measure(argv[3], argv[4]);
     return 0;
 }

@@ -32,13 +32,13 @@ static int other_larger(const uint8_t *c, size_t n, size_t x, size_t e) {
 }
 
 /* Rows 10 to 14 of n digits, in one pass from the last: 0 for a centred code, 14 for a right code that is not one, 10 for any other. */
-static uint32_t judge(const uint8_t *c, size_t n) {
+static uint32_t judge(unsigned limit, const uint8_t *c, size_t n) {
     uint8_t start[SIZE + 1], height[SIZE + 1];
     size_t top = SIZE; /* a stack that grows down: the codes behind the digit, nearest first */
     start[SIZE] = (uint8_t)n;
     for (size_t i = n; i-- > 0;) {
         unsigned k = c[i], h = 0;
-        if (k > (i ? VALENCE - 1u : VALENCE) || k > SIZE - top)
+        if (k > (i ? limit - 1 : limit) || k > SIZE - top)
             return 10;
         for (unsigned j = 0; j < k; j++) {
             if (height[top + j] > h)
@@ -76,11 +76,11 @@ static uint32_t judge(const uint8_t *c, size_t n) {
 }
 
 /* The number and the place of digits that are no right code. */
-static uint32_t why(const uint8_t *c, size_t n, uint64_t *place) {
+static uint32_t why(unsigned limit, const uint8_t *c, size_t n, uint64_t *place) {
     uint8_t end[SIZE + 1];
     size_t open = 1, larger = n;
     for (size_t i = 0; i < n; i++)
-        if (c[i] > (i ? VALENCE - 1 : VALENCE)) {
+        if (c[i] > (i ? limit - 1 : limit)) {
             *place = i + 1;
             return 10;
         }
@@ -112,11 +112,14 @@ static uint32_t why(const uint8_t *c, size_t n, uint64_t *place) {
     return 13;
 }
 
-static uint32_t read_line(const uint8_t *t, size_t len, uint8_t *out, size_t out_len, uint64_t *place) {
-    const uint8_t *feed = memchr(t, 10, len);
+static uint32_t read_line(size_t edition, const uint8_t *t, size_t len, uint8_t *out, size_t out_len, uint64_t *place) {
+    unsigned limit = limit_of(edition);
     uint8_t c[SIZE];
     size_t at = 1, n, end;
     *place = 0;
+    if (limit == 0)
+        return 22;
+    const uint8_t *feed = memchr(t, 10, len);
     if (!feed)
         return 1;
     end = (size_t)(feed - t);
@@ -142,9 +145,9 @@ static uint32_t read_line(const uint8_t *t, size_t len, uint8_t *out, size_t out
         return 3;
     if (end - at - 1 != n)
         return 5;
-    uint32_t refused = judge(c, n);
+    uint32_t refused = judge(limit, c, n);
     if (refused)
-        return refused == 14 ? 14 : why(c, n, place);
+        return refused == 14 ? 14 : why(limit, c, n, place);
     *place = n;
     if (out_len < n)
         return 15;
@@ -152,10 +155,10 @@ static uint32_t read_line(const uint8_t *t, size_t len, uint8_t *out, size_t out
     return 0;
 }
 
-static uint32_t write_line(size_t n, const uint8_t *edges, size_t len, uint8_t *out, size_t out_len, size_t *pairs, uint64_t *place) {
+static uint32_t write_line(size_t edition, size_t n, const uint8_t *edges, size_t len, uint8_t *out, size_t out_len, size_t *pairs, uint64_t *place) {
     struct tree t;
     uint8_t code[SIZE];
-    uint32_t refused = tree_read(&t, n, edges, len, 1, place);
+    uint32_t refused = tree_read(edition, &t, n, edges, len, 1, place);
     *pairs = 0;
     if (refused)
         return refused;
@@ -173,14 +176,14 @@ static uint32_t write_line(size_t n, const uint8_t *edges, size_t len, uint8_t *
     return 0;
 }
 
-uint32_t c_read_line(const uint8_t *text, size_t len, uint8_t *out, size_t out_len) {
+uint32_t c_read_line(size_t edition, const uint8_t *text, size_t len, uint8_t *out, size_t out_len) {
     uint64_t place;
-    uint32_t number = read_line(text, len, out, out_len, &place);
+    uint32_t number = read_line(edition, text, len, out, out_len, &place);
     return answered(number, place);
 }
 
-uint32_t c_write_line(size_t n, const uint8_t *edges, size_t len, uint8_t *out, size_t out_len, size_t *pairs) {
+uint32_t c_write_line(size_t edition, size_t n, const uint8_t *edges, size_t len, uint8_t *out, size_t out_len, size_t *pairs) {
     uint64_t place;
-    uint32_t number = write_line(n, edges, len, out, out_len, pairs, &place);
+    uint32_t number = write_line(edition, n, edges, len, out, out_len, pairs, &place);
     return answered(number, place);
 }

@@ -10,10 +10,13 @@ static unsigned head(uint8_t *up, unsigned v) {
     return v;
 }
 
-uint32_t tree_read(struct tree *t, uint64_t n, const uint8_t *edges, size_t len, uint64_t root, uint64_t *place) {
+uint32_t tree_read(size_t edition, struct tree *t, uint64_t n, const uint8_t *edges, size_t len, uint64_t root, uint64_t *place) {
     uint8_t up[SIZE + 1];
     size_t joined = 0, full = 0;
+    unsigned limit = limit_of(edition);
     *place = 0;
+    if (limit == 0)
+        return 22;
     if (n == 0 || n > SIZE)
         return 3;
     if (len != 2 * (n - 1))
@@ -42,7 +45,7 @@ uint32_t tree_read(struct tree *t, uint64_t n, const uint8_t *edges, size_t len,
                 joined = p;
         } else
             up[y] = (uint8_t)x;
-        if (t->degree[a] == VALENCE || t->degree[b] == VALENCE) {
+        if (t->degree[a] == limit || t->degree[b] == limit) {
             if (!full)
                 full = p;
         } else {
@@ -69,7 +72,7 @@ static inline int smaller(const uint8_t *mark, const uint8_t *x, size_t m, const
 /* Writes what hangs at v to `at`, in the order of its code, and returns where it ends. The children's parts stand one behind the other, largest first: each new one
  * is compared with all of them, and moved before the first that is smaller. Of the marks it knows only the table. */
 static uint8_t *subtree(const struct tree *t, const uint8_t *mark, unsigned v, unsigned parent, uint8_t *at, unsigned *looked) {
-    uint8_t *part[VALENCE + 1];
+    uint8_t *part[WIDTH + 1];
     unsigned k = 0, pairs = 0;
     *at++ = (uint8_t)v;
     part[0] = at;
@@ -181,26 +184,26 @@ unsigned code_n_tuple(const struct tree *t, uint8_t *out) {
 }
 
 /* An edge list and a lent output of `need` bytes: every row that can refuse. */
-static uint32_t begin(struct tree *t, uint64_t n, const uint8_t *edges, size_t len, uint64_t root, size_t need, size_t out_len, uint64_t *place) {
-    uint32_t refused = tree_read(t, n, edges, len, root, place);
+static uint32_t begin(size_t edition, struct tree *t, uint64_t n, const uint8_t *edges, size_t len, uint64_t root, size_t need, size_t out_len, uint64_t *place) {
+    uint32_t refused = tree_read(edition, t, n, edges, len, root, place);
     if (refused)
         return refused;
     *place = need;
     return out_len < need ? 15 : 0;
 }
 
-uint32_t c_centred_code(size_t n, const uint8_t *edges, size_t len, uint8_t *out, size_t out_len, size_t *pairs) {
+uint32_t c_centred_code(size_t edition, size_t n, const uint8_t *edges, size_t len, uint8_t *out, size_t out_len, size_t *pairs) {
     struct tree t;
     uint64_t place;
-    uint32_t refused = begin(&t, n, edges, len, 1, n, out_len, &place);
+    uint32_t refused = begin(edition, &t, n, edges, len, 1, n, out_len, &place);
     *pairs = refused ? 0 : code_centred(&t, out);
     return answered(refused, place);
 }
 
-uint32_t c_n_tuple_code(size_t n, const uint8_t *edges, size_t len, uint8_t *out, size_t out_len, size_t *pairs) {
+uint32_t c_n_tuple_code(size_t edition, size_t n, const uint8_t *edges, size_t len, uint8_t *out, size_t out_len, size_t *pairs) {
     struct tree t;
     uint64_t place;
-    uint32_t refused = begin(&t, n, edges, len, 1, n, out_len, &place);
+    uint32_t refused = begin(edition, &t, n, edges, len, 1, n, out_len, &place);
     *pairs = refused ? 0 : code_n_tuple(&t, out);
     return answered(refused, place);
 }
@@ -239,11 +242,11 @@ static void classes(const uint8_t *code, unsigned n, uint8_t *out) {
     }
 }
 
-uint32_t c_equal_vertices(size_t n, const uint8_t *edges, size_t len, uint8_t *out, size_t out_len, size_t *pairs) {
+uint32_t c_equal_vertices(size_t edition, size_t n, const uint8_t *edges, size_t len, uint8_t *out, size_t out_len, size_t *pairs) {
     struct tree t;
     uint8_t code[SIZE];
     uint64_t place;
-    uint32_t refused = begin(&t, n, edges, len, 1, n, out_len, &place);
+    uint32_t refused = begin(edition, &t, n, edges, len, 1, n, out_len, &place);
     *pairs = 0;
     if (!refused) {
         *pairs = code_centred(&t, code);
@@ -252,15 +255,15 @@ uint32_t c_equal_vertices(size_t n, const uint8_t *edges, size_t len, uint8_t *o
     return answered(refused, place);
 }
 
-uint32_t c_same_skeleton(size_t n1, const uint8_t *e1, size_t l1, size_t n2, const uint8_t *e2, size_t l2, size_t *pairs) {
+uint32_t c_same_skeleton(size_t edition, size_t n1, const uint8_t *e1, size_t l1, size_t n2, const uint8_t *e2, size_t l2, size_t *pairs) {
     struct tree a, b;
     uint8_t x[SIZE], y[SIZE];
     uint64_t place;
     *pairs = 0;
-    uint32_t refused = tree_read(&a, n1, e1, l1, 1, &place);
+    uint32_t refused = tree_read(edition, &a, n1, e1, l1, 1, &place);
     if (refused)
         return answered(refused, place);
-    refused = tree_read(&b, n2, e2, l2, 1, &place);
+    refused = tree_read(edition, &b, n2, e2, l2, 1, &place);
     if (refused)
         return 65536 + answered(refused, place);
     if (n1 != n2)
@@ -291,15 +294,15 @@ static unsigned number_centred(const struct tree *t, uint8_t *order, uint8_t *ou
     return looked;
 }
 
-uint32_t c_renumbering(size_t n1, const uint8_t *e1, size_t l1, size_t n2, const uint8_t *e2, size_t l2, uint8_t *out, size_t out_len, size_t *pairs) {
+uint32_t c_renumbering(size_t edition, size_t n1, const uint8_t *e1, size_t l1, size_t n2, const uint8_t *e2, size_t l2, uint8_t *out, size_t out_len, size_t *pairs) {
     struct tree a, b;
     uint8_t x[SIZE], y[SIZE], from[SIZE], to[SIZE];
     uint64_t place;
     *pairs = 0;
-    uint32_t refused = tree_read(&a, n1, e1, l1, 1, &place);
+    uint32_t refused = tree_read(edition, &a, n1, e1, l1, 1, &place);
     if (refused)
         return answered(refused, place);
-    refused = tree_read(&b, n2, e2, l2, 1, &place);
+    refused = tree_read(edition, &b, n2, e2, l2, 1, &place);
     if (refused)
         return 65536 + answered(refused, place);
     if (n1 != n2)
@@ -317,13 +320,13 @@ uint32_t c_renumbering(size_t n1, const uint8_t *e1, size_t l1, size_t n2, const
     return (uint32_t)n1;
 }
 
-uint32_t c_check_renumbering(size_t n1, const uint8_t *e1, size_t l1, size_t n2, const uint8_t *e2, size_t l2, const uint8_t *map, size_t len) {
+uint32_t c_check_renumbering(size_t edition, size_t n1, const uint8_t *e1, size_t l1, size_t n2, const uint8_t *e2, size_t l2, const uint8_t *map, size_t len) {
     struct tree a, b;
     uint64_t place;
-    uint32_t refused = tree_read(&a, n1, e1, l1, 1, &place);
+    uint32_t refused = tree_read(edition, &a, n1, e1, l1, 1, &place);
     if (refused)
         return answered(refused, place);
-    refused = tree_read(&b, n2, e2, l2, 1, &place);
+    refused = tree_read(edition, &b, n2, e2, l2, 1, &place);
     if (refused)
         return 65536 + answered(refused, place);
     if (n1 != n2 || len != n1)
@@ -346,11 +349,11 @@ uint32_t c_check_renumbering(size_t n1, const uint8_t *e1, size_t l1, size_t n2,
     return 0;
 }
 
-uint32_t c_pack(size_t n, const uint8_t *edges, size_t len, size_t root, uint8_t *out, size_t out_len, size_t *pairs) {
+uint32_t c_pack(size_t edition, size_t n, const uint8_t *edges, size_t len, size_t root, uint8_t *out, size_t out_len, size_t *pairs) {
     struct tree t;
     uint8_t order[SIZE], code[SIZE];
     uint64_t place;
-    uint32_t refused = begin(&t, n, edges, len, root, (2 * n + 6) / 8, out_len, &place);
+    uint32_t refused = begin(edition, &t, n, edges, len, root, (2 * n + 6) / 8, out_len, &place);
     *pairs = 0;
     if (refused)
         return answered(refused, place);
@@ -360,7 +363,7 @@ uint32_t c_pack(size_t n, const uint8_t *edges, size_t len, size_t root, uint8_t
     for (unsigned i = 0; i < n; i++) {
         held = held << (code[i] + 1) | ((2u << code[i]) - 2);
         bits += code[i] + 1u;
-        if (bits >= 8) {
+        while (bits >= 8) {
             bits -= 8;
             out[at++] = (uint8_t)(held >> bits);
         }

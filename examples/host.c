@@ -1,4 +1,5 @@
-/* An exporter's host in a page: it reads a partner's lines, writes the line of an edge list, compares edge lists and packs one, and says each refusal in words.
+/* An exporter's host in a page: it reads a partner's lines, writes the line of an edge list, compares edge lists and packs one, and says each refusal in words. All is of
+ * edition 1; at the end it reads a line of edition 2, by the function that takes the edition.
  *
  *   ./install DIR
  *   cc examples/host.c $(PKG_CONFIG_PATH=DIR/lib/pkgconfig pkg-config --cflags --libs zurkhovel)
@@ -26,17 +27,31 @@ static int refused(uint32_t answer)
     return 1;
 }
 
+static void print_digits(const uint8_t *digits, uint32_t count)
+{
+    uint32_t i;
+    printf("%u digits", (unsigned)count);
+    for (i = 0; i < count; i++)
+        printf(" %u", (unsigned)digits[i]);
+    printf("\n");
+}
+
 static void read_line(const char *line)
 {
     uint8_t digits[ZK_DIGITS];
-    uint32_t i, answer = zk_read_line((const uint8_t *)line, strlen(line), digits, sizeof digits);
+    uint32_t answer = zk_read_line((const uint8_t *)line, strlen(line), digits, sizeof digits);
     printf("read %.*s: ", (int)strcspn(line, "\n"), line);
-    if (refused(answer))
-        return;
-    printf("%u digits", (unsigned)answer);
-    for (i = 0; i < answer; i++)
-        printf(" %u", (unsigned)digits[i]);
-    printf("\n");
+    if (!refused(answer))
+        print_digits(digits, answer);
+}
+
+static void read_line_of(unsigned edition, const char *line)
+{
+    uint8_t digits[ZK_DIGITS];
+    uint32_t answer = zk_read_line_edition(edition, (const uint8_t *)line, strlen(line), digits, sizeof digits);
+    printf("read in edition %u %.*s: ", edition, (int)strcspn(line, "\n"), line);
+    if (!refused(answer))
+        print_digits(digits, answer);
 }
 
 static void write_line(const char *name, size_t n, const uint8_t *edges, size_t len)
@@ -85,5 +100,8 @@ int main(void)
     pack("at vertex 2", 2, ZK_PACKED);
     pack("at vertex 7", 7, ZK_PACKED);
     pack("into one byte", 2, 1);
+    read_line_of(1, "10 9000000000\n");
+    read_line_of(2, "10 9000000000\n");
+    read_line_of(3, "10 9000000000\n");
     return 0;
 }

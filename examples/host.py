@@ -18,6 +18,7 @@ for name, arguments in {
     "zk_write_line": [size, byte, size, byte, size],
     "zk_same_skeleton": [size, byte, size, size, byte, size],
     "zk_pack": [size, byte, size, size, byte, size],
+    "zk_read_line_edition": [size, byte, size, byte, size],
 }.items():
     function = getattr(library, name)
     function.argtypes, function.restype = arguments, ctypes.c_uint32
@@ -34,10 +35,13 @@ def told(answer, given):
     return f"refusal {number}" + (f" at {place}" if place else "") + (" of the second list" if answer >= 65536 else "")
 
 
-def read_line(line):
+def read_line(line, edition=None):
+    """In edition 1, or in one that is named."""
     out = ctypes.create_string_buffer(DIGITS)
-    answer = library.zk_read_line(line, len(line), out, DIGITS)
-    print(f"read {line.decode().rstrip()}:", told(answer, lambda n: f"{n} digits " + " ".join(map(str, out.raw[:n]))))
+    lent = line, len(line), out, DIGITS
+    answer = library.zk_read_line(*lent) if edition is None else library.zk_read_line_edition(edition, *lent)
+    where = "" if edition is None else f"in edition {edition} "
+    print(f"read {where}{line.decode().rstrip()}:", told(answer, lambda n: f"{n} digits " + " ".join(map(str, out.raw[:n]))))
 
 
 def write_line(name, n, edges):
@@ -71,3 +75,6 @@ compare("2-methylpentane and a ring", BRANCHED, RING)
 pack("at vertex 2", 2, PACKED)
 pack("at vertex 7", 7, PACKED)
 pack("into one byte", 2, 1)
+read_line(b"10 9000000000\n", 1)
+read_line(b"10 9000000000\n", 2)
+read_line(b"10 9000000000\n", 3)

@@ -64,15 +64,15 @@ static size_t below(size_t bound) {
 
 /* What a call is handed. */
 struct given {
-    size_t n, root, len, n2, len2, len3;
+    size_t edition, n, root, len, n2, len2, len3;
     const uint8_t *in, *in2, *in3;
     uint64_t number;
     double x;
     size_t *pairs; /* where a call hands over the pairs looked at */
 };
 
-/* A tree in a physical numbering, or its like under other numbers. */
-static size_t tree(size_t n, uint8_t *edges, int renumbered) {
+/* A tree of an edition in a physical numbering, or its like under other numbers. In edition 2 half of the vertices hang on the first few, which get full. */
+static size_t tree(size_t edition, size_t n, uint8_t *edges, int renumbered) {
     unsigned degree[ZK_DIGITS + 1] = {0};
     uint8_t name[ZK_DIGITS + 1];
     for (size_t v = 1; v <= n; v++) {
@@ -86,8 +86,8 @@ static size_t tree(size_t n, uint8_t *edges, int renumbered) {
     for (size_t v = 2; v <= n; v++) {
         size_t u;
         do
-            u = 1 + below(v - 1);
-        while (degree[u] == 4);
+            u = 1 + below(edition == 2 && v > 3 && below(2) ? 3 : v - 1);
+        while (degree[u] == (edition == 2 ? 9 : 4));
         degree[u]++, degree[v]++;
         edges[2 * v - 4] = (uint8_t)u;
         edges[2 * v - 3] = (uint8_t)v;
@@ -113,13 +113,13 @@ enum kind { EDGES, LISTS, MAP, CODE, N_TUPLE, CENTRED, PACKED, CAM, LINE, WHOLE,
 static struct given make(enum kind kind, size_t most) {
     static uint8_t in[MOST], in2[MOST], in3[MOST], edges[MOST];
     static size_t pairs;
-    struct given g = {.n = 1 + below(most), .in = in, .in2 = in2, .in3 = in3, .pairs = &pairs};
-    size_t n = g.n, len = tree(n, edges, kind == EDGES && below(2));
+    struct given g = {.edition = 1 + below(2), .n = 1 + below(most), .in = in, .in2 = in2, .in3 = in3, .pairs = &pairs};
+    size_t edition = g.edition, n = g.n, len = tree(edition, n, edges, kind == EDGES && below(2));
     g.root = 1 + below(n);
     memcpy(in, edges, g.len = len);
     if (kind == LISTS) {
         g.n2 = below(4) ? n : 1 + below(most);
-        g.len2 = tree(g.n2, in2, 1);
+        g.len2 = tree(edition, g.n2, in2, 1);
     } else if (kind == MAP) {
         for (size_t v = 0; v < n; v++) {
             size_t other = below(v + 1);
@@ -130,25 +130,27 @@ static struct given make(enum kind kind, size_t most) {
             in2[i] = in3[edges[i] - 1];
         g.n2 = n, g.len2 = len, g.len3 = n;
     } else if (kind == CODE)
-        g.len = zk_rooted_code(n, edges, len, g.root, in, MOST);
+        g.len = zk_rooted_code(edition, n, edges, len, g.root, in, MOST);
     else if (kind == N_TUPLE)
-        g.len = zk_n_tuple_code(n, edges, len, in, MOST);
+        g.len = zk_n_tuple_code(edition, n, edges, len, in, MOST);
     else if (kind == CENTRED)
-        g.len = zk_centred_code(n, edges, len, in, MOST);
+        g.len = zk_centred_code(edition, n, edges, len, in, MOST);
     else if (kind == PACKED)
-        g.len = zk_pack(n, edges, len, g.root, in, MOST);
+        g.len = zk_pack_edition(edition, n, edges, len, g.root, in, MOST);
     else if (kind == CAM)
-        g.len = zk_cam(n, edges, len, in, MOST);
+        g.len = zk_cam(edition, n, edges, len, in, MOST);
     else if (kind == LINE)
-        g.len = zk_write_line(n, edges, len, in, MOST);
+        g.len = zk_write_line_edition(edition, n, edges, len, in, MOST);
     else if (kind == WHOLE)
-        zk_whole(n, edges, len, g.root, &g.number);
+        zk_whole(edition, n, edges, len, g.root, &g.number);
     else if (kind == FRACTION)
-        zk_fraction(n, edges, len, g.root, &g.x);
+        zk_fraction(edition, n, edges, len, g.root, &g.x);
     else if (kind == ZERO_A)
-        zk_zero_a(n, edges, len, &g.number);
+        zk_zero_a(edition, n, edges, len, &g.number);
     else if (kind == A_ZERO)
-        zk_a_zero(n, edges, len, &g.number);
+        zk_a_zero(edition, n, edges, len, &g.number);
+    if (below(10) == 0)
+        g.edition = below(5);
     if (below(2)) {
         damage(in, &g.len, kind == LINE ? 256 : (unsigned)n + 3);
         g.number ^= (uint64_t)below(2) << below(64);
@@ -170,11 +172,14 @@ static struct given make(enum kind kind, size_t most) {
 
 enum output { BYTES, VALUE, NOTHING };
 
-#define CALL(NAME, ...) \
+#define MADE(NAME, ...) \
     static uint32_t do_##NAME(const struct given *g, uint8_t *out, size_t out_len) { \
         (void)g, (void)out, (void)out_len; \
         return zk_##NAME(__VA_ARGS__); \
     }
+#define CALL(NAME, ...) MADE(NAME, g->edition, __VA_ARGS__)
+/* A call of the host: the function of its name is of edition 1. */
+#define HOST(NAME, ...) MADE(NAME, __VA_ARGS__) CALL(NAME##_edition, __VA_ARGS__)
 
 CALL(check_code, g->in, g->len)
 CALL(decode_code, g->in, g->len, out, out_len)
@@ -184,10 +189,10 @@ CALL(check_edges, g->n, g->in, g->len, g->root)
 CALL(rooted_code, g->n, g->in, g->len, g->root, out, out_len)
 CALL(n_tuple_code, g->n, g->in, g->len, out, out_len)
 CALL(centred_code, g->n, g->in, g->len, out, out_len)
-CALL(same_skeleton, g->n, g->in, g->len, g->n2, g->in2, g->len2)
+HOST(same_skeleton, g->n, g->in, g->len, g->n2, g->in2, g->len2)
 CALL(renumbering, g->n, g->in, g->len, g->n2, g->in2, g->len2, out, out_len)
 CALL(check_renumbering, g->n, g->in, g->len, g->n2, g->in2, g->len2, g->in3, g->len3)
-CALL(pack, g->n, g->in, g->len, g->root, out, out_len)
+HOST(pack, g->n, g->in, g->len, g->root, out, out_len)
 CALL(unpack, g->in, g->len, out, out_len)
 CALL(whole, g->n, g->in, g->len, g->root, (uint64_t *)(void *)out)
 CALL(unwhole, g->n, g->number, out, out_len)
@@ -203,8 +208,8 @@ CALL(decode_cam, g->n, g->in, g->len, out, out_len)
 CALL(decode_zero_a, g->n, g->number, out, out_len)
 CALL(decode_a_zero, g->n, g->number, out, out_len)
 CALL(equal_vertices, g->n, g->in, g->len, out, out_len)
-CALL(read_line, g->in, g->len, out, out_len)
-CALL(write_line, g->n, g->in, g->len, out, out_len)
+HOST(read_line, g->in, g->len, out, out_len)
+HOST(write_line, g->n, g->in, g->len, out, out_len)
 CALL(rooted_code_pairs, g->n, g->in, g->len, g->root, out, out_len, g->pairs)
 CALL(n_tuple_code_pairs, g->n, g->in, g->len, out, out_len, g->pairs)
 CALL(centred_code_pairs, g->n, g->in, g->len, out, out_len, g->pairs)
@@ -242,7 +247,8 @@ static const struct call {
     ROW(same_skeleton_pairs, LISTS, 64, NOTHING), ROW(pack_pairs, EDGES, 64, BYTES), ROW(whole_pairs, EDGES, 32, VALUE),
     ROW(fraction_pairs, EDGES, 27, VALUE), ROW(cam_by_code_pairs, EDGES, 64, BYTES), ROW(zero_a_by_code_pairs, EDGES, 21, VALUE),
     ROW(a_zero_by_code_pairs, EDGES, 11, VALUE), ROW(equal_vertices_pairs, EDGES, 64, BYTES), ROW(write_line_pairs, EDGES, 64, BYTES),
-    ROW(renumbering_pairs, MAP, 64, BYTES),
+    ROW(renumbering_pairs, MAP, 64, BYTES),  ROW(read_line_edition, LINE, 64, BYTES),   ROW(write_line_edition, EDGES, 64, BYTES),
+    ROW(same_skeleton_edition, LISTS, 64, NOTHING), ROW(pack_edition, EDGES, 64, BYTES),
 };
 enum { CALLS = sizeof calls / sizeof *calls };
 
@@ -255,7 +261,7 @@ static size_t cases;
 static void report(const char *what) {
     printf("exact: zk_%s %s\n", name_now, what);
     if (given_now != NULL) {
-        printf("  n %zu, root %zu, number %llu, x %a; n2 %zu, %zu bytes; %zu bytes:", given_now->n, given_now->root, (unsigned long long)given_now->number,
+        printf("  edition %zu, n %zu, root %zu, number %llu, x %a; n2 %zu, %zu bytes; %zu bytes:", given_now->edition, given_now->n, given_now->root, (unsigned long long)given_now->number,
                given_now->x, given_now->n2, given_now->len2, given_now->len);
         for (size_t i = 0; i < given_now->len; i++)
             printf(" %u", given_now->in[i]);
@@ -334,7 +340,7 @@ static void try_call(const struct call *call) {
 
 static void try_text(void) {
     uint8_t text[MOST * 2], records[LINES * ZK_RECORD], numbers[LINES], listing[MOST];
-    size_t places[LINES], lines, at, read, refused, len = 0, many = below(LINES), room = below(LINES);
+    size_t places[LINES], lines, at, read, refused, len = 0, many = below(LINES), room = below(LINES), edition = below(4);
     for (size_t i = 0; i < many; i++) {
         struct given g = make(LINE, 64);
         memcpy(text + len, g.in, g.len);
@@ -344,10 +350,10 @@ static void try_text(void) {
         size_t their_read, their_refused, from = below(8), part = below(200);
         cases += 3;
         name_now = "read_text";
-        zk_read_text(text, len, records, ZK_RECORD * room, numbers, room, places, room, &lines, &at);
+        zk_read_text(edition, text, len, records, ZK_RECORD * room, numbers, room, places, room, &lines, &at);
         uint8_t *in = lend_copy(0, text, len, side), *to = lend(1, ZK_RECORD * room, side), *their_numbers = lend(2, room, side);
         size_t *their_places = lend(3, room * sizeof *places, side), *their_lines = lend(4, sizeof lines, side), *their_at = lend(5, sizeof at, side);
-        zk_read_text(in, len, to, ZK_RECORD * room, their_numbers, room, their_places, room, their_lines, their_at);
+        zk_read_text(edition, in, len, to, ZK_RECORD * room, their_numbers, room, their_places, room, their_lines, their_at);
         if (*their_lines != lines || *their_at != at || memcmp(their_numbers, numbers, lines) != 0 || memcmp(their_places, places, lines * sizeof *places) != 0)
             report("answers otherwise than with ample memory");
         for (size_t i = 0; i < lines; i++)

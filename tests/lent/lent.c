@@ -1,7 +1,8 @@
 /* What the header says of memory that is lent: that a null pointer of length 0 is an empty list, and how much is needed at most.
  *
  * A null pointer with length 0 is an empty list: every exported call that is lent one, as an input or as an output, answers as with a pointer to memory.
- * Each is made twice on the same values: with empty lists that are null, and with empty lists that point to a byte, which has to stay as it is. */
+ * Each is made twice on the same values: with empty lists that are null, and with empty lists that point to a byte, which has to stay as it is; and that in both editions
+ * and in one that there is not. */
 #include <stdio.h>
 #include <string.h>
 #include <zurkhovel.h>
@@ -20,11 +21,15 @@ struct answer {
 
 static struct answer a;
 static const uint8_t zero[1] = {0};
+static size_t edition;
 
-#define CALL(NAME, ...) \
-    static void NAME(void) { a.whole = zk_##NAME(__VA_ARGS__); }
 #define VARIANT(NAME, OF, ...) \
-    static void NAME(void) { a.whole = zk_##OF(__VA_ARGS__); }
+    static void NAME(void) { a.whole = zk_##OF(edition, __VA_ARGS__); }
+#define CALL(NAME, ...) VARIANT(NAME, NAME, __VA_ARGS__)
+/* a call of the host: the function of its name is of edition 1 */
+#define HOST(NAME, ...) \
+    static void NAME(void) { a.whole = zk_##NAME(__VA_ARGS__); } \
+    VARIANT(NAME##_edition, NAME##_edition, __VA_ARGS__)
 
 CALL(check_code, in, 0)
 CALL(decode_code, in, 0, to, 0)
@@ -41,12 +46,12 @@ VARIANT(n_tuple_code_short, n_tuple_code, 1, in, 0, to, 0)
 CALL(centred_code, 1, in, 0, a.out, 4)
 VARIANT(centred_code_short, centred_code, 1, in, 0, to, 0)
 VARIANT(centred_code_none, centred_code, 2, in, 0, to, 0)
-CALL(same_skeleton, 1, in, 0, 1, in, 0)
+HOST(same_skeleton, 1, in, 0, 1, in, 0)
 CALL(renumbering, 1, in, 0, 1, in, 0, a.out, 4)
 VARIANT(renumbering_short, renumbering, 1, in, 0, 1, in, 0, to, 0)
 CALL(check_renumbering, 1, in, 0, 1, in, 0, in, 0)
-CALL(pack, 1, in, 0, 1, a.out, 4)
-VARIANT(pack_short, pack, 1, in, 0, 1, to, 0)
+HOST(pack, 1, in, 0, 1, a.out, 4)
+VARIANT(pack_short, pack_edition, 1, in, 0, 1, to, 0)
 CALL(unpack, in, 0, to, 0)
 VARIANT(unpack_1, unpack, zero, 1, to, 0)
 CALL(whole, 1, in, 0, 1, &a.value)
@@ -62,24 +67,24 @@ CALL(decode_zero_a, 1, 0, to, 0)
 CALL(a_zero, 1, in, 0, &a.value)
 CALL(a_zero_by_code, 1, in, 0, &a.value)
 CALL(decode_a_zero, 1, 0, to, 0)
-CALL(read_line, in, 0, to, 0)
-CALL(write_line, 1, in, 0, a.out, 4)
-VARIANT(write_line_short, write_line, 1, in, 0, to, 0)
+HOST(read_line, in, 0, to, 0)
+HOST(write_line, 1, in, 0, a.out, 4)
+VARIANT(write_line_short, write_line_edition, 1, in, 0, to, 0)
 CALL(equal_vertices, 1, in, 0, a.out, 4)
 VARIANT(equal_vertices_short, equal_vertices, 1, in, 0, to, 0)
 
-static void read_text(void) { zk_read_text(in, 0, to, 0, to, 0, NULL, 0, &a.one, &a.another); }
-static void read_text_no_room(void) { zk_read_text(zero, 1, to, 0, to, 0, NULL, 0, &a.one, &a.another); }
+static void read_text(void) { zk_read_text(edition, in, 0, to, 0, to, 0, NULL, 0, &a.one, &a.another); }
+static void read_text_no_room(void) { zk_read_text(edition, zero, 1, to, 0, to, 0, NULL, 0, &a.one, &a.another); }
 static void count(void) { zk_count(in, 0, &a.one, &a.another); }
 static void list(void) { a.one = zk_list(in, 0, 0, a.out, 4); }
 static void list_no_room(void) { a.one = zk_list(zero, 1, 0, to, 0); }
 
 static void (*const calls[])(void) = {
     check_code, decode_code, decode_n_tuple, decode_centred, decode_code_1, decode_n_tuple_1, decode_centred_1, check_edges, rooted_code, rooted_code_short,
-    n_tuple_code, n_tuple_code_short, centred_code, centred_code_short, centred_code_none, same_skeleton, renumbering, renumbering_short,
-    check_renumbering, pack, pack_short, unpack, unpack_1, whole, unwhole, fraction,
-    unfraction, cam, cam_by_code, decode_cam, zero_a, zero_a_by_code, decode_zero_a, a_zero, a_zero_by_code, decode_a_zero, read_line, write_line,
-    write_line_short, equal_vertices, equal_vertices_short, read_text, read_text_no_room, count, list, list_no_room,
+    n_tuple_code, n_tuple_code_short, centred_code, centred_code_short, centred_code_none, same_skeleton, same_skeleton_edition, renumbering, renumbering_short,
+    check_renumbering, pack, pack_edition, pack_short, unpack, unpack_1, whole, unwhole, fraction,
+    unfraction, cam, cam_by_code, decode_cam, zero_a, zero_a_by_code, decode_zero_a, a_zero, a_zero_by_code, decode_a_zero, read_line, read_line_edition, write_line,
+    write_line_edition, write_line_short, equal_vertices, equal_vertices_short, read_text, read_text_no_room, count, list, list_no_room,
 };
 
 static struct answer made(void (*call)(void), uint8_t *input, uint8_t *output) {
@@ -97,18 +102,18 @@ static unsigned wrong_sizes(void) {
         edges[2 * i - 2] = (uint8_t)i;
         edges[2 * i - 1] = (uint8_t)(i + 1);
     }
-    uint32_t digits = zk_centred_code(64, edges, 126, code, sizeof code);
+    uint32_t digits = zk_centred_code(1, 64, edges, 126, code, sizeof code);
     const struct {
         const char *name;
         uint32_t named, needed;
     } sizes[] = {
         {"ZK_DIGITS", ZK_DIGITS, digits},
-        {"ZK_DIGITS", ZK_DIGITS, zk_equal_vertices(64, edges, 126, out, sizeof out)},
+        {"ZK_DIGITS", ZK_DIGITS, zk_equal_vertices(1, 64, edges, 126, out, sizeof out)},
         {"ZK_RECORD", ZK_RECORD, digits},
-        {"ZK_EDGES", ZK_EDGES, zk_decode_centred(code, digits, out, sizeof out)},
+        {"ZK_EDGES", ZK_EDGES, zk_decode_centred(1, code, digits, out, sizeof out)},
         {"ZK_LINE", ZK_LINE, zk_write_line(64, edges, 126, out, sizeof out)},
         {"ZK_PACKED", ZK_PACKED, zk_pack(64, edges, 126, 1, out, sizeof out)},
-        {"ZK_CAM", ZK_CAM, zk_cam(64, edges, 126, out, sizeof out)},
+        {"ZK_CAM", ZK_CAM, zk_cam(1, 64, edges, 126, out, sizeof out)},
     };
     unsigned wrong = 0;
     for (unsigned i = 0; i < sizeof sizes / sizeof *sizes; i++)
@@ -121,10 +126,11 @@ static unsigned wrong_sizes(void) {
 
 int main(void) {
     unsigned many = sizeof calls / sizeof calls[0], bad = wrong_sizes();
-    for (unsigned i = 0; i < many; i++) {
-        struct answer held = made(calls[i], memory, memory + 1), null = made(calls[i], NULL, NULL);
+    for (unsigned i = 0; i < 3 * many; i++) {
+        edition = 1 + i / many;
+        struct answer held = made(calls[i % many], memory, memory + 1), null = made(calls[i % many], NULL, NULL);
         if (memcmp(&held, &null, sizeof held)) {
-            printf("lent: case %u answers %u with null pointers, and %u otherwise\n", i + 1, null.whole, held.whole);
+            printf("lent: case %u in edition %zu answers %u with null pointers, and %u otherwise\n", i % many + 1, edition, null.whole, held.whole);
             bad = 1;
         }
     }
@@ -133,6 +139,6 @@ int main(void) {
         bad = 1;
     }
     if (!bad)
-        printf("lent: the sizes are what is needed; %u calls answer alike with null pointers of length 0 and with others\n", many);
+        printf("lent: the sizes are what is needed; %u calls answer alike with null pointers of length 0 and with others, in editions 1, 2 and 3\n", many);
     return (int)bad;
 }

@@ -7,33 +7,52 @@
 
 #include "check.h"
 
-#define CALL(NAME, OUTPUT, OURS, THEIRS, TELLING) \
+#define OURS(NAME, MADE) \
     static struct answer ours_##NAME(const struct input *in, uint8_t *out, size_t room) \
     { \
         (void)out, (void)room; \
-        return OURS; \
-    } \
-    static uint32_t theirs_##NAME(const struct input *in, uint8_t *out, size_t room) \
-    { \
-        (void)out, (void)room; \
-        return THEIRS; \
-    } \
-    static uint64_t met_##NAME[numbers]; \
-    static const struct call call_##NAME = {#NAME, OUTPUT, ours_##NAME, theirs_##NAME, TELLING, met_##NAME}
+        MADE; \
+    }
 
-/* The same arguments to both. */
-#define CALL_BOTH(NAME, OUTPUT, ...) CALL(NAME, OUTPUT, oracle_##NAME(__VA_ARGS__), zk_##NAME(__VA_ARGS__), NULL)
+/* A way in which the library's call is made. */
+#define WAY(KIND, NAME, MADE) \
+    static uint32_t KIND##_##NAME(const struct input *in, uint8_t *out, size_t room, size_t *pairs) \
+    { \
+        (void)out, (void)room, (void)pairs; \
+        MADE; \
+    }
+
+#define CALL(NAME, OUTPUT, TELLING, AT_1) \
+    static uint64_t met_##NAME[numbers]; \
+    static const struct call call_##NAME = {#NAME, OUTPUT, ours_##NAME, theirs_##NAME, TELLING, AT_1, met_##NAME}
+
+/* The same arguments to both, behind the edition. */
+#define CALL_BOTH(NAME, OUTPUT, ...) \
+    OURS(NAME, return oracle_##NAME(in->edition, __VA_ARGS__)) \
+    WAY(theirs, NAME, return zk_##NAME(in->edition, __VA_ARGS__)) \
+    CALL(NAME, OUTPUT, NULL, NULL)
 
 /* The same, and the way that tells the pairs looked at. */
 #define CALL_TELLING(NAME, OUTPUT, ...) \
-    static uint32_t telling_##NAME(const struct input *in, uint8_t *out, size_t room, size_t *pairs) \
-    { \
-        (void)out, (void)room; \
-        return zk_##NAME##_pairs(__VA_ARGS__, pairs); \
-    } \
-    CALL(NAME, OUTPUT, oracle_##NAME(__VA_ARGS__), zk_##NAME(__VA_ARGS__), telling_##NAME)
+    OURS(NAME, return oracle_##NAME(in->edition, __VA_ARGS__)) \
+    WAY(theirs, NAME, return zk_##NAME(in->edition, __VA_ARGS__)) \
+    WAY(telling, NAME, return zk_##NAME##_pairs(in->edition, __VA_ARGS__, pairs)) \
+    CALL(NAME, OUTPUT, telling_##NAME, NULL)
 
-/* Bytes to a lent output: codes, packed codes, lines. */
+/* Calls of the host: the function of the call's name is of edition 1, and another one takes the edition. */
+#define HOST_WAYS(NAME, ...) \
+    OURS(NAME, return oracle_##NAME(in->edition, __VA_ARGS__)) \
+    WAY(theirs, NAME, return zk_##NAME##_edition(in->edition, __VA_ARGS__)) \
+    WAY(at_1, NAME, return zk_##NAME(__VA_ARGS__))
+
+#define CALL_HOST(NAME, OUTPUT, ...) HOST_WAYS(NAME, __VA_ARGS__) CALL(NAME, OUTPUT, NULL, at_1_##NAME)
+
+#define CALL_HOST_TELLING(NAME, OUTPUT, ...) \
+    HOST_WAYS(NAME, __VA_ARGS__) \
+    WAY(telling, NAME, return zk_##NAME##_pairs(in->edition, __VA_ARGS__, pairs)) \
+    CALL(NAME, OUTPUT, telling_##NAME, at_1_##NAME)
+
+/* Bytes to a lent output: codes, packed codes. */
 #define CALL_BYTES(NAME) CALL_BOTH(NAME, lent_bytes, in->bytes, in->len, out, room)
 
 /* N and bytes to a lent output. */
@@ -41,9 +60,6 @@
 
 /* N and an edge list to a lent output, by way of a code. */
 #define CALL_CODED(NAME) CALL_TELLING(NAME, lent_bytes, in->n, in->bytes, in->len, out, room)
-
-/* The same with a named root. */
-#define CALL_ROOTED(NAME) CALL_TELLING(NAME, lent_bytes, in->n, in->bytes, in->len, in->root, out, room)
 
 /* N and a whole number to a lent output. */
 #define CALL_NUMBER(NAME) CALL_BOTH(NAME, lent_bytes, in->n, in->value, out, room)
@@ -56,26 +72,16 @@
     memcpy(out, &value, room); \
     return answer
 
-#define CALL_VALUE_AS(NAME, TYPE, TELLING, ...) \
-    static struct answer ours_##NAME(const struct input *in, uint8_t *out, size_t room) \
-    { \
-        VALUE_OF(TYPE, struct answer, oracle_##NAME(__VA_ARGS__, &value)); \
-    } \
-    static uint32_t theirs_##NAME(const struct input *in, uint8_t *out, size_t room) \
-    { \
-        VALUE_OF(TYPE, uint32_t, zk_##NAME(__VA_ARGS__, &value)); \
-    } \
-    static uint64_t met_##NAME[numbers]; \
-    static const struct call call_##NAME = {#NAME, one_value, ours_##NAME, theirs_##NAME, TELLING, met_##NAME}
+#define VALUE_WAYS(NAME, TYPE, ...) \
+    OURS(NAME, VALUE_OF(TYPE, struct answer, oracle_##NAME(in->edition, __VA_ARGS__, &value))) \
+    WAY(theirs, NAME, VALUE_OF(TYPE, uint32_t, zk_##NAME(in->edition, __VA_ARGS__, &value)))
 
-#define CALL_VALUE(NAME, TYPE, ...) CALL_VALUE_AS(NAME, TYPE, NULL, __VA_ARGS__)
+#define CALL_VALUE(NAME, TYPE, ...) VALUE_WAYS(NAME, TYPE, __VA_ARGS__) CALL(NAME, one_value, NULL, NULL)
 
 /* The same, by way of a code. */
 #define CALL_VALUE_CODED(NAME, TYPE, ...) \
-    static uint32_t telling_##NAME(const struct input *in, uint8_t *out, size_t room, size_t *pairs) \
-    { \
-        VALUE_OF(TYPE, uint32_t, zk_##NAME##_pairs(__VA_ARGS__, &value, pairs)); \
-    } \
-    CALL_VALUE_AS(NAME, TYPE, telling_##NAME, __VA_ARGS__)
+    VALUE_WAYS(NAME, TYPE, __VA_ARGS__) \
+    WAY(telling, NAME, VALUE_OF(TYPE, uint32_t, zk_##NAME##_pairs(in->edition, __VA_ARGS__, &value, pairs))) \
+    CALL(NAME, one_value, telling_##NAME, NULL)
 
 #endif

@@ -8,6 +8,8 @@
 
 enum { guard = 32, most_lent = 300 };
 
+uint64_t edition;
+
 static uint64_t state, seed_of_run, cases;
 static const char *piece;
 
@@ -33,6 +35,18 @@ uint64_t below(uint64_t bound)
 int one_in(unsigned chances)
 {
     return below(chances) == 0;
+}
+
+unsigned rounds(unsigned count)
+{
+    return edition == 1 ? count : (count + 1) / 2;
+}
+
+uint64_t no_edition(void)
+{
+    const uint64_t wrong[] = {0, 3, 4, 9, 255, 256, 257, 258, (uint64_t)1 << 32, ((uint64_t)1 << 32) + 1,
+                              ((uint64_t)1 << 63) + 2, UINT64_MAX - 1, UINT64_MAX};
+    return wrong[below(sizeof wrong / sizeof *wrong)];
 }
 
 static void crashed(int signal)
@@ -84,7 +98,7 @@ static void print_bytes(const char *what, const uint8_t *bytes, size_t len)
 
 static void print_input(const struct input *in)
 {
-    printf("  n %" PRIu64 ", root %" PRIu64 ", value %" PRIu64 ", x %a\n", in->n, in->root, in->value, in->x);
+    printf("  edition %" PRIu64 ", n %" PRIu64 ", root %" PRIu64 ", value %" PRIu64 ", x %a\n", in->edition, in->n, in->root, in->value, in->x);
     print_bytes("input", in->bytes, in->len);
     if (in->bytes2 != NULL) {
         printf("  n of the second list %" PRIu64 "\n", in->n2);
@@ -162,10 +176,11 @@ static uint64_t whole_number(struct answer answer)
     return 256 * (uint64_t)answer.number + answer.place + 65536 * (uint64_t)answer.lists_before;
 }
 
-/* A whole number as the header takes it apart. */
+/* A whole number as the header takes it apart. Of 22 no list is named, and none stands before it. */
 static struct answer taken_apart(uint32_t whole)
 {
-    return (struct answer){.number = zk_number(whole), .place = zk_place(whole), .lists_before = zk_list_of(whole) - 1};
+    uint32_t list = zk_list_of(whole);
+    return (struct answer){.number = zk_number(whole), .place = zk_place(whole), .lists_before = list == 0 ? 0 : list - 1};
 }
 
 struct lent {
@@ -182,6 +197,7 @@ static void compare(const struct call *call, const struct input *in, size_t room
         mismatch(call->name, in, more, ours, theirs);
     claim(zk_answer(zk_list_of(whole), zk_number(whole), zk_place(whole)) == whole && zk_refused(whole) == (ours.number != 0),
           "an answer taken apart and put together again is the same");
+    claim((zk_list_of(whole) == 0) == (ours.number == 22), "22 and no other refusal is of no list");
     call->met[ours.number]++;
     for (size_t i = 0; i < sizeof wanted->byte; i++)
         if (wanted->byte[i] != got->byte[i]) {
@@ -191,35 +207,43 @@ static void compare(const struct call *call, const struct input *in, size_t room
         }
 }
 
-/* The call in the way that tells the pairs: the same answer, the same bytes, and the number, whatever stood
- * in its place. */
-static void compare_telling(const struct call *call, const struct input *in, size_t room,
-                            struct answer ours, const struct lent *wanted, const struct lent *before)
+/* The call in one way: the same answer and the same bytes; the way that tells the pairs sets the number, whatever
+ * stood in its place, and the others leave it. */
+static void compare_way(const struct call *call, way *made, const struct input *in, size_t room, struct answer ours,
+                        const struct lent *wanted, const struct lent *before)
 {
-    if (call->telling == NULL)
-        return;
     struct lent got = *before;
-    size_t pairs = ours.pairs + 1 + below(9);
-    uint32_t whole = call->telling(in, got.byte + guard, room, &pairs);
+    size_t stood = ours.pairs + 1 + below(9), pairs = stood;
+    uint32_t whole = made(in, got.byte + guard, room, &pairs);
     compare(call, in, room, ours, wanted, whole, &got);
-    if (pairs != ours.pairs) {
+    if (pairs != (made == call->telling ? ours.pairs : stood)) {
         char more[120];
         snprintf(more, sizeof more, "output lent: %zu bytes; pairs are %" PRIu64 " in ours, %zu in theirs", room, ours.pairs, pairs);
         mismatch(call->name, in, more, ours, taken_apart(whole));
     }
 }
 
-/* One number, or nothing: both begin with the same bytes in memory. */
-static struct answer check_value(const struct call *call, const struct input *in, size_t room)
+/* All ways begin with the same bytes in memory. */
+static void compare_ways(const struct call *call, const struct input *in, size_t room, struct answer ours,
+                         const struct lent *wanted, const struct lent *before)
+{
+    compare_way(call, call->theirs, in, room, ours, wanted, before);
+    if (call->telling != NULL)
+        compare_way(call, call->telling, in, room, ours, wanted, before);
+    if (call->at_1 != NULL && in->edition == 1)
+        compare_way(call, call->at_1, in, room, ours, wanted, before);
+}
+
+/* One number, or nothing. */
+static struct answer check_value(const struct call *call, const struct input *in, size_t room, uint8_t *result)
 {
     static uint64_t salt;
-    struct lent wanted, got, before;
+    struct lent wanted, before;
     fill_pattern(&wanted, sizeof wanted, ++salt);
-    got = before = wanted;
+    before = wanted;
     struct answer ours = call->ours(in, wanted.byte + guard, room);
-    uint32_t theirs = call->theirs(in, got.byte + guard, room);
-    compare(call, in, room, ours, &wanted, theirs, &got);
-    compare_telling(call, in, room, ours, &wanted, &before);
+    compare_ways(call, in, room, ours, &wanted, &before);
+    memcpy(result, wanted.byte + guard, room);
     return ours;
 }
 
@@ -229,43 +253,68 @@ static void check_room(const struct call *call, const struct input *in, size_t r
                        struct answer ample, const uint8_t *result)
 {
     static uint64_t salt;
-    struct lent wanted, got, before;
+    struct lent wanted, before;
     fill_pattern(&wanted, sizeof wanted, ++salt);
-    got = before = wanted;
+    before = wanted;
     struct answer ours = ample;
     if (ample.number == 0 && room < ample.place)
         ours = (struct answer){.number = 15, .place = ample.place, .lists_before = call->output == lent_map ? 2 : 0};
     else if (ample.number == 0)
         memcpy(wanted.byte + guard, result, ample.place);
-    uint32_t theirs = call->theirs(in, got.byte + guard, room);
-    compare(call, in, room, ours, &wanted, theirs, &got);
-    compare_telling(call, in, room, ours, &wanted, &before);
+    compare_ways(call, in, room, ours, &wanted, &before);
+}
+
+/* One case in the edition of the input; `result` gets what we give into an ample output. */
+static struct answer check_case(const struct call *call, const struct input *in, uint8_t *result)
+{
+    begin_case(call->name, in);
+    if (call->output == no_output)
+        return check_value(call, in, 0, result);
+    if (call->output == one_value)
+        return check_value(call, in, sizeof(uint64_t), result);
+
+    struct answer ample = call->ours(in, result, most_lent);
+    if (ample.number != 0) {
+        check_room(call, in, 0, ample, result);
+        check_room(call, in, below(most_lent + 1), ample, result);
+        return ample;
+    }
+    size_t needed = ample.place;
+    if (needed > 0) {
+        check_room(call, in, needed - 1, ample, result);
+        check_room(call, in, one_in(4) ? 0 : below(needed), ample, result);
+    }
+    check_room(call, in, needed, ample, result);
+    check_room(call, in, needed + 1 + below(most_lent - needed), ample, result);
+    return ample;
+}
+
+/* The tables of the editions differ in 9 and 10 alone. */
+static void check_in_1(const struct call *call, struct input in, struct answer in_2, const uint8_t *result_in_2)
+{
+    uint8_t result[most_lent];
+    in.edition = 1;
+    struct answer in_1 = check_case(call, &in, result);
+    if (in_1.number == 9 || in_1.number == 10)
+        return;
+    claim(equal(in_1, in_2), "edition 1 answers as edition 2 does, or 9 or 10");
+    size_t given = call->output == one_value ? sizeof(uint64_t) : call->output == no_output ? 0 : in_2.place;
+    claim(in_2.number != 0 || memcmp(result, result_in_2, given) == 0, "edition 1 gives what edition 2 does");
 }
 
 struct answer check(const struct call *call, struct input in)
 {
     static const uint8_t nothing[1];
+    uint8_t result[most_lent], none[most_lent];
     if (in.bytes == NULL)
         in.bytes = nothing;
-    begin_case(call->name, &in);
-    if (call->output == no_output)
-        return check_value(call, &in, 0);
-    if (call->output == one_value)
-        return check_value(call, &in, sizeof(uint64_t));
-
-    uint8_t result[most_lent];
-    struct answer ample = call->ours(&in, result, sizeof result);
-    if (ample.number != 0) {
-        check_room(call, &in, 0, ample, result);
-        check_room(call, &in, below(most_lent + 1), ample, result);
-        return ample;
+    in.edition = edition;
+    struct answer answer = check_case(call, &in, result);
+    if (edition == 2 && one_in(3))
+        check_in_1(call, in, answer, result);
+    if (one_in(20)) {
+        in.edition = no_edition();
+        claim(check_case(call, &in, none).number == 22, "what is no edition is refused 22");
     }
-    size_t needed = ample.place;
-    if (needed > 0) {
-        check_room(call, &in, needed - 1, ample, result);
-        check_room(call, &in, one_in(4) ? 0 : below(needed), ample, result);
-    }
-    check_room(call, &in, needed, ample, result);
-    check_room(call, &in, needed + 1 + below(most_lent - needed), ample, result);
-    return ample;
+    return answer;
 }

@@ -14,6 +14,19 @@ uint64_t random64(void);
 uint64_t below(uint64_t bound); /* 0 to bound-1; bound is not 0 */
 int one_in(unsigned chances);
 
+/* ---- Editions ---- */
+
+/* The edition of the cases under way: inputs are made for it, and calls are made in it. A piece goes through both, and first through
+ * what they differ in. */
+extern uint64_t edition;
+#define IN_BOTH_EDITIONS for (edition = 1; edition <= 2; edition++)
+
+/* So many rounds in edition 1; half as many in edition 2, of whose cases some are made in edition 1 too. */
+unsigned rounds(unsigned count);
+
+/* A number that is no edition. */
+uint64_t no_edition(void);
+
 /* ---- Pieces: each begins with its own random numbers, so that it can be run alone ---- */
 
 void begin_piece(const char *name, uint64_t seed);
@@ -23,6 +36,7 @@ uint64_t cases_of_piece(void);
 
 /* What a call is given; each uses its own part. */
 struct input {
+    uint64_t edition;
     uint64_t n;
     const uint8_t *bytes;
     size_t len;
@@ -43,21 +57,26 @@ enum output {
     no_output
 };
 
-enum { numbers = 20 };
+enum { numbers = 23 };
+
+/* A way in which the library's call is made: the answer is the one whole number. */
+typedef uint32_t way(const struct input *in, uint8_t *out, size_t room, size_t *pairs);
 
 struct call {
     const char *name;
     enum output output;
     struct answer (*ours)(const struct input *in, uint8_t *out, size_t room);
-    uint32_t (*theirs)(const struct input *in, uint8_t *out, size_t room); /* the one whole number */
-    uint32_t (*telling)(const struct input *in, uint8_t *out, size_t room, size_t *pairs); /* or none */
+    way *theirs;
+    way *telling; /* the one that tells the pairs looked at, or none */
+    way *at_1;    /* the one that names no edition, and is of edition 1, or none */
     uint64_t *met; /* how often each number was answered */
 };
 
-/* Makes both answer, with the output lent too short, exactly and too long; ends the program when the
- * whole number, a part of it as the header takes it apart, or any byte of the lent output or around it
- * differs, or when the parts put together are another number. A call that also tells the pairs looked at is
- * made in both ways. Returns our answer to an ample output. */
+/* Makes both answer in the edition under way, with the output lent too short, exactly and too long; ends the program
+ * when the whole number, a part of it as the header takes it apart, or any byte of the lent output or around it
+ * differs, or when the parts put together are another number. A call that is made in several ways is made in each.
+ * Some cases are made again in no edition, which is 22 whatever the input is, and some of edition 2 in edition 1,
+ * which answers alike, or 9 or 10. Returns our answer to an ample output. */
 struct answer check(const struct call *call, struct input in);
 
 /* That the cases met all these numbers, 0 among them, and no other: a piece ends with this for each of its

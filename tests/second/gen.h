@@ -20,7 +20,10 @@ struct bytes {
     uint8_t byte[320];
 };
 
-/* A random tree of n vertices, each of degree at most 4, of one of several shapes; numbers, order of
+/* How many neighbours a vertex may have in the edition under way, which all that follows is made for. */
+unsigned neighbours(void);
+
+/* A random tree of n vertices, none with more neighbours, of one of several shapes; numbers, order of
  * edges and order of ends are random too. */
 struct list random_tree(unsigned n);
 
@@ -28,7 +31,8 @@ struct list random_tree(unsigned n);
 struct list random_physical(unsigned n);
 
 struct list path_of(unsigned n);
-struct list star_of_stars(unsigned n); /* every vertex filled to four neighbours before the next one */
+struct list star_of(unsigned n);       /* vertex 1 with all others, also where these are too many */
+struct list star_of_stars(unsigned n); /* every vertex filled before the next one */
 
 /* Two copies of a small tree, their first vertices joined; either copy may then get a leaf more at a random
  * vertex, so that the halves are equal or differ in few digits, often late. Some have a vertex too full. */
@@ -45,7 +49,7 @@ uint64_t labelled_trees(unsigned n);
 struct list labelled_tree(unsigned n, uint64_t index);
 
 /* The centred codes of all skeletons of n vertices, found by adding a vertex to those of n-1. */
-enum { most_skeletons = 400 };
+enum { most_skeletons = 1400 };
 size_t all_skeletons(unsigned n, struct bytes *codes);
 
 struct list list_of_code(const struct bytes *code);
@@ -68,7 +72,7 @@ void damage_bytes(struct bytes *bytes, unsigned usual_bound);
 /* One change to a list, of any kind that a row of the refusal table speaks of. */
 void damage_list(struct list *list);
 
-/* Moves leaves to the fullest vertex until it has five neighbours or more: refused 9 where it can be. */
+/* Moves leaves to the fullest vertex until it has one neighbour too many or two: refused 9 where it can be. */
 void overfill(struct list *list);
 
 /* A vertex of the list, or once in so many times something else. */

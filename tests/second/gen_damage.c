@@ -5,8 +5,6 @@
 
 #include "check.h"
 
-enum { neighbours = 4 };
-
 static void remove_at(uint8_t *bytes, size_t *len, size_t at, size_t count)
 {
     memmove(bytes + at, bytes + at + count, *len - at - count);
@@ -60,11 +58,11 @@ static uint8_t some_end(uint64_t n)
     return ends[below(sizeof ends)];
 }
 
-/* Brings one vertex into several edges, so that a fifth neighbour becomes likely. */
+/* Brings one vertex into several edges, so that a neighbour too many becomes likely. */
 static void crowd(struct list *list)
 {
     uint8_t v = list->ends[below(list->len)];
-    for (unsigned i = 0; i < 5; i++) {
+    for (unsigned i = 0; i <= neighbours(); i++) {
         size_t e = below(list->len / 2);
         list->ends[2 * e + below(2)] = v;
     }
@@ -78,7 +76,7 @@ void overfill(struct list *list)
     for (unsigned v = 1; v < 256; v++)
         if (degree[v] > degree[fullest])
             fullest = v;
-    unsigned wanted = neighbours + 1 + (unsigned)below(2);
+    unsigned wanted = neighbours() + 1 + (unsigned)below(2);
     for (size_t i = 0; i < (list->len & ~(size_t)1) && degree[fullest] < wanted;) {
         uint8_t *other = &list->ends[i ^ 1];
         if (degree[list->ends[i]] == 1 && *other != fullest) {

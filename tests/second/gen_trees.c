@@ -5,7 +5,12 @@
 
 #include "check.h"
 
-enum { largest = 64, neighbours = 4 };
+enum { largest = 64 };
+
+unsigned neighbours(void)
+{
+    return edition == 2 ? 9 : 4;
+}
 
 void add_edge(struct list *list, unsigned u, unsigned v)
 {
@@ -43,12 +48,13 @@ void renumber(struct list *list)
         list->ends[i] = number[list->ends[i]];
 }
 
-/* The vertex that the next one hangs on: anywhere, near the last, the first with room, or on a thin tree. */
+/* The vertex that the next one hangs on: anywhere, near the last, the first with room, on a thin tree, or near the
+ * first, so that a few become full. */
 static unsigned hang_on(const unsigned *degree, unsigned vertices, unsigned shape, unsigned limit)
 {
     for (;;) {
         unsigned near = vertices < 3 ? vertices : 3;
-        unsigned v = shape == 1 ? vertices - (unsigned)below(near) : 1 + (unsigned)below(vertices);
+        unsigned v = shape == 1 ? vertices - (unsigned)below(near) : 1 + (unsigned)below(shape == 6 ? near : vertices);
         for (unsigned first = 1; shape == 2 && first <= vertices; first++)
             if (degree[first] < limit) {
                 v = first;
@@ -66,10 +72,10 @@ static struct list grow(unsigned n, unsigned shape)
 {
     struct list list = {.n = n, .len = 0};
     unsigned degree[largest + 1] = {0};
-    unsigned limit = shape == 3 ? 3 : shape == 4 ? 2 : neighbours;
+    unsigned limit = shape == 3 ? 3 : shape == 4 ? 2 : neighbours();
     for (unsigned v = 2; v <= n; v++) {
         unsigned here = shape == 5 ? (unsigned)below(3) : shape;
-        unsigned room = one_in(10) || shape == 5 ? neighbours : limit;
+        unsigned room = one_in(10) || shape == 5 ? neighbours() : limit;
         unsigned u = hang_on(degree, v - 1, here, room);
         degree[u]++, degree[v]++;
         add_edge(&list, u, v);
@@ -79,7 +85,7 @@ static struct list grow(unsigned n, unsigned shape)
 
 struct list random_physical(unsigned n)
 {
-    struct list list = grow(n, (unsigned)below(6));
+    struct list list = grow(n, (unsigned)below(7));
     shuffle(&list);
     return list;
 }
@@ -96,6 +102,14 @@ struct list path_of(unsigned n)
     struct list list = {.n = n, .len = 0};
     for (unsigned v = 2; v <= n; v++)
         add_edge(&list, v - 1, v);
+    return list;
+}
+
+struct list star_of(unsigned n)
+{
+    struct list list = {.n = n, .len = 0};
+    for (unsigned v = 2; v <= n; v++)
+        add_edge(&list, 1, v);
     return list;
 }
 
@@ -155,21 +169,21 @@ struct list labelled_tree(unsigned n, uint64_t index)
 struct list list_of_code(const struct bytes *code)
 {
     struct list list = {.n = code->len, .len = 0};
-    list.len = oracle_decode_code(code->byte, code->len, list.ends, sizeof list.ends).place;
+    list.len = oracle_decode_code(edition, code->byte, code->len, list.ends, sizeof list.ends).place;
     return list;
 }
 
 struct bytes rooted_code_of(const struct list *list, uint64_t root)
 {
     struct bytes code;
-    code.len = oracle_rooted_code(list->n, list->ends, list->len, root, code.byte, sizeof code.byte).place;
+    code.len = oracle_rooted_code(edition, list->n, list->ends, list->len, root, code.byte, sizeof code.byte).place;
     return code;
 }
 
 struct bytes centred_code_of(const struct list *list)
 {
     struct bytes code;
-    code.len = oracle_centred_code(list->n, list->ends, list->len, code.byte, sizeof code.byte).place;
+    code.len = oracle_centred_code(edition, list->n, list->ends, list->len, code.byte, sizeof code.byte).place;
     return code;
 }
 
@@ -199,7 +213,7 @@ size_t all_skeletons(unsigned n, struct bytes *codes)
             struct list list = list_of_code(&smaller[i]);
             list.n = n;
             add_edge(&list, v, n);
-            if (oracle_check_edges(n, list.ends, list.len, 1).number != 0)
+            if (oracle_check_edges(edition, n, list.ends, list.len, 1).number != 0)
                 continue;
             struct bytes code = centred_code_of(&list);
             if (!known(codes, count, &code))

@@ -19,6 +19,11 @@
     X(code, place_13_of_sibling) /* the place of the sibling before */ \
     X(code, place_not_added)     /* a refusal is 256 times its number alone */ \
     X(code, bytes_not_given)     /* a success is 0, however many bytes were written */ \
+    X(code, edition_ignored)     /* edition 2 is taken as 1 */ \
+    X(code, edition_as_byte)     /* the edition is taken modulo 256 */ \
+    X(code, edition_by_default)  /* what is no edition is taken as 1 */ \
+    X(code, edition_3)           /* is taken as 2 */ \
+    X(code, nine_elsewhere)      /* a digit that is not the root's may be 9 too */ \
     X(edges, root_has_place)     /* a wrong root is 6 at 1 */ \
     X(edges, seven_before_six)   /* a loop comes before a wrong vertex number */ \
     X(edges, size_as_byte)       /* N is taken modulo 256 */ \
@@ -29,6 +34,8 @@
     X(edges, child_total_left)   /* what was looked at below a child is not counted */ \
     X(edges, pairs_on_15)        /* a refusal tells what was looked at before it */ \
     X(edges, pairs_untouched)    /* a refusal leaves the number as it was */ \
+    X(edges, tenth_neighbour)    /* is taken in edition 2 */ \
+    X(edges, twenty_two_last)    /* 22 comes behind the list's own refusals */ \
     X(form, either_middle)       /* the first of two middle vertices */ \
     X(form, n_tuple_by_centre)   /* the N-tuple code is rooted at the centre */ \
     X(form, list_forgotten)      /* 65,536 is not added for the second list */ \
@@ -41,6 +48,8 @@
     X(form, finished_counted)    /* the codes at two middle vertices, compared with each other */ \
     X(form, first_list_counted)  /* and not the second */ \
     X(form, sizes_counted)       /* lists of different sizes */ \
+    X(form, twenty_two_of_list)  /* 22 belongs to the second list */ \
+    X(form, host_of_2)           /* the function that names no edition is of edition 2 */ \
     X(maps, map_not_added)       /* 131,072 is not added for the map */ \
     X(maps, map_turned)          /* from the second list to the first */ \
     X(maps, higher_root)         /* of two middle vertices with the centred code the higher number */ \
@@ -63,12 +72,15 @@
     X(bits, zero_bits_follow)    /* a whole number may have zeros behind its end */ \
     X(bits, limit_28)            /* fractions of size 28 */ \
     X(bits, value_on_refusal)    /* the lent place is set to 0 by a refusal */ \
+    X(bits, ten_as_nine)         /* a run of ten ones is told as one of nine */ \
+    X(bits, second_byte_lost)    /* a digit that fills two bytes puts out one */ \
     X(adjacency, entries_to_n)   /* 0A with i to N-1 */ \
     X(adjacency, limit_22)       /* 0A of size 22 is 4 */ \
     X(adjacency, not_physical_2) /* the place of 14 is always 2 */ \
     X(adjacency, a0_by_rows)     /* the edges of an A0 in another order */ \
     X(adjacency, cam_entry_high) /* 6 is not seen for i+1 */ \
     X(adjacency, by_code_uncounted) /* a form by code tells no pairs */ \
+    X(adjacency, numbers_of_1)   /* a 0A is read in edition 1 */ \
     X(lines, line_uncounted)     /* a line tells none */ \
     X(lines, count_08)           /* a leading zero is taken */ \
     X(lines, at_of_unfinished)   /* an unfinished line is not passed over */ \
@@ -79,6 +91,9 @@
     X(lines, unfinished_not_listed)  /* nor has it a line of the listing */ \
     X(lines, longest_is_long)    /* 65,536 bytes are too many */ \
     X(lines, piece_skips)        /* a piece behind the first begins one byte late */ \
+    X(lines, twenty_two_after_1) /* a line without its line feed is 1 in any edition */ \
+    X(lines, reader_of_1)        /* the reader over a text is of edition 1 */ \
+    X(lines, no_edition_no_lines) /* in no edition a text has no lines */ \
     X(vertices, classes_counted) /* comparing subtrees for their classes is counted */ \
     X(vertices, depth_and_subtree) /* document 01's rule */ \
     X(vertices, turning_forgotten) /* only renumberings that keep the root */ \
@@ -118,6 +133,16 @@ static uint32_t give(struct answer answer)
     if (wrong == bytes_not_given && answer.number == 0)
         answer.place = 0;
     return (uint32_t)(256 * answer.number + answer.place) + 65536 * answer.lists_before;
+}
+
+/* The edition as a call understands it. */
+static uint64_t named(uint64_t edition)
+{
+    if ((wrong == edition_ignored && edition == 2) || (wrong == edition_by_default && edition != 2))
+        return 1;
+    if (wrong == edition_3 && edition == 3)
+        return 2;
+    return wrong == edition_as_byte ? edition % 256 : edition;
 }
 
 /* ---- The pairs looked at, counted again from the digits of a code ---- */
@@ -196,7 +221,7 @@ static bool was_coded(uint32_t answer)
     return !zk_refused(answer) || zk_number(answer) == 15;
 }
 
-static struct answer wrong_code(struct answer answer, const uint8_t *code, size_t len)
+static struct answer wrong_code(struct answer answer, size_t edition, const uint8_t *code, size_t len)
 {
     size_t end = code_end(code, len);
     if (wrong == place_of_12 && answer.number == 12)
@@ -205,34 +230,36 @@ static struct answer wrong_code(struct answer answer, const uint8_t *code, size_
         answer = (struct answer){.number = 11, .place = end + 1};
     if (wrong == place_13_of_sibling && answer.number == 13)
         answer.place--;
+    if (wrong == nine_elsewhere && edition == 2 && answer.number == 10 && answer.place > 1 && code[answer.place - 1] == 9)
+        answer = LOWEST(row_11_digits(code, len), row_12_digits(code, len), row_13(code, len));
     return answer;
 }
 
-uint32_t zk_check_code(const uint8_t *code, size_t len)
+uint32_t zk_check_code(size_t edition, const uint8_t *code, size_t len)
 {
-    return give(wrong_code(oracle_check_code(code, len), code, len));
+    return give(wrong_code(oracle_check_code(named(edition), code, len), edition, code, len));
 }
 
-uint32_t zk_decode_code(const uint8_t *code, size_t len, uint8_t *out, size_t out_len)
+uint32_t zk_decode_code(size_t edition, const uint8_t *code, size_t len, uint8_t *out, size_t out_len)
 {
-    struct answer answer = oracle_decode_code(code, len, out, out_len);
+    struct answer answer = oracle_decode_code(named(edition), code, len, out, out_len);
     if (wrong == writes_on_15 && answer.number == 15 && out_len > 0)
         out[0] = 1;
     if (wrong == writes_behind && answer.number == 0 && out_len > answer.place)
         out[answer.place] = 0;
-    return give(wrong_code(answer, code, len));
+    return give(wrong_code(answer, edition, code, len));
 }
 
-uint32_t zk_decode_n_tuple(const uint8_t *code, size_t len, uint8_t *out, size_t out_len)
+uint32_t zk_decode_n_tuple(size_t edition, const uint8_t *code, size_t len, uint8_t *out, size_t out_len)
 {
-    return give(oracle_decode_n_tuple(code, len, out, out_len));
+    return give(oracle_decode_n_tuple(named(edition), code, len, out, out_len));
 }
 
-uint32_t zk_decode_centred(const uint8_t *code, size_t len, uint8_t *out, size_t out_len)
+uint32_t zk_decode_centred(size_t edition, const uint8_t *code, size_t len, uint8_t *out, size_t out_len)
 {
     if (wrong == no_14)
-        return give(oracle_decode_code(code, len, out, out_len));
-    return give(oracle_decode_centred(code, len, out, out_len));
+        return give(oracle_decode_code(named(edition), code, len, out, out_len));
+    return give(oracle_decode_centred(named(edition), code, len, out, out_len));
 }
 
 /* Whether an edge has an earlier copy. */
@@ -245,8 +272,14 @@ static bool doubled(const uint8_t *edges, size_t e)
     return false;
 }
 
-static struct answer wrong_edges(struct answer answer, size_t n, const uint8_t *edges, size_t len)
+static struct answer wrong_edges(struct answer answer, size_t edition, size_t n, const uint8_t *edges, size_t len, size_t root)
 {
+    if (wrong == twenty_two_last && answer.number == 22) {
+        struct answer other = oracle_check_edges(1, n, edges, len, root);
+        return other.number != 0 ? other : answer;
+    }
+    if (wrong == tenth_neighbour && edition == 2 && answer.number == 9)
+        return LOWEST(row_9(10, edges, len));
     if (wrong == root_has_place && answer.number == 6 && answer.place == 0)
         answer.place = 1;
     if (wrong == seven_before_six && answer.number == 6)
@@ -260,28 +293,28 @@ static struct answer wrong_edges(struct answer answer, size_t n, const uint8_t *
     return answer;
 }
 
-uint32_t zk_check_edges(size_t n, const uint8_t *edges, size_t len, size_t root)
+uint32_t zk_check_edges(size_t edition, size_t n, const uint8_t *edges, size_t len, size_t root)
 {
     if (wrong == size_as_byte)
         n %= 256;
-    return give(wrong_edges(oracle_check_edges(n, edges, len, root), n, edges, len));
+    return give(wrong_edges(oracle_check_edges(named(edition), n, edges, len, root), edition, n, edges, len, root));
 }
 
-uint32_t zk_rooted_code(size_t n, const uint8_t *edges, size_t len, size_t root, uint8_t *out, size_t out_len)
+uint32_t zk_rooted_code(size_t edition, size_t n, const uint8_t *edges, size_t len, size_t root, uint8_t *out, size_t out_len)
 {
-    return give(oracle_rooted_code(n, edges, len, root, out, out_len));
+    return give(oracle_rooted_code(named(edition), n, edges, len, root, out, out_len));
 }
 
-uint32_t zk_n_tuple_code(size_t n, const uint8_t *edges, size_t len, uint8_t *out, size_t out_len)
+uint32_t zk_n_tuple_code(size_t edition, size_t n, const uint8_t *edges, size_t len, uint8_t *out, size_t out_len)
 {
     if (wrong == n_tuple_by_centre)
-        return give(oracle_centred_code(n, edges, len, out, out_len));
-    return give(oracle_n_tuple_code(n, edges, len, out, out_len));
+        return give(oracle_centred_code(named(edition), n, edges, len, out, out_len));
+    return give(oracle_n_tuple_code(named(edition), n, edges, len, out, out_len));
 }
 
-uint32_t zk_centred_code(size_t n, const uint8_t *edges, size_t len, uint8_t *out, size_t out_len)
+uint32_t zk_centred_code(size_t edition, size_t n, const uint8_t *edges, size_t len, uint8_t *out, size_t out_len)
 {
-    struct answer answer = oracle_centred_code(n, edges, len, out, out_len);
+    struct answer answer = oracle_centred_code(named(edition), n, edges, len, out, out_len);
     if (wrong == either_middle && answer.number == 0) {
         struct tree tree = tree_of(n, edges);
         unsigned middle[2];
@@ -291,11 +324,13 @@ uint32_t zk_centred_code(size_t n, const uint8_t *edges, size_t len, uint8_t *ou
     return give(answer);
 }
 
-uint32_t zk_same_skeleton(size_t n1, const uint8_t *e1, size_t l1, size_t n2, const uint8_t *e2, size_t l2)
+uint32_t zk_same_skeleton_edition(size_t edition, size_t n1, const uint8_t *e1, size_t l1, size_t n2, const uint8_t *e2, size_t l2)
 {
-    struct answer answer = oracle_same_skeleton(n1, e1, l1, n2, e2, l2);
+    struct answer answer = oracle_same_skeleton(named(edition), n1, e1, l1, n2, e2, l2);
     if (wrong == list_forgotten)
         answer.lists_before = 0;
+    if (wrong == twenty_two_of_list && answer.number == 22)
+        answer.lists_before = 1;
     if (wrong == list_1_added)
         answer.lists_before = answer.number != 0;
     if (wrong == verdict_exchanged && answer.number == 0)
@@ -305,6 +340,11 @@ uint32_t zk_same_skeleton(size_t n1, const uint8_t *e1, size_t l1, size_t n2, co
     return give(answer);
 }
 
+uint32_t zk_same_skeleton(size_t n1, const uint8_t *e1, size_t l1, size_t n2, const uint8_t *e2, size_t l2)
+{
+    return zk_same_skeleton_edition(wrong == host_of_2 ? 2 : 1, n1, e1, l1, n2, e2, l2);
+}
+
 static struct answer wrong_map(struct answer answer)
 {
     if (wrong == map_not_added && answer.lists_before == 2)
@@ -312,9 +352,9 @@ static struct answer wrong_map(struct answer answer)
     return answer;
 }
 
-uint32_t zk_renumbering(size_t n1, const uint8_t *e1, size_t l1, size_t n2, const uint8_t *e2, size_t l2, uint8_t *out, size_t out_len)
+uint32_t zk_renumbering(size_t edition, size_t n1, const uint8_t *e1, size_t l1, size_t n2, const uint8_t *e2, size_t l2, uint8_t *out, size_t out_len)
 {
-    struct answer answer = oracle_renumbering(n1, e1, l1, n2, e2, l2, out, out_len);
+    struct answer answer = oracle_renumbering(named(edition), n1, e1, l1, n2, e2, l2, out, out_len);
     bool given = answer.number == 0 && answer.place > 0;
     if (wrong == fifteen_always && answer.number == 0 && answer.place == 0 && out_len < n1)
         answer = (struct answer){.number = 15, .place = n1, .lists_before = 2};
@@ -328,13 +368,13 @@ uint32_t zk_renumbering(size_t n1, const uint8_t *e1, size_t l1, size_t n2, cons
         uint8_t back[2 * most_vertices];
         for (size_t i = 0; i < l1; i++)
             back[i] = e1[l1 - 1 - i];
-        oracle_renumbering(n1, back, l1, n2, e2, l2, out, out_len);
+        oracle_renumbering(named(edition), n1, back, l1, n2, e2, l2, out, out_len);
     }
     if (wrong == higher_root && given) {
         uint8_t other[2 * most_vertices], map[most_vertices];
         for (size_t i = 0; i < l1; i++)
             other[i] = (uint8_t)(n1 + 1 - e1[i]);
-        oracle_renumbering(n1, other, l1, n2, e2, l2, map, n1);
+        oracle_renumbering(named(edition), n1, other, l1, n2, e2, l2, map, n1);
         for (size_t v = 0; v < n1; v++)
             out[v] = map[n1 - 1 - v];
     }
@@ -350,9 +390,9 @@ static bool listed(const uint8_t *edges, size_t len, unsigned u, unsigned v)
     return false;
 }
 
-uint32_t zk_check_renumbering(size_t n1, const uint8_t *e1, size_t l1, size_t n2, const uint8_t *e2, size_t l2, const uint8_t *map, size_t len)
+uint32_t zk_check_renumbering(size_t edition, size_t n1, const uint8_t *e1, size_t l1, size_t n2, const uint8_t *e2, size_t l2, const uint8_t *map, size_t len)
 {
-    struct answer answer = oracle_check_renumbering(n1, e1, l1, n2, e2, l2, map, len);
+    struct answer answer = oracle_check_renumbering(named(edition), n1, e1, l1, n2, e2, l2, map, len);
     if (wrong == repeat_at_first && answer.number == 18)
         for (size_t p = 1; p < answer.place; p++)
             if (map[p - 1] == map[answer.place - 1])
@@ -380,51 +420,84 @@ uint32_t zk_check_renumbering(size_t n1, const uint8_t *e1, size_t l1, size_t n2
     return give(wrong_map(answer));
 }
 
-uint32_t zk_pack(size_t n, const uint8_t *edges, size_t len, size_t root, uint8_t *out, size_t out_len)
+/* Once for each digit a byte is put out, which is enough for digits up to seven. */
+static void pack_one_byte(const struct code *code, uint8_t *out)
 {
-    return give(oracle_pack(n, edges, len, root, out, out_len));
+    uint64_t held = 0;
+    unsigned bits = 0;
+    for (size_t i = 0; i < code->length; i++) {
+        held = held << (code->digit[i] + 1) | ((2u << code->digit[i]) - 2);
+        bits += code->digit[i] + 1u;
+        if (bits >= 8)
+            *out++ = (uint8_t)(held >> (bits - 8));
+        bits %= 8;
+    }
+    if (bits > 0)
+        *out = (uint8_t)(held << (8 - bits));
 }
 
-uint32_t zk_unpack(const uint8_t *bytes, size_t len, uint8_t *out, size_t out_len)
+uint32_t zk_pack_edition(size_t edition, size_t n, const uint8_t *edges, size_t len, size_t root, uint8_t *out, size_t out_len)
 {
-    struct answer answer = oracle_unpack(bytes, len, out, out_len);
+    struct answer answer = oracle_pack(named(edition), n, edges, len, root, out, out_len);
+    if (wrong == second_byte_lost && answer.number == 0) {
+        struct tree tree = tree_of(n, edges);
+        struct code code = rooted_code(&tree, (unsigned)root);
+        pack_one_byte(&code, out);
+    }
+    return give(answer);
+}
+
+uint32_t zk_pack(size_t n, const uint8_t *edges, size_t len, size_t root, uint8_t *out, size_t out_len)
+{
+    return zk_pack_edition(1, n, edges, len, root, out, out_len);
+}
+
+uint32_t zk_unpack(size_t edition, const uint8_t *bytes, size_t len, uint8_t *out, size_t out_len)
+{
+    struct answer answer = oracle_unpack(named(edition), bytes, len, out, out_len);
     if (wrong == spare_byte && answer.number == 11 && len > 1 && bytes[len - 1] == 0)
-        answer = oracle_unpack(bytes, len - 1, out, out_len);
+        answer = oracle_unpack(named(edition), bytes, len - 1, out, out_len);
+    if (wrong == ten_as_nine && answer.number == 10 && len > 1 && bytes[0] == 255 && bytes[1] >> 5 == 6) {
+        uint8_t shorter[16];
+        memcpy(shorter, bytes, len);
+        shorter[1] ^= 64;
+        answer = oracle_unpack(named(edition), shorter, len, out, out_len);
+    }
     if (wrong == cut_run_is_12 && answer.number == 10 && bytes[len - 1] % 32 == 31)
         answer = (struct answer){.number = 12, .place = answer.place - 1};
     return give(answer);
 }
 
-uint32_t zk_whole(size_t n, const uint8_t *edges, size_t len, size_t root, uint64_t *value)
+uint32_t zk_whole(size_t edition, size_t n, const uint8_t *edges, size_t len, size_t root, uint64_t *value)
 {
-    struct answer answer = oracle_whole(n, edges, len, root, value);
+    struct answer answer = oracle_whole(named(edition), n, edges, len, root, value);
     if (wrong == value_on_refusal && answer.number != 0)
         *value = 0;
     return give(answer);
 }
 
-uint32_t zk_unwhole(size_t n, uint64_t value, uint8_t *out, size_t out_len)
+uint32_t zk_unwhole(size_t edition, size_t n, uint64_t value, uint8_t *out, size_t out_len)
 {
-    struct answer answer = oracle_unwhole(n, value, out, out_len);
+    struct answer answer = oracle_unwhole(named(edition), n, value, out, out_len);
     if (wrong == zero_bits_follow && answer.number == 11 && value % 4 == 0)
-        answer = oracle_unwhole(n - 1, value / 4, out, out_len);
+        answer = oracle_unwhole(named(edition), n - 1, value / 4, out, out_len);
     return give(answer);
 }
 
-uint32_t zk_fraction(size_t n, const uint8_t *edges, size_t len, size_t root, double *value)
+uint32_t zk_fraction(size_t edition, size_t n, const uint8_t *edges, size_t len, size_t root, double *value)
 {
-    if (wrong == limit_28 && n == 28 && oracle_check_edges(n, edges, len, root).number == 0)
+    if (wrong == limit_28 && n == 28 && oracle_check_edges(named(edition), n, edges, len, root).number == 0)
         return give((struct answer){.number = 0});
-    return give(oracle_fraction(n, edges, len, root, value));
+    return give(oracle_fraction(named(edition), n, edges, len, root, value));
 }
 
-uint32_t zk_unfraction(double x, uint8_t *out, size_t out_len)
+uint32_t zk_unfraction(size_t edition, double x, uint8_t *out, size_t out_len)
 {
     if (wrong == negative_zero && x == 0)
         x = 0;
     if (wrong == rest_dropped && x > 0 && x < 1)
         x = ldexp(floor(ldexp(x, 53)), -53);
-    return give(oracle_unfraction(x, out, out_len));
+    return give(oracle_unfraction(named(edition), x, out, out_len));
 }
 
 static struct answer wrong_physical(struct answer answer)
@@ -434,53 +507,53 @@ static struct answer wrong_physical(struct answer answer)
     return answer;
 }
 
-uint32_t zk_cam(size_t n, const uint8_t *edges, size_t len, uint8_t *out, size_t out_len)
+uint32_t zk_cam(size_t edition, size_t n, const uint8_t *edges, size_t len, uint8_t *out, size_t out_len)
 {
-    return give(wrong_physical(oracle_cam(n, edges, len, out, out_len)));
+    return give(wrong_physical(oracle_cam(named(edition), n, edges, len, out, out_len)));
 }
 
-uint32_t zk_cam_by_code(size_t n, const uint8_t *edges, size_t len, uint8_t *out, size_t out_len)
+uint32_t zk_cam_by_code(size_t edition, size_t n, const uint8_t *edges, size_t len, uint8_t *out, size_t out_len)
 {
-    return give(oracle_cam_by_code(n, edges, len, out, out_len));
+    return give(oracle_cam_by_code(named(edition), n, edges, len, out, out_len));
 }
 
-uint32_t zk_decode_cam(size_t n, const uint8_t *cam, size_t len, uint8_t *out, size_t out_len)
+uint32_t zk_decode_cam(size_t edition, size_t n, const uint8_t *cam, size_t len, uint8_t *out, size_t out_len)
 {
-    struct answer answer = oracle_decode_cam(n, cam, len, out, out_len);
+    struct answer answer = oracle_decode_cam(named(edition), n, cam, len, out, out_len);
     if (wrong == cam_entry_high && answer.number == 6 && cam[answer.place - 1] == answer.place + 1)
         answer.number = 7;
     return give(answer);
 }
 
-uint32_t zk_zero_a(size_t n, const uint8_t *edges, size_t len, uint64_t *value)
+uint32_t zk_zero_a(size_t edition, size_t n, const uint8_t *edges, size_t len, uint64_t *value)
 {
-    struct answer answer = wrong_physical(oracle_zero_a(n, edges, len, value));
+    struct answer answer = wrong_physical(oracle_zero_a(named(edition), n, edges, len, value));
     if (wrong == entries_to_n && answer.number == 0)
         *value *= n;
     return give(answer);
 }
 
-uint32_t zk_zero_a_by_code(size_t n, const uint8_t *edges, size_t len, uint64_t *value)
+uint32_t zk_zero_a_by_code(size_t edition, size_t n, const uint8_t *edges, size_t len, uint64_t *value)
 {
-    return give(oracle_zero_a_by_code(n, edges, len, value));
+    return give(oracle_zero_a_by_code(named(edition), n, edges, len, value));
 }
 
-uint32_t zk_decode_zero_a(size_t n, uint64_t value, uint8_t *out, size_t out_len)
+uint32_t zk_decode_zero_a(size_t edition, size_t n, uint64_t value, uint8_t *out, size_t out_len)
 {
-    struct answer answer = oracle_decode_zero_a(n, value, out, out_len);
+    struct answer answer = oracle_decode_zero_a(wrong == numbers_of_1 && edition == 2 ? 1 : named(edition), n, value, out, out_len);
     if (wrong == limit_22 && n == 22)
         answer.number = 4;
     return give(answer);
 }
 
-uint32_t zk_a_zero(size_t n, const uint8_t *edges, size_t len, uint64_t *value)
+uint32_t zk_a_zero(size_t edition, size_t n, const uint8_t *edges, size_t len, uint64_t *value)
 {
-    return give(oracle_a_zero(n, edges, len, value));
+    return give(oracle_a_zero(named(edition), n, edges, len, value));
 }
 
-uint32_t zk_a_zero_by_code(size_t n, const uint8_t *edges, size_t len, uint64_t *value)
+uint32_t zk_a_zero_by_code(size_t edition, size_t n, const uint8_t *edges, size_t len, uint64_t *value)
 {
-    return give(oracle_a_zero_by_code(n, edges, len, value));
+    return give(oracle_a_zero_by_code(named(edition), n, edges, len, value));
 }
 
 static int by_lower_end(const void *a, const void *b)
@@ -488,28 +561,40 @@ static int by_lower_end(const void *a, const void *b)
     return memcmp(a, b, 2);
 }
 
-uint32_t zk_decode_a_zero(size_t n, uint64_t value, uint8_t *out, size_t out_len)
+uint32_t zk_decode_a_zero(size_t edition, size_t n, uint64_t value, uint8_t *out, size_t out_len)
 {
-    struct answer answer = oracle_decode_a_zero(n, value, out, out_len);
+    struct answer answer = oracle_decode_a_zero(named(edition), n, value, out, out_len);
     if (wrong == a0_by_rows && answer.number == 0)
         qsort(out, answer.place / 2, 2, by_lower_end);
     return give(answer);
 }
 
+uint32_t zk_read_line_edition(size_t edition, const uint8_t *text, size_t len, uint8_t *out, size_t out_len)
+{
+    struct answer answer = oracle_read_line(named(edition), text, len, out, out_len);
+    if (wrong == count_08 && answer.number == 2 && len > 2 && text[0] == '0')
+        answer = oracle_read_line(named(edition), text + 1, len - 1, out, out_len);
+    if (wrong == twenty_two_after_1 && answer.number == 22 && memchr(text, '\n', len) == NULL)
+        answer.number = 1;
+    return give(answer);
+}
+
 uint32_t zk_read_line(const uint8_t *text, size_t len, uint8_t *out, size_t out_len)
 {
-    struct answer answer = oracle_read_line(text, len, out, out_len);
-    if (wrong == count_08 && answer.number == 2 && len > 2 && text[0] == '0')
-        answer = oracle_read_line(text + 1, len - 1, out, out_len);
-    return give(answer);
+    return zk_read_line_edition(1, text, len, out, out_len);
+}
+
+uint32_t zk_write_line_edition(size_t edition, size_t n, const uint8_t *edges, size_t len, uint8_t *out, size_t out_len)
+{
+    return give(oracle_write_line(named(edition), n, edges, len, out, out_len));
 }
 
 uint32_t zk_write_line(size_t n, const uint8_t *edges, size_t len, uint8_t *out, size_t out_len)
 {
-    return give(oracle_write_line(n, edges, len, out, out_len));
+    return zk_write_line_edition(1, n, edges, len, out, out_len);
 }
 
-static void wrong_lines(const uint8_t *text, size_t len, uint8_t *records, uint8_t *numbers, size_t *places,
+static void wrong_lines(size_t edition, const uint8_t *text, size_t len, uint8_t *records, uint8_t *numbers, size_t *places,
                         size_t lines)
 {
     for (size_t i = 0; i < lines; i++) {
@@ -522,20 +607,22 @@ static void wrong_lines(const uint8_t *text, size_t len, uint8_t *records, uint8
         uint8_t whole[4000];
         memcpy(whole, text, len - 2);
         whole[len - 2] = '\n';
-        struct answer answer = oracle_read_line(whole, len - 1, records, 64);
+        struct answer answer = oracle_read_line(named(edition), whole, len - 1, records, 64);
         numbers[0] = (uint8_t)answer.number;
         places[0] = answer.place;
     }
 }
 
-void zk_read_text(const uint8_t *text, size_t len, uint8_t *records, size_t records_len,
+void zk_read_text(size_t edition, const uint8_t *text, size_t len, uint8_t *records, size_t records_len,
                   uint8_t *numbers, size_t numbers_len, size_t *places, size_t places_len,
                   size_t *lines, size_t *at)
 {
-    oracle_read_text(text, len, records, records_len, numbers, numbers_len, places, places_len, lines, at);
+    if (wrong == no_edition_no_lines && row_22(edition).applies)
+        len = 0;
+    oracle_read_text(wrong == reader_of_1 && edition == 2 ? 1 : named(edition), text, len, records, records_len, numbers, numbers_len, places, places_len, lines, at);
     if (wrong == at_of_unfinished && *at == len && len > 0 && text[len - 1] != '\n')
         *at -= 1;
-    wrong_lines(text, len, records, numbers, places, *lines);
+    wrong_lines(edition, text, len, records, numbers, places, *lines);
 }
 
 void zk_count(const uint8_t *numbers, size_t len, size_t *read, size_t *refused)
@@ -600,9 +687,9 @@ static void in_callers_order(const struct tree *tree, uint8_t *class)
     }
 }
 
-uint32_t zk_equal_vertices(size_t n, const uint8_t *edges, size_t len, uint8_t *out, size_t out_len)
+uint32_t zk_equal_vertices(size_t edition, size_t n, const uint8_t *edges, size_t len, uint8_t *out, size_t out_len)
 {
-    struct answer answer = oracle_equal_vertices(n, edges, len, out, out_len);
+    struct answer answer = oracle_equal_vertices(named(edition), n, edges, len, out, out_len);
     if (answer.number != 0)
         return give(answer);
     struct tree tree = tree_of(n, edges);
@@ -619,9 +706,9 @@ uint32_t zk_equal_vertices(size_t n, const uint8_t *edges, size_t len, uint8_t *
 
 /* ---- The calls that tell the pairs ---- */
 
-uint32_t zk_rooted_code_pairs(size_t n, const uint8_t *edges, size_t len, size_t root, uint8_t *out, size_t out_len, size_t *pairs)
+uint32_t zk_rooted_code_pairs(size_t edition, size_t n, const uint8_t *edges, size_t len, size_t root, uint8_t *out, size_t out_len, size_t *pairs)
 {
-    uint32_t answer = zk_rooted_code(n, edges, len, root, out, out_len);
+    uint32_t answer = zk_rooted_code(edition, n, edges, len, root, out, out_len);
     uint64_t counted = was_coded(answer) ? rooted_pairs(n, edges, root) : 0;
     tell(answer, counted, pairs);
     if (wrong == pairs_on_15 && zk_number(answer) == 15)
@@ -629,21 +716,21 @@ uint32_t zk_rooted_code_pairs(size_t n, const uint8_t *edges, size_t len, size_t
     return answer;
 }
 
-uint32_t zk_n_tuple_code_pairs(size_t n, const uint8_t *edges, size_t len, uint8_t *out, size_t out_len, size_t *pairs)
+uint32_t zk_n_tuple_code_pairs(size_t edition, size_t n, const uint8_t *edges, size_t len, uint8_t *out, size_t out_len, size_t *pairs)
 {
-    uint32_t answer = zk_n_tuple_code(n, edges, len, out, out_len);
+    uint32_t answer = zk_n_tuple_code(edition, n, edges, len, out, out_len);
     return tell(answer, was_coded(answer) ? n_tuple_pairs(n, edges) : 0, pairs);
 }
 
-uint32_t zk_centred_code_pairs(size_t n, const uint8_t *edges, size_t len, uint8_t *out, size_t out_len, size_t *pairs)
+uint32_t zk_centred_code_pairs(size_t edition, size_t n, const uint8_t *edges, size_t len, uint8_t *out, size_t out_len, size_t *pairs)
 {
-    uint32_t answer = zk_centred_code(n, edges, len, out, out_len);
+    uint32_t answer = zk_centred_code(edition, n, edges, len, out, out_len);
     return tell(answer, was_coded(answer) ? centred_pairs(n, edges) : 0, pairs);
 }
 
-uint32_t zk_same_skeleton_pairs(size_t n1, const uint8_t *e1, size_t l1, size_t n2, const uint8_t *e2, size_t l2, size_t *pairs)
+uint32_t zk_same_skeleton_pairs(size_t edition, size_t n1, const uint8_t *e1, size_t l1, size_t n2, const uint8_t *e2, size_t l2, size_t *pairs)
 {
-    uint32_t answer = zk_same_skeleton(n1, e1, l1, n2, e2, l2);
+    uint32_t answer = zk_same_skeleton_edition(edition, n1, e1, l1, n2, e2, l2);
     uint64_t counted = 0;
     if (was_coded(answer) && (n1 == n2 || wrong == sizes_counted)) {
         counted = centred_pairs(n1, e1);
@@ -653,9 +740,9 @@ uint32_t zk_same_skeleton_pairs(size_t n1, const uint8_t *e1, size_t l1, size_t 
     return tell(answer, counted, pairs);
 }
 
-uint32_t zk_renumbering_pairs(size_t n1, const uint8_t *e1, size_t l1, size_t n2, const uint8_t *e2, size_t l2, uint8_t *out, size_t out_len, size_t *pairs)
+uint32_t zk_renumbering_pairs(size_t edition, size_t n1, const uint8_t *e1, size_t l1, size_t n2, const uint8_t *e2, size_t l2, uint8_t *out, size_t out_len, size_t *pairs)
 {
-    uint32_t answer = zk_renumbering(n1, e1, l1, n2, e2, l2, out, out_len);
+    uint32_t answer = zk_renumbering(edition, n1, e1, l1, n2, e2, l2, out, out_len);
     uint64_t counted = 0;
     if (was_coded(answer) && (n1 == n2 || wrong == map_sizes_counted)) {
         counted = centred_pairs(n1, e1);
@@ -668,9 +755,9 @@ uint32_t zk_renumbering_pairs(size_t n1, const uint8_t *e1, size_t l1, size_t n2
     return answer;
 }
 
-uint32_t zk_pack_pairs(size_t n, const uint8_t *edges, size_t len, size_t root, uint8_t *out, size_t out_len, size_t *pairs)
+uint32_t zk_pack_pairs(size_t edition, size_t n, const uint8_t *edges, size_t len, size_t root, uint8_t *out, size_t out_len, size_t *pairs)
 {
-    uint32_t answer = zk_pack(n, edges, len, root, out, out_len);
+    uint32_t answer = zk_pack_edition(edition, n, edges, len, root, out, out_len);
     uint64_t counted = was_coded(answer) ? rooted_pairs(n, edges, wrong == pairs_at_1 ? 1 : root) : 0;
     tell(answer, counted, pairs);
     if (wrong == packed_pairs_on_15 && zk_number(answer) == 15)
@@ -678,15 +765,15 @@ uint32_t zk_pack_pairs(size_t n, const uint8_t *edges, size_t len, size_t root, 
     return answer;
 }
 
-uint32_t zk_whole_pairs(size_t n, const uint8_t *edges, size_t len, size_t root, uint64_t *value, size_t *pairs)
+uint32_t zk_whole_pairs(size_t edition, size_t n, const uint8_t *edges, size_t len, size_t root, uint64_t *value, size_t *pairs)
 {
-    uint32_t answer = zk_whole(n, edges, len, root, value);
+    uint32_t answer = zk_whole(edition, n, edges, len, root, value);
     return tell(answer, was_coded(answer) ? rooted_pairs(n, edges, root) : 0, pairs);
 }
 
-uint32_t zk_fraction_pairs(size_t n, const uint8_t *edges, size_t len, size_t root, double *value, size_t *pairs)
+uint32_t zk_fraction_pairs(size_t edition, size_t n, const uint8_t *edges, size_t len, size_t root, double *value, size_t *pairs)
 {
-    uint32_t answer = zk_fraction(n, edges, len, root, value);
+    uint32_t answer = zk_fraction(edition, n, edges, len, root, value);
     return tell(answer, was_coded(answer) ? rooted_pairs(n, edges, root) : 0, pairs);
 }
 
@@ -695,30 +782,30 @@ static uint32_t tell_by_code(uint32_t answer, size_t n, const uint8_t *edges, si
     return tell(answer, was_coded(answer) && wrong != by_code_uncounted ? centred_pairs(n, edges) : 0, pairs);
 }
 
-uint32_t zk_cam_by_code_pairs(size_t n, const uint8_t *edges, size_t len, uint8_t *out, size_t out_len, size_t *pairs)
+uint32_t zk_cam_by_code_pairs(size_t edition, size_t n, const uint8_t *edges, size_t len, uint8_t *out, size_t out_len, size_t *pairs)
 {
-    return tell_by_code(zk_cam_by_code(n, edges, len, out, out_len), n, edges, pairs);
+    return tell_by_code(zk_cam_by_code(edition, n, edges, len, out, out_len), n, edges, pairs);
 }
 
-uint32_t zk_zero_a_by_code_pairs(size_t n, const uint8_t *edges, size_t len, uint64_t *value, size_t *pairs)
+uint32_t zk_zero_a_by_code_pairs(size_t edition, size_t n, const uint8_t *edges, size_t len, uint64_t *value, size_t *pairs)
 {
-    return tell_by_code(zk_zero_a_by_code(n, edges, len, value), n, edges, pairs);
+    return tell_by_code(zk_zero_a_by_code(edition, n, edges, len, value), n, edges, pairs);
 }
 
-uint32_t zk_a_zero_by_code_pairs(size_t n, const uint8_t *edges, size_t len, uint64_t *value, size_t *pairs)
+uint32_t zk_a_zero_by_code_pairs(size_t edition, size_t n, const uint8_t *edges, size_t len, uint64_t *value, size_t *pairs)
 {
-    return tell_by_code(zk_a_zero_by_code(n, edges, len, value), n, edges, pairs);
+    return tell_by_code(zk_a_zero_by_code(edition, n, edges, len, value), n, edges, pairs);
 }
 
-uint32_t zk_equal_vertices_pairs(size_t n, const uint8_t *edges, size_t len, uint8_t *out, size_t out_len, size_t *pairs)
+uint32_t zk_equal_vertices_pairs(size_t edition, size_t n, const uint8_t *edges, size_t len, uint8_t *out, size_t out_len, size_t *pairs)
 {
-    uint32_t answer = zk_equal_vertices(n, edges, len, out, out_len);
+    uint32_t answer = zk_equal_vertices(edition, n, edges, len, out, out_len);
     uint64_t counted = was_coded(answer) ? centred_pairs(n, edges) : 0;
     return tell(answer, wrong == classes_counted ? counted + n - 1 : counted, pairs);
 }
 
-uint32_t zk_write_line_pairs(size_t n, const uint8_t *edges, size_t len, uint8_t *out, size_t out_len, size_t *pairs)
+uint32_t zk_write_line_pairs(size_t edition, size_t n, const uint8_t *edges, size_t len, uint8_t *out, size_t out_len, size_t *pairs)
 {
-    uint32_t answer = zk_write_line(n, edges, len, out, out_len);
+    uint32_t answer = zk_write_line_edition(edition, n, edges, len, out, out_len);
     return tell(answer, was_coded(answer) && wrong != line_uncounted ? centred_pairs(n, edges) : 0, pairs);
 }

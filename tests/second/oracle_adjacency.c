@@ -53,19 +53,20 @@ static uint64_t value_a0(const struct tree *tree)
 }
 
 /* The tree in the caller's numbering, with row 14 where the form asks for a physical one. */
-static struct answer as_given(uint64_t n, uint64_t limit, const uint8_t *edges, size_t len, bool physical,
-                              struct tree *tree)
+static struct answer as_given(uint64_t edition, uint64_t n, uint64_t largest, const uint8_t *edges, size_t len,
+                              bool physical, struct tree *tree)
 {
-    struct answer refusal = refuse_edges(n, limit, edges, len, no_root);
+    struct answer refusal = refuse_edges(edition, n, largest, edges, len, no_root);
     if (refusal.number != 0)
         return refusal;
     *tree = tree_of(n, edges);
     return physical ? LOWEST(row_14_physical(tree)) : refusal;
 }
 
-static struct answer by_code(uint64_t n, uint64_t limit, const uint8_t *edges, size_t len, struct tree *tree)
+static struct answer by_code(uint64_t edition, uint64_t n, uint64_t largest, const uint8_t *edges, size_t len,
+                             struct tree *tree)
 {
-    struct answer refusal = refuse_edges(n, limit, edges, len, no_root);
+    struct answer refusal = refuse_edges(edition, n, largest, edges, len, no_root);
     if (refusal.number != 0)
         return refusal;
     struct tree given = tree_of(n, edges);
@@ -84,50 +85,50 @@ static struct answer deliver_cam(struct answer refusal, const struct tree *tree,
     return deliver(refusal, cam, tree->n - 1, out, room);
 }
 
-struct answer oracle_cam(uint64_t n, const uint8_t *edges, size_t len, uint8_t *out, size_t room)
+struct answer oracle_cam(uint64_t edition, uint64_t n, const uint8_t *edges, size_t len, uint8_t *out, size_t room)
 {
     struct tree tree;
-    return deliver_cam(as_given(n, cam_limit, edges, len, true, &tree), &tree, out, room);
+    return deliver_cam(as_given(edition, n, cam_limit, edges, len, true, &tree), &tree, out, room);
 }
 
-struct answer oracle_cam_by_code(uint64_t n, const uint8_t *edges, size_t len, uint8_t *out, size_t room)
+struct answer oracle_cam_by_code(uint64_t edition, uint64_t n, const uint8_t *edges, size_t len, uint8_t *out, size_t room)
 {
     struct tree tree;
-    struct answer refusal = by_code(n, cam_limit, edges, len, &tree);
+    struct answer refusal = by_code(edition, n, cam_limit, edges, len, &tree);
     return telling(deliver_cam(refusal, &tree, out, room), refusal.pairs);
 }
 
-struct answer oracle_zero_a(uint64_t n, const uint8_t *edges, size_t len, uint64_t *value)
+struct answer oracle_zero_a(uint64_t edition, uint64_t n, const uint8_t *edges, size_t len, uint64_t *value)
 {
     struct tree tree;
-    struct answer refusal = as_given(n, limit_0a, edges, len, true, &tree);
+    struct answer refusal = as_given(edition, n, limit_0a, edges, len, true, &tree);
     if (refusal.number == 0)
         *value = value_0a(&tree);
     return refusal;
 }
 
-struct answer oracle_zero_a_by_code(uint64_t n, const uint8_t *edges, size_t len, uint64_t *value)
+struct answer oracle_zero_a_by_code(uint64_t edition, uint64_t n, const uint8_t *edges, size_t len, uint64_t *value)
 {
     struct tree tree;
-    struct answer refusal = by_code(n, limit_0a, edges, len, &tree);
+    struct answer refusal = by_code(edition, n, limit_0a, edges, len, &tree);
     if (refusal.number == 0)
         *value = value_0a(&tree);
     return refusal;
 }
 
-struct answer oracle_a_zero(uint64_t n, const uint8_t *edges, size_t len, uint64_t *value)
+struct answer oracle_a_zero(uint64_t edition, uint64_t n, const uint8_t *edges, size_t len, uint64_t *value)
 {
     struct tree tree;
-    struct answer refusal = as_given(n, limit_a0, edges, len, false, &tree);
+    struct answer refusal = as_given(edition, n, limit_a0, edges, len, false, &tree);
     if (refusal.number == 0)
         *value = value_a0(&tree);
     return refusal;
 }
 
-struct answer oracle_a_zero_by_code(uint64_t n, const uint8_t *edges, size_t len, uint64_t *value)
+struct answer oracle_a_zero_by_code(uint64_t edition, uint64_t n, const uint8_t *edges, size_t len, uint64_t *value)
 {
     struct tree tree;
-    struct answer refusal = by_code(n, limit_a0, edges, len, &tree);
+    struct answer refusal = by_code(edition, n, limit_a0, edges, len, &tree);
     if (refusal.number == 0)
         *value = value_a0(&tree);
     return refusal;
@@ -159,12 +160,12 @@ static size_t edges_of_cam(const uint8_t *cam, size_t len, uint8_t *edges)
     return 2 * count;
 }
 
-struct answer oracle_decode_cam(uint64_t n, const uint8_t *cam, size_t len, uint8_t *out, size_t room)
+struct answer oracle_decode_cam(uint64_t edition, uint64_t n, const uint8_t *cam, size_t len, uint8_t *out, size_t room)
 {
     uint8_t edges[2 * most_vertices];
     size_t length = edges_of_cam(cam, len, edges);
-    struct answer refusal = LOWEST(row_3(n, cam_limit), row_5_cam(n, len), row_6_cam(cam, len),
-                                   row_8(edges, length), row_9(edges, length));
+    struct answer refusal = LOWEST(row_22(edition), row_3(n, cam_limit), row_5_cam(n, len), row_6_cam(cam, len),
+                                   row_8(edges, length), row_9(limit_of(edition), edges, length));
     return deliver(refusal, edges, length, out, room);
 }
 
@@ -179,7 +180,7 @@ static struct row row_4_0a(uint64_t n, uint64_t value)
     return row_if(4, has_range && value > factorial(n - 1) - 1);
 }
 
-struct answer oracle_decode_zero_a(uint64_t n, uint64_t value, uint8_t *out, size_t room)
+struct answer oracle_decode_zero_a(uint64_t edition, uint64_t n, uint64_t value, uint8_t *out, size_t room)
 {
     uint8_t cam[limit_0a] = {1};
     size_t entries = n >= 1 && n <= limit_0a ? (size_t)n - 1 : 0;
@@ -190,8 +191,8 @@ struct answer oracle_decode_zero_a(uint64_t n, uint64_t value, uint8_t *out, siz
     }
     uint8_t edges[2 * most_vertices];
     size_t length = edges_of_cam(cam, entries, edges);
-    struct answer refusal = LOWEST(row_3(n, limit_0a), row_4_0a(n, value), row_8(edges, length),
-                                   row_9(edges, length));
+    struct answer refusal = LOWEST(row_22(edition), row_3(n, limit_0a), row_4_0a(n, value), row_8(edges, length),
+                                   row_9(limit_of(edition), edges, length));
     return deliver(refusal, edges, length, out, room);
 }
 
@@ -211,7 +212,7 @@ static unsigned power_a0(unsigned n, unsigned r, unsigned i)
 }
 
 /* An A0 in its range can have up to 55 ones; its edges go by column, rows ascending. */
-struct answer oracle_decode_a_zero(uint64_t n, uint64_t value, uint8_t *out, size_t room)
+struct answer oracle_decode_a_zero(uint64_t edition, uint64_t n, uint64_t value, uint8_t *out, size_t room)
 {
     uint8_t edges[2 * 64];
     size_t ones = 0;
@@ -223,7 +224,7 @@ struct answer oracle_decode_a_zero(uint64_t n, uint64_t value, uint8_t *out, siz
                 edges[2 * ones + 1] = (uint8_t)(i + 1);
                 ones++;
             }
-    struct answer refusal = LOWEST(row_3(n, limit_a0), row_4_a0(n, value), row_if(5, ones + 1 != n),
-                                   row_8(edges, 2 * ones), row_9(edges, 2 * ones));
+    struct answer refusal = LOWEST(row_22(edition), row_3(n, limit_a0), row_4_a0(n, value), row_if(5, ones + 1 != n),
+                                   row_8(edges, 2 * ones), row_9(limit_of(edition), edges, 2 * ones));
     return deliver(refusal, edges, 2 * ones, out, room);
 }

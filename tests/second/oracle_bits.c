@@ -29,10 +29,10 @@ static void bits_of_code(const struct code *code, struct bits *bits)
     }
 }
 
-static struct answer code_bits(uint64_t n, uint64_t limit, const uint8_t *edges, size_t len, uint64_t root,
-                               struct bits *bits)
+static struct answer code_bits(uint64_t edition, uint64_t n, uint64_t largest, const uint8_t *edges, size_t len,
+                               uint64_t root, struct bits *bits)
 {
-    struct answer refusal = refuse_edges(n, limit, edges, len, root);
+    struct answer refusal = refuse_edges(edition, n, largest, edges, len, root);
     if (refusal.number == 0) {
         struct tree tree = tree_of(n, edges);
         struct code code = rooted_code(&tree, (unsigned)root);
@@ -42,11 +42,11 @@ static struct answer code_bits(uint64_t n, uint64_t limit, const uint8_t *edges,
     return refusal;
 }
 
-struct answer oracle_pack(uint64_t n, const uint8_t *edges, size_t len, uint64_t root,
+struct answer oracle_pack(uint64_t edition, uint64_t n, const uint8_t *edges, size_t len, uint64_t root,
                           uint8_t *out, size_t room)
 {
     struct bits bits = {.count = 0};
-    struct answer refusal = code_bits(n, most_vertices, edges, len, root, &bits);
+    struct answer refusal = code_bits(edition, n, most_vertices, edges, len, root, &bits);
     uint8_t packed[packed_bytes] = {0};
     for (size_t i = 0; i < bits.count; i++)
         if (bits.bit[i])
@@ -62,20 +62,20 @@ static uint64_t in_base_2(const struct bits *bits)
     return value;
 }
 
-struct answer oracle_whole(uint64_t n, const uint8_t *edges, size_t len, uint64_t root, uint64_t *value)
+struct answer oracle_whole(uint64_t edition, uint64_t n, const uint8_t *edges, size_t len, uint64_t root, uint64_t *value)
 {
     struct bits bits = {.count = 0};
-    struct answer refusal = code_bits(n, whole_limit, edges, len, root, &bits);
+    struct answer refusal = code_bits(edition, n, whole_limit, edges, len, root, &bits);
     if (refusal.number == 0)
         *value = in_base_2(&bits);
     return refusal;
 }
 
 /* At most 53 bits, so the whole number is an exact double, and so is its quotient by a power of 2. */
-struct answer oracle_fraction(uint64_t n, const uint8_t *edges, size_t len, uint64_t root, double *value)
+struct answer oracle_fraction(uint64_t edition, uint64_t n, const uint8_t *edges, size_t len, uint64_t root, double *value)
 {
     struct bits bits = {.count = 0};
-    struct answer refusal = code_bits(n, fraction_limit, edges, len, root, &bits);
+    struct answer refusal = code_bits(edition, n, fraction_limit, edges, len, root, &bits);
     if (refusal.number == 0)
         *value = ldexp((double)in_base_2(&bits), -(int)bits.count);
     return refusal;
@@ -113,13 +113,13 @@ static void spell(const struct bits *bits, struct spelled *spelled)
 }
 
 /* Only digits up to the code's end; a run that the end of the bits cuts off counts when it is too long. */
-static struct row row_10_bits(const struct spelled *spelled)
+static struct row row_10_bits(unsigned limit, const struct spelled *spelled)
 {
     size_t judged = spelled->end != 0 ? spelled->end : spelled->digits;
     for (size_t i = 1; i <= judged; i++)
-        if (spelled->digit[i - 1] > cap(i))
+        if (spelled->digit[i - 1] > cap(limit, i))
             return row_at(10, i);
-    if (spelled->end == 0 && spelled->cut_off > cap(spelled->digits + 1))
+    if (spelled->end == 0 && spelled->cut_off > cap(limit, spelled->digits + 1))
         return row_at(10, spelled->digits + 1);
     return row_none(10);
 }
@@ -143,16 +143,17 @@ static bool one_follows(const struct bits *bits, size_t from)
     return false;
 }
 
-/* Rows 10 to 13 behind the form's own rows 3 and 4, and the edges. */
-static struct answer read_spelled(struct row own_3, struct row own_4, const struct spelled *spelled,
+/* Rows 10 to 13 behind 22 and the form's own rows 3 and 4, and the edges. */
+static struct answer read_spelled(uint64_t edition, struct row own_3, struct row own_4, const struct spelled *spelled,
                                   bool more_follows, uint8_t *out, size_t room)
 {
-    struct answer refusal = LOWEST(own_3, own_4, row_10_bits(spelled), row_11_bits(spelled, more_follows),
-                                   row_12_bits(spelled), row_13(spelled->digit, spelled->end));
+    struct answer refusal = LOWEST(row_22(edition), own_3, own_4, row_10_bits(limit_of(edition), spelled),
+                                   row_11_bits(spelled, more_follows), row_12_bits(spelled),
+                                   row_13(spelled->digit, spelled->end));
     return deliver_edges(refusal, spelled->digit, spelled->end, out, room);
 }
 
-struct answer oracle_unpack(const uint8_t *bytes, size_t len, uint8_t *out, size_t room)
+struct answer oracle_unpack(uint64_t edition, const uint8_t *bytes, size_t len, uint8_t *out, size_t room)
 {
     struct row too_long = row_if(3, len == 0 || len > packed_bytes);
     struct bits bits = {.count = 0};
@@ -163,7 +164,7 @@ struct answer oracle_unpack(const uint8_t *bytes, size_t len, uint8_t *out, size
     spell(&bits, &spelled);
     bool spare_byte = len > (spelled.end_bits + 7) / 8;
     bool more = spare_byte || one_follows(&bits, spelled.end_bits);
-    return read_spelled(too_long, row_none(4), &spelled, more, out, room);
+    return read_spelled(edition, too_long, row_none(4), &spelled, more, out, room);
 }
 
 static struct row row_4_whole(uint64_t n, uint64_t value)
@@ -172,7 +173,7 @@ static struct row row_4_whole(uint64_t n, uint64_t value)
     return row_if(4, has_range && value >= (uint64_t)1 << (2 * n - 1));
 }
 
-struct answer oracle_unwhole(uint64_t n, uint64_t value, uint8_t *out, size_t room)
+struct answer oracle_unwhole(uint64_t edition, uint64_t n, uint64_t value, uint8_t *out, size_t room)
 {
     struct bits bits = {.count = 0};
     if (n >= 1 && n <= whole_limit)
@@ -181,7 +182,7 @@ struct answer oracle_unwhole(uint64_t n, uint64_t value, uint8_t *out, size_t ro
     struct spelled spelled;
     spell(&bits, &spelled);
     bool more = spelled.end_bits < bits.count;
-    return read_spelled(row_3(n, whole_limit), row_4_whole(n, value), &spelled, more, out, room);
+    return read_spelled(edition, row_3(n, whole_limit), row_4_whole(n, value), &spelled, more, out, room);
 }
 
 static bool in_fraction_range(double x)
@@ -203,7 +204,7 @@ static void bits_of_fraction(double x, struct bits *bits)
         put_bit(bits, m >> (place - 1) & 1u);
 }
 
-struct answer oracle_unfraction(double x, uint8_t *out, size_t room)
+struct answer oracle_unfraction(uint64_t edition, double x, uint8_t *out, size_t room)
 {
     struct bits all, front;
     bits_of_fraction(x, &all);
@@ -213,5 +214,5 @@ struct answer oracle_unfraction(double x, uint8_t *out, size_t room)
     spell(&front, &spelled);
     bool rest = one_follows(&all, fraction_bits);
     bool more = rest || one_follows(&front, spelled.end_bits);
-    return read_spelled(row_none(3), row_if(4, !in_fraction_range(x)), &spelled, more, out, room);
+    return read_spelled(edition, row_none(3), row_if(4, !in_fraction_range(x)), &spelled, more, out, room);
 }

@@ -135,10 +135,10 @@ bool same_digits(const uint8_t *digits, size_t count, const struct code *code)
     return order_of(digits, count, code->digit, code->length) == 1;
 }
 
-struct answer oracle_rooted_code(uint64_t n, const uint8_t *edges, size_t len, uint64_t root,
+struct answer oracle_rooted_code(uint64_t edition, uint64_t n, const uint8_t *edges, size_t len, uint64_t root,
                                  uint8_t *out, size_t room)
 {
-    struct answer refusal = oracle_check_edges(n, edges, len, root);
+    struct answer refusal = oracle_check_edges(edition, n, edges, len, root);
     if (refusal.number != 0)
         return refusal;
     struct tree tree = tree_of(n, edges);
@@ -148,9 +148,9 @@ struct answer oracle_rooted_code(uint64_t n, const uint8_t *edges, size_t len, u
 
 typedef struct code form(const struct tree *);
 
-static struct answer code_as(form *of, uint64_t n, const uint8_t *edges, size_t len, uint8_t *out, size_t room)
+static struct answer code_as(form *of, uint64_t edition, uint64_t n, const uint8_t *edges, size_t len, uint8_t *out, size_t room)
 {
-    struct answer refusal = oracle_check_edges(n, edges, len, no_root);
+    struct answer refusal = oracle_check_edges(edition, n, edges, len, no_root);
     if (refusal.number != 0)
         return refusal;
     struct tree tree = tree_of(n, edges);
@@ -158,20 +158,20 @@ static struct answer code_as(form *of, uint64_t n, const uint8_t *edges, size_t 
     return telling(deliver(refusal, code.digit, code.length, out, room), code.pairs);
 }
 
-struct answer oracle_n_tuple_code(uint64_t n, const uint8_t *edges, size_t len, uint8_t *out, size_t room)
+struct answer oracle_n_tuple_code(uint64_t edition, uint64_t n, const uint8_t *edges, size_t len, uint8_t *out, size_t room)
 {
-    return code_as(n_tuple_code, n, edges, len, out, room);
+    return code_as(n_tuple_code, edition, n, edges, len, out, room);
 }
 
-struct answer oracle_centred_code(uint64_t n, const uint8_t *edges, size_t len, uint8_t *out, size_t room)
+struct answer oracle_centred_code(uint64_t edition, uint64_t n, const uint8_t *edges, size_t len, uint8_t *out, size_t room)
 {
-    return code_as(centred_code, n, edges, len, out, room);
+    return code_as(centred_code, edition, n, edges, len, out, room);
 }
 
 /* Row 14 is about right rooted codes only, so it is looked at behind rows 3 and 10 to 13. */
-static struct answer decode_as(form *of, const uint8_t *code, size_t len, uint8_t *out, size_t room)
+static struct answer decode_as(form *of, uint64_t edition, const uint8_t *code, size_t len, uint8_t *out, size_t room)
 {
-    struct answer refusal = oracle_check_code(code, len);
+    struct answer refusal = oracle_check_code(edition, code, len);
     if (refusal.number != 0)
         return refusal;
     struct tree tree = tree_of_code(code, len);
@@ -180,21 +180,21 @@ static struct answer decode_as(form *of, const uint8_t *code, size_t len, uint8_
     return deliver_edges(refusal, code, len, out, room);
 }
 
-struct answer oracle_decode_n_tuple(const uint8_t *code, size_t len, uint8_t *out, size_t room)
+struct answer oracle_decode_n_tuple(uint64_t edition, const uint8_t *code, size_t len, uint8_t *out, size_t room)
 {
-    return decode_as(n_tuple_code, code, len, out, room);
+    return decode_as(n_tuple_code, edition, code, len, out, room);
 }
 
-struct answer oracle_decode_centred(const uint8_t *code, size_t len, uint8_t *out, size_t room)
+struct answer oracle_decode_centred(uint64_t edition, const uint8_t *code, size_t len, uint8_t *out, size_t room)
 {
-    return decode_as(centred_code, code, len, out, room);
+    return decode_as(centred_code, edition, code, len, out, room);
 }
 
-struct answer oracle_same_skeleton(uint64_t n1, const uint8_t *e1, size_t l1,
+struct answer oracle_same_skeleton(uint64_t edition, uint64_t n1, const uint8_t *e1, size_t l1,
                                    uint64_t n2, const uint8_t *e2, size_t l2)
 {
-    struct answer first = oracle_check_edges(n1, e1, l1, no_root);
-    struct answer second = oracle_check_edges(n2, e2, l2, no_root);
+    struct answer first = oracle_check_edges(edition, n1, e1, l1, no_root);
+    struct answer second = oracle_check_edges(edition, n2, e2, l2, no_root);
     second.lists_before = 1;
     if (first.number != 0)
         return first;

@@ -26,9 +26,9 @@ size_t code_end(const uint8_t *digits, size_t count)
     return 0;
 }
 
-unsigned cap(size_t digit)
+unsigned cap(unsigned limit, size_t digit)
 {
-    return digit == 1 ? most_neighbours : most_children;
+    return digit == 1 ? limit : limit - 1;
 }
 
 static struct row row_3_code(size_t count)
@@ -36,10 +36,10 @@ static struct row row_3_code(size_t count)
     return row_if(3, count == 0 || count > most_vertices);
 }
 
-struct row row_10_digits(const uint8_t *digits, size_t count)
+struct row row_10_digits(unsigned limit, const uint8_t *digits, size_t count)
 {
     for (size_t i = 1; i <= count; i++)
-        if (digits[i - 1] > cap(i))
+        if (digits[i - 1] > cap(limit, i))
             return row_at(10, i);
     return row_none(10);
 }
@@ -75,9 +75,9 @@ struct row row_13(const uint8_t *digits, size_t count)
     return found;
 }
 
-struct answer oracle_check_code(const uint8_t *code, size_t len)
+struct answer oracle_check_code(uint64_t edition, const uint8_t *code, size_t len)
 {
-    return LOWEST(row_3_code(len), row_10_digits(code, len), row_11_digits(code, len),
+    return LOWEST(row_22(edition), row_3_code(len), row_10_digits(limit_of(edition), code, len), row_11_digits(code, len),
                   row_12_digits(code, len), row_13(code, len));
 }
 
@@ -101,7 +101,7 @@ struct answer deliver_edges(struct answer refusal, const uint8_t *digits, size_t
     return deliver(refusal, edges, length, out, room);
 }
 
-struct answer oracle_decode_code(const uint8_t *code, size_t len, uint8_t *out, size_t room)
+struct answer oracle_decode_code(uint64_t edition, const uint8_t *code, size_t len, uint8_t *out, size_t room)
 {
-    return deliver_edges(oracle_check_code(code, len), code, len, out, room);
+    return deliver_edges(oracle_check_code(edition, code, len), code, len, out, room);
 }

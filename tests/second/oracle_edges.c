@@ -3,9 +3,9 @@
 
 #include "oracle_parts.h"
 
-struct row row_3(uint64_t n, uint64_t limit)
+struct row row_3(uint64_t n, uint64_t largest)
 {
-    return row_if(3, n == 0 || n > limit || n > most_vertices);
+    return row_if(3, n == 0 || n > largest || n > most_vertices);
 }
 
 static struct row row_5(uint64_t n, size_t len)
@@ -72,24 +72,23 @@ static unsigned edges_at(const uint8_t *edges, size_t count, uint8_t v)
     return met;
 }
 
-struct row row_9(const uint8_t *edges, size_t len)
+struct row row_9(unsigned limit, const uint8_t *edges, size_t len)
 {
     for (size_t e = 1; 2 * e <= len; e++)
-        if (edges_at(edges, e - 1, edges[2 * e - 2]) >= most_neighbours ||
-            edges_at(edges, e - 1, edges[2 * e - 1]) >= most_neighbours)
+        if (edges_at(edges, e - 1, edges[2 * e - 2]) >= limit || edges_at(edges, e - 1, edges[2 * e - 1]) >= limit)
             return row_at(9, e);
     return row_none(9);
 }
 
-struct answer refuse_edges(uint64_t n, uint64_t limit, const uint8_t *edges, size_t len, uint64_t root)
+struct answer refuse_edges(uint64_t edition, uint64_t n, uint64_t largest, const uint8_t *edges, size_t len, uint64_t root)
 {
-    return LOWEST(row_3(n, limit), row_5(n, len), row_6(n, edges, len, root), row_7(edges, len),
-                  row_8(edges, len), row_9(edges, len));
+    return LOWEST(row_22(edition), row_3(n, largest), row_5(n, len), row_6(n, edges, len, root), row_7(edges, len),
+                  row_8(edges, len), row_9(limit_of(edition), edges, len));
 }
 
-struct answer oracle_check_edges(uint64_t n, const uint8_t *edges, size_t len, uint64_t root)
+struct answer oracle_check_edges(uint64_t edition, uint64_t n, const uint8_t *edges, size_t len, uint64_t root)
 {
-    return refuse_edges(n, most_vertices, edges, len, root);
+    return refuse_edges(edition, n, most_vertices, edges, len, root);
 }
 
 static void add_neighbour(struct tree *tree, unsigned u, unsigned v)

@@ -56,16 +56,16 @@ static struct line take_line(const uint8_t *text, size_t len)
 
 /* Rows 3, 5 and 10 to 14 speak of a line of the right form. The digits that are judged are at most 64:
  * with more, 3 or 5 is met. */
-static struct answer refuse_line(const struct line *line, struct code *code)
+static struct answer refuse_line(uint64_t edition, const struct line *line, struct code *code)
 {
-    struct answer form = LOWEST(row_if(1, !line->finished), row_if(2, !line->right_form));
+    struct answer form = LOWEST(row_22(edition), row_if(1, !line->finished), row_if(2, !line->right_form));
     if (form.number != 0)
         return form;
     code->length = line->digits < most_vertices ? line->digits : most_vertices;
     for (size_t i = 0; i < code->length; i++)
         code->digit[i] = (uint8_t)(line->digit[i] - '0');
     struct answer refusal = LOWEST(row_3(line->n, most_vertices), row_if(5, line->digits != line->n),
-                                   row_10_digits(code->digit, code->length),
+                                   row_10_digits(limit_of(edition), code->digit, code->length),
                                    row_11_digits(code->digit, code->length),
                                    row_12_digits(code->digit, code->length),
                                    row_13(code->digit, code->length));
@@ -76,17 +76,17 @@ static struct answer refuse_line(const struct line *line, struct code *code)
     return LOWEST(row_if(14, !same_digits(code->digit, code->length, &centred)));
 }
 
-struct answer oracle_read_line(const uint8_t *text, size_t len, uint8_t *out, size_t room)
+struct answer oracle_read_line(uint64_t edition, const uint8_t *text, size_t len, uint8_t *out, size_t room)
 {
     struct line line = take_line(text, len);
     struct code code = {.length = 0};
-    struct answer refusal = refuse_line(&line, &code);
+    struct answer refusal = refuse_line(edition, &line, &code);
     return deliver(refusal, code.digit, code.length, out, room);
 }
 
-struct answer oracle_write_line(uint64_t n, const uint8_t *edges, size_t len, uint8_t *out, size_t room)
+struct answer oracle_write_line(uint64_t edition, uint64_t n, const uint8_t *edges, size_t len, uint8_t *out, size_t room)
 {
-    struct answer refusal = oracle_check_edges(n, edges, len, no_root);
+    struct answer refusal = oracle_check_edges(edition, n, edges, len, no_root);
     if (refusal.number != 0)
         return refusal;
     struct tree tree = tree_of(n, edges);
@@ -99,13 +99,13 @@ struct answer oracle_write_line(uint64_t n, const uint8_t *edges, size_t len, ui
     return telling(deliver(refusal, (const uint8_t *)line, at, out, room), code.pairs);
 }
 
-void oracle_read_text(const uint8_t *text, size_t len, uint8_t *records, size_t records_len,
+void oracle_read_text(uint64_t edition, const uint8_t *text, size_t len, uint8_t *records, size_t records_len,
                       uint8_t *numbers, size_t numbers_len, size_t *places, size_t places_len,
                       size_t *lines, size_t *at)
 {
     size_t from = 0, i = 0;
     while (from < len && (i + 1) * record_bytes <= records_len && i + 1 <= numbers_len && i + 1 <= places_len) {
-        struct answer answer = oracle_read_line(text + from, len - from, records + i * record_bytes, record_bytes);
+        struct answer answer = oracle_read_line(edition, text + from, len - from, records + i * record_bytes, record_bytes);
         numbers[i] = (uint8_t)answer.number;
         places[i] = answer.place;
         struct line line = take_line(text + from, len - from);
@@ -141,6 +141,7 @@ static void print(struct print *print, const char *form, ...)
             print->out[print->written++] = (uint8_t)bytes[i];
 }
 
+/* The listing is of edition 1. */
 size_t oracle_list(const uint8_t *text, size_t len, size_t from, uint8_t *out, size_t room)
 {
     struct print to = {.from = from, .room = room, .out = out};
@@ -152,7 +153,7 @@ size_t oracle_list(const uint8_t *text, size_t len, size_t from, uint8_t *out, s
     for (size_t at = 0; at < len;) {
         uint8_t digits[record_bytes];
         struct line line = take_line(text + at, len - at);
-        struct answer answer = oracle_read_line(text + at, len - at, digits, sizeof digits);
+        struct answer answer = oracle_read_line(1, text + at, len - at, digits, sizeof digits);
         line_number++;
         read += answer.number == 0;
         print(&to, "%u %u %u\n", line_number, answer.number, answer.number == 0 ? 0 : (unsigned)answer.place);

@@ -40,10 +40,11 @@ static unsigned root_of(const struct tree *tree)
 }
 
 /* The refusal of one of two lists, with its list; number 0 where there is none. */
-static struct answer refuse_lists(uint64_t n1, const uint8_t *e1, size_t l1, uint64_t n2, const uint8_t *e2, size_t l2)
+static struct answer refuse_lists(uint64_t edition, uint64_t n1, const uint8_t *e1, size_t l1, uint64_t n2, const uint8_t *e2,
+                                  size_t l2)
 {
-    struct answer first = oracle_check_edges(n1, e1, l1, no_root);
-    struct answer second = oracle_check_edges(n2, e2, l2, no_root);
+    struct answer first = oracle_check_edges(edition, n1, e1, l1, no_root);
+    struct answer second = oracle_check_edges(edition, n2, e2, l2, no_root);
     if (first.number != 0)
         return first;
     second.lists_before = second.number != 0;
@@ -57,13 +58,13 @@ static struct answer of_map(struct answer answer)
     return answer;
 }
 
-struct answer oracle_renumbering(uint64_t n1, const uint8_t *e1, size_t l1, uint64_t n2, const uint8_t *e2, size_t l2,
+struct answer oracle_renumbering(uint64_t edition, uint64_t n1, const uint8_t *e1, size_t l1, uint64_t n2, const uint8_t *e2, size_t l2,
                                  uint8_t *out, size_t room)
 {
-    struct answer refusal = refuse_lists(n1, e1, l1, n2, e2, l2), none = {.number = 0};
+    struct answer refusal = refuse_lists(edition, n1, e1, l1, n2, e2, l2), none = {.number = 0};
     if (refusal.number != 0)
         return refusal;
-    struct answer verdict = oracle_same_skeleton(n1, e1, l1, n2, e2, l2);
+    struct answer verdict = oracle_same_skeleton(edition, n1, e1, l1, n2, e2, l2);
     if (verdict.place == 0)
         return telling(none, verdict.pairs);
     struct tree one = tree_of(n1, e1), other = tree_of(n2, e2);
@@ -113,10 +114,10 @@ static struct row row_19(const uint8_t *e1, size_t l1, const uint8_t *e2, size_t
     return row_none(19);
 }
 
-struct answer oracle_check_renumbering(uint64_t n1, const uint8_t *e1, size_t l1, uint64_t n2, const uint8_t *e2, size_t l2,
+struct answer oracle_check_renumbering(uint64_t edition, uint64_t n1, const uint8_t *e1, size_t l1, uint64_t n2, const uint8_t *e2, size_t l2,
                                        const uint8_t *map, size_t len)
 {
-    struct answer refusal = refuse_lists(n1, e1, l1, n2, e2, l2);
+    struct answer refusal = refuse_lists(edition, n1, e1, l1, n2, e2, l2);
     if (refusal.number != 0)
         return refusal;
     return of_map(LOWEST(row_if(5, n1 != n2 || len != n1), row_18(n1, map, len), row_19(e1, l1, e2, l2, map, len)));

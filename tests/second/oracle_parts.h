@@ -4,7 +4,11 @@
 
 #include "oracle.h"
 
-enum { most_vertices = 64, most_neighbours = 4, most_children = 3 };
+enum { most_vertices = 64, most_neighbours = 9 };
+
+/* How many neighbours a vertex may have: four, and in edition 2 nine. What is neither edition is refused 22, whatever
+ * the limit of its other rows. */
+unsigned limit_of(uint64_t edition);
 
 /* One row of the refusal table: its number, whether it applies to an input, and the first place. */
 struct row {
@@ -17,7 +21,11 @@ struct row row_at(unsigned number, uint64_t place);
 struct row row_if(unsigned number, bool applies);
 struct row row_none(unsigned number);
 
-/* Of the rows that apply the lowest number, and of these the first place; number 0 when none applies. */
+/* The edition is not 1 or 2. */
+struct row row_22(uint64_t edition);
+
+/* Of the rows that apply the lowest number, 22 before all others, and of these the first place; number 0 when none
+ * applies. */
 struct answer lowest(const struct row *rows, size_t count);
 #define LOWEST(...) \
     lowest((const struct row[]){__VA_ARGS__}, sizeof((const struct row[]){__VA_ARGS__}) / sizeof(struct row))
@@ -46,11 +54,12 @@ struct answer telling(struct answer answer, uint64_t pairs);
  * so far is less than the position. 0 when there is none. */
 size_t code_end(const uint8_t *digits, size_t count);
 
-/* How many children the vertex of this digit may have; digits count from 1, and the root is digit 1. */
-unsigned cap(size_t digit);
+/* How many children the vertex of this digit may have where a vertex may have so many neighbours; digits count from 1,
+ * and the root is digit 1. */
+unsigned cap(unsigned limit, size_t digit);
 
 /* Rows 10 to 13 over digits. All digits are judged for 10, those behind the code's end too. */
-struct row row_10_digits(const uint8_t *digits, size_t count);
+struct row row_10_digits(unsigned limit, const uint8_t *digits, size_t count);
 struct row row_11_digits(const uint8_t *digits, size_t count);
 struct row row_12_digits(const uint8_t *digits, size_t count);
 struct row row_13(const uint8_t *digits, size_t count);
@@ -61,12 +70,12 @@ size_t edges_of_code(const uint8_t *digits, size_t n, uint8_t *edges);
 /* A right code made into edges: what every reading call does with its digits. */
 struct answer deliver_edges(struct answer refusal, const uint8_t *digits, size_t n, uint8_t *out, size_t room);
 
-/* Rows of an edge list: 3 with the form's own limit, then 5 to 9. A call without a named root gives
+/* Rows of an edge list: 22, 3 with the form's own largest size, then 5 to 9. A call without a named root gives
  * vertex 1 for 6. The rows 8 and 9 take any list of ends. */
-struct row row_3(uint64_t n, uint64_t limit);
+struct row row_3(uint64_t n, uint64_t largest);
 struct row row_8(const uint8_t *edges, size_t len);
-struct row row_9(const uint8_t *edges, size_t len);
-struct answer refuse_edges(uint64_t n, uint64_t limit, const uint8_t *edges, size_t len, uint64_t root);
+struct row row_9(unsigned limit, const uint8_t *edges, size_t len);
+struct answer refuse_edges(uint64_t edition, uint64_t n, uint64_t largest, const uint8_t *edges, size_t len, uint64_t root);
 enum { no_root = 1 };
 
 /* A tree from a list that has no refusal. Vertices count from 1. */

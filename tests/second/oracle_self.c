@@ -1,4 +1,5 @@
-/* The oracle held against every figure that document 01 prints. Needs no proved code. */
+/* The oracle held against every figure that document 01 prints, in edition 1, and some of document 02. Needs no proved
+ * code. */
 #include <inttypes.h>
 #include <math.h>
 #include <stdio.h>
@@ -46,9 +47,9 @@ static uint64_t whole_at_1(const char *printed)
 {
     struct code code = code_of(printed);
     uint8_t edges[128];
-    struct answer decoded = oracle_decode_code(code.digit, code.length, edges, sizeof edges);
+    struct answer decoded = oracle_decode_code(1, code.digit, code.length, edges, sizeof edges);
     uint64_t value = UINT64_MAX;
-    IS(oracle_whole(code.length, edges, decoded.place, 1, &value).number, 0);
+    IS(oracle_whole(1, code.length, edges, decoded.place, 1, &value).number, 0);
     return value;
 }
 
@@ -57,15 +58,15 @@ static void p_row(const char *centred, const char *n_tuple, uint64_t whole)
 {
     struct code code = code_of(centred);
     uint8_t edges[128];
-    struct answer decoded = oracle_decode_centred(code.digit, code.length, edges, sizeof edges);
+    struct answer decoded = oracle_decode_centred(1, code.digit, code.length, edges, sizeof edges);
     IS(decoded.number, 0);
     IS(decoded.place, 2 * (code.length - 1));
-    struct answer answer = oracle_centred_code(code.length, edges, decoded.place, out, sizeof out);
+    struct answer answer = oracle_centred_code(1, code.length, edges, decoded.place, out, sizeof out);
     IS(is_printed(out, answer.place, centred), true);
-    answer = oracle_n_tuple_code(code.length, edges, decoded.place, out, sizeof out);
+    answer = oracle_n_tuple_code(1, code.length, edges, decoded.place, out, sizeof out);
     IS(is_printed(out, answer.place, n_tuple), true);
     IS(whole_at_1(centred), whole);
-    answer = oracle_unwhole(code.length, whole, out, sizeof out);
+    answer = oracle_unwhole(1, code.length, whole, out, sizeof out);
     IS(answer.number, 0);
     IS(memcmp(out, edges, decoded.place), 0);
 }
@@ -88,22 +89,22 @@ static void adjacency(void)
     const uint8_t cam[] = {1, 2, 2, 3, 1, 6}, by_code[] = {1, 2, 3, 1, 5, 1};
     uint8_t edges[12];
     uint64_t value;
-    IS(oracle_decode_cam(7, cam, 6, edges, sizeof edges).number, 0);
-    struct answer answer = oracle_centred_code(7, edges, 12, out, sizeof out);
+    IS(oracle_decode_cam(1, 7, cam, 6, edges, sizeof edges).number, 0);
+    struct answer answer = oracle_centred_code(1, 7, edges, 12, out, sizeof out);
     IS(is_printed(out, answer.place, "3110100"), true);
-    IS(oracle_zero_a(7, edges, 12, &value).number, 0);
+    IS(oracle_zero_a(1, 7, edges, 12, &value).number, 0);
     IS(value, 545);
-    IS(oracle_a_zero(7, edges, 12, &value).number, 0);
+    IS(oracle_a_zero(1, 7, edges, 12, &value).number, 0);
     IS(value, 1646688);
-    IS(oracle_zero_a_by_code(7, edges, 12, &value).number, 0);
+    IS(oracle_zero_a_by_code(1, 7, edges, 12, &value).number, 0);
     IS(value, 624);
-    REFUSED(oracle_cam_by_code(7, edges, 12, out, sizeof out), 0, 6);
+    REFUSED(oracle_cam_by_code(1, 7, edges, 12, out, sizeof out), 0, 6);
     IS(memcmp(out, by_code, 6), 0);
-    REFUSED(oracle_cam(7, edges, 12, out, sizeof out), 0, 6);
+    REFUSED(oracle_cam(1, 7, edges, 12, out, sizeof out), 0, 6);
     IS(memcmp(out, cam, 6), 0);
-    REFUSED(oracle_decode_zero_a(7, 545, out, sizeof out), 0, 12);
+    REFUSED(oracle_decode_zero_a(1, 7, 545, out, sizeof out), 0, 12);
     IS(memcmp(out, edges, 12), 0);
-    REFUSED(oracle_decode_a_zero(7, 1646688, out, sizeof out), 0, 12);
+    REFUSED(oracle_decode_a_zero(1, 7, 1646688, out, sizeof out), 0, 12);
     IS(memcmp(out, edges, 12), 0);
 }
 
@@ -112,26 +113,26 @@ static void fractions(void)
     struct code code = code_of("32100100");
     uint8_t edges[14];
     double value = 0;
-    IS(oracle_decode_code(code.digit, 8, edges, sizeof edges).number, 0);
-    IS(oracle_fraction(8, edges, 14, 1, &value).number, 0);
+    IS(oracle_decode_code(1, code.digit, 8, edges, sizeof edges).number, 0);
+    IS(oracle_fraction(1, 8, edges, 14, 1, &value).number, 0);
     IS(value == 0.926025390625 && value == 30344.0 / 32768.0, true);
-    REFUSED(oracle_unfraction(value, out, sizeof out), 0, 14);
+    REFUSED(oracle_unfraction(1, value, out, sizeof out), 0, 14);
     IS(memcmp(out, edges, 14), 0);
-    REFUSED(oracle_unfraction(0.5, out, sizeof out), 0, 2);
+    REFUSED(oracle_unfraction(1, 0.5, out, sizeof out), 0, 2);
     IS(out[0] == 1 && out[1] == 2, true);
-    REFUSED(oracle_unfraction(0.0, out, sizeof out), 0, 0);
-    REFUSED(oracle_unfraction(0.25, out, sizeof out), 11, 2);
-    REFUSED(oracle_unfraction(ldexp(1, -60), out, sizeof out), 11, 2);
-    REFUSED(oracle_unfraction(1.0, out, sizeof out), 4, 0);
-    REFUSED(oracle_unfraction(-0.0, out, sizeof out), 4, 0);
-    REFUSED(oracle_unfraction(NAN, out, sizeof out), 4, 0);
-    REFUSED(oracle_unwhole(3, 16, out, sizeof out), 11, 3);
+    REFUSED(oracle_unfraction(1, 0.0, out, sizeof out), 0, 0);
+    REFUSED(oracle_unfraction(1, 0.25, out, sizeof out), 11, 2);
+    REFUSED(oracle_unfraction(1, ldexp(1, -60), out, sizeof out), 11, 2);
+    REFUSED(oracle_unfraction(1, 1.0, out, sizeof out), 4, 0);
+    REFUSED(oracle_unfraction(1, -0.0, out, sizeof out), 4, 0);
+    REFUSED(oracle_unfraction(1, NAN, out, sizeof out), 4, 0);
+    REFUSED(oracle_unwhole(1, 3, 16, out, sizeof out), 11, 3);
 }
 
 static struct answer rooted(const char *printed)
 {
     struct code code = code_of(printed);
-    return oracle_check_code(code.digit, code.length);
+    return oracle_check_code(1, code.digit, code.length);
 }
 
 static void codes(void)
@@ -145,10 +146,10 @@ static void codes(void)
     REFUSED(rooted("020"), 11, 2);
     REFUSED(rooted("007"), 10, 3);
     struct code code = code_of("1200");
-    REFUSED(oracle_decode_centred(code.digit, 4, out, sizeof out), 14, 0);
+    REFUSED(oracle_decode_centred(1, code.digit, 4, out, sizeof out), 14, 0);
     code = code_of("2210010");
-    REFUSED(oracle_check_code(code.digit, 7), 0, 0);
-    REFUSED(oracle_decode_centred(code.digit, 7, out, sizeof out), 14, 0);
+    REFUSED(oracle_check_code(1, code.digit, 7), 0, 0);
+    REFUSED(oracle_decode_centred(1, code.digit, 7, out, sizeof out), 14, 0);
 }
 
 /* A path numbered from one end, which is physical. */
@@ -168,39 +169,39 @@ static void limits(void)
     double x;
     memset(path_code, 1, 65);
     path_code[63] = 0;
-    REFUSED(oracle_check_code(path_code, 64), 0, 0);
+    REFUSED(oracle_check_code(1, path_code, 64), 0, 0);
     path_code[63] = 1, path_code[64] = 0;
-    REFUSED(oracle_check_code(path_code, 65), 3, 0);
-    REFUSED(oracle_check_code(path_code, 0), 3, 0);
-    REFUSED(oracle_centred_code(64, edges, path(64, edges), out, sizeof out), 0, 64);
-    REFUSED(oracle_centred_code(65, edges, path(65, edges), out, sizeof out), 3, 0);
-    IS(oracle_zero_a(21, edges, path(21, edges), &value).number, 0);
+    REFUSED(oracle_check_code(1, path_code, 65), 3, 0);
+    REFUSED(oracle_check_code(1, path_code, 0), 3, 0);
+    REFUSED(oracle_centred_code(1, 64, edges, path(64, edges), out, sizeof out), 0, 64);
+    REFUSED(oracle_centred_code(1, 65, edges, path(65, edges), out, sizeof out), 3, 0);
+    IS(oracle_zero_a(1, 21, edges, path(21, edges), &value).number, 0);
     IS(value, 2432902008176639999u); /* 20! - 1, the largest */
-    REFUSED(oracle_decode_zero_a(21, value, out, sizeof out), 0, 40);
-    REFUSED(oracle_decode_zero_a(21, value + 1, out, sizeof out), 4, 0);
-    REFUSED(oracle_decode_zero_a(22, 0, out, sizeof out), 3, 0);
-    IS(oracle_zero_a(22, edges, path(22, edges), &value).number, 3);
-    IS(oracle_a_zero(11, edges, path(11, edges), &value).number, 0);
-    REFUSED(oracle_decode_a_zero(11, value, out, sizeof out), 0, 20);
-    IS(oracle_a_zero(12, edges, path(12, edges), &value).number, 3);
-    REFUSED(oracle_decode_a_zero(12, value, out, sizeof out), 3, 0);
-    IS(oracle_fraction(27, edges, path(27, edges), 1, &x).number, 0);
-    REFUSED(oracle_unfraction(x, out, sizeof out), 0, 52);
-    IS(oracle_fraction(28, edges, path(28, edges), 1, &x).number, 3);
-    IS(oracle_whole(32, edges, path(32, edges), 1, &value).number, 0);
-    REFUSED(oracle_unwhole(32, value, out, sizeof out), 0, 62);
-    IS(oracle_whole(33, edges, path(33, edges), 1, &value).number, 3);
-    IS(oracle_zero_a(1, edges, 0, &value).number, 0);
+    REFUSED(oracle_decode_zero_a(1, 21, value, out, sizeof out), 0, 40);
+    REFUSED(oracle_decode_zero_a(1, 21, value + 1, out, sizeof out), 4, 0);
+    REFUSED(oracle_decode_zero_a(1, 22, 0, out, sizeof out), 3, 0);
+    IS(oracle_zero_a(1, 22, edges, path(22, edges), &value).number, 3);
+    IS(oracle_a_zero(1, 11, edges, path(11, edges), &value).number, 0);
+    REFUSED(oracle_decode_a_zero(1, 11, value, out, sizeof out), 0, 20);
+    IS(oracle_a_zero(1, 12, edges, path(12, edges), &value).number, 3);
+    REFUSED(oracle_decode_a_zero(1, 12, value, out, sizeof out), 3, 0);
+    IS(oracle_fraction(1, 27, edges, path(27, edges), 1, &x).number, 0);
+    REFUSED(oracle_unfraction(1, x, out, sizeof out), 0, 52);
+    IS(oracle_fraction(1, 28, edges, path(28, edges), 1, &x).number, 3);
+    IS(oracle_whole(1, 32, edges, path(32, edges), 1, &value).number, 0);
+    REFUSED(oracle_unwhole(1, 32, value, out, sizeof out), 0, 62);
+    IS(oracle_whole(1, 33, edges, path(33, edges), 1, &value).number, 3);
+    IS(oracle_zero_a(1, 1, edges, 0, &value).number, 0);
     IS(value, 0);
-    IS(oracle_zero_a(2, edges, path(2, edges), &value).number, 0);
+    IS(oracle_zero_a(1, 2, edges, path(2, edges), &value).number, 0);
     IS(value, 0);
-    REFUSED(oracle_pack(1, edges, 0, 1, out, sizeof out), 0, 1);
+    REFUSED(oracle_pack(1, 1, edges, 0, 1, out, sizeof out), 0, 1);
     IS(out[0], 0);
 }
 
 static struct answer line(const char *text)
 {
-    return oracle_read_line((const uint8_t *)text, strlen(text), out, sizeof out);
+    return oracle_read_line(1, (const uint8_t *)text, strlen(text), out, sizeof out);
 }
 
 static void lines(void)
@@ -231,13 +232,13 @@ static void listing(void)
     IS(memcmp(listed, none, strlen(none)), 0);
     IS(oracle_list(longer, sizeof longer, 0, listed, sizeof listed), strlen(too_long));
     IS(memcmp(listed, too_long, strlen(too_long)), 0);
-    oracle_read_text((const uint8_t *)text, strlen(text), records, sizeof records, numbers, 8, places, 8,
+    oracle_read_text(1, (const uint8_t *)text, strlen(text), records, sizeof records, numbers, 8, places, 8,
                      &answered, &at);
     IS(answered, 6);
     IS(at, strlen(text));
     IS(places[0], 8);
     IS(is_printed(records, 8, "32100100"), true);
-    oracle_read_text((const uint8_t *)text, 0, records, sizeof records, numbers, 8, places, 8, &answered, &at);
+    oracle_read_text(1, (const uint8_t *)text, 0, records, sizeof records, numbers, 8, places, 8, &answered, &at);
     IS(answered, 0);
 }
 
@@ -246,9 +247,9 @@ static void lent_outputs(void)
 {
     struct code code = code_of("200");
     memset(out, 77, sizeof out);
-    REFUSED(oracle_decode_code(code.digit, 3, out, 3), 15, 4);
+    REFUSED(oracle_decode_code(1, code.digit, 3, out, 3), 15, 4);
     IS(out[0], 77);
-    REFUSED(oracle_decode_code(code.digit, 3, out, 4), 0, 4);
+    REFUSED(oracle_decode_code(1, code.digit, 3, out, 4), 0, 4);
     IS(memcmp(out, "\1\2\1\3\115", 5), 0);
 }
 
@@ -256,8 +257,8 @@ static void classes_of(const char *printed, const char *wanted)
 {
     struct code code = code_of(printed);
     uint8_t edges[128];
-    struct answer decoded = oracle_decode_code(code.digit, code.length, edges, sizeof edges);
-    REFUSED(oracle_equal_vertices(code.length, edges, decoded.place, out, sizeof out), 0, code.length);
+    struct answer decoded = oracle_decode_code(1, code.digit, code.length, edges, sizeof edges);
+    REFUSED(oracle_equal_vertices(1, code.length, edges, decoded.place, out, sizeof out), 0, code.length);
     IS(memcmp(out, wanted, code.length), 0);
 }
 
@@ -274,6 +275,56 @@ static void classes(void)
     classes_of("21120011110", "\1\2\3\4\5\5\6\7\x08\x09\x0a");
 }
 
+/* A vertex with k leaves: its code, its edges, its line and its packed form in an edition. */
+static void star(uint64_t edition, unsigned k, unsigned number_of_code, unsigned number_of_edges)
+{
+    struct code code = {.length = k + 1, .digit = {(uint8_t)k}};
+    uint8_t edges[128], packed[4] = {0};
+    char written[80];
+    for (unsigned v = 2; v <= k + 1; v++) {
+        edges[2 * v - 4] = 1;
+        edges[2 * v - 3] = (uint8_t)v;
+    }
+    for (unsigned bit = 0; bit < k; bit++)
+        packed[bit / 8] |= (uint8_t)(0x80 >> bit % 8);
+    int length = snprintf(written, sizeof written, "%u %u%0*u\n", k + 1, k, (int)k, 0u);
+    unsigned place_of_edge = number_of_edges == 9 ? limit_of(edition) + 1 : 0;
+    REFUSED(oracle_check_code(edition, code.digit, code.length), number_of_code, number_of_code == 10);
+    REFUSED(oracle_check_edges(edition, k + 1, edges, 2 * k, 1), number_of_edges, place_of_edge);
+    REFUSED(oracle_same_skeleton(edition, k + 1, edges, 2 * k, k + 1, edges, 2 * k), number_of_edges,
+            number_of_edges == 0 ? 1 : place_of_edge);
+    REFUSED(oracle_unpack(edition, packed, (2 * k + 8) / 8, out, sizeof out), number_of_code,
+            number_of_code == 0 ? 2 * k : number_of_code == 10);
+    if (k < 10)
+        REFUSED(oracle_read_line(edition, (const uint8_t *)written, (size_t)length, out, sizeof out), number_of_code,
+                number_of_code == 0 ? k + 1 : number_of_code == 10);
+}
+
+/* Four neighbours and nine; what is no edition is 22, before 1 and before all else. */
+static void editions(void)
+{
+    const uint64_t none[] = {0, 3, UINT64_MAX};
+    star(1, 4, 0, 0);
+    star(1, 5, 10, 9);
+    star(1, 9, 10, 9);
+    star(2, 5, 0, 0);
+    star(2, 9, 0, 0);
+    star(2, 10, 10, 9);
+    REFUSED(oracle_check_code(2, (const uint8_t[]){1, 8, 0, 0, 0, 0, 0, 0, 0, 0}, 10), 0, 0);
+    REFUSED(oracle_check_code(2, (const uint8_t[]){1, 9, 0, 0, 0, 0, 0, 0, 0, 0, 0}, 11), 10, 2);
+    REFUSED(oracle_unpack(2, (const uint8_t[]){255, 192}, 2, out, sizeof out), 10, 1);
+    REFUSED(oracle_unpack(2, (const uint8_t[]){255, 128, 0}, 3, out, sizeof out), 0, 18);
+    REFUSED(oracle_unpack(2, (const uint8_t[]){255, 128}, 2, out, sizeof out), 12, 7);
+    for (unsigned i = 0; i < 3; i++) {
+        star(none[i], 4, 22, 22);
+        star(none[i], 10, 22, 22);
+        REFUSED(oracle_read_line(none[i], (const uint8_t *)"1 0", 3, out, sizeof out), 22, 0);
+        REFUSED(oracle_check_code(none[i], out, 0), 22, 0);
+        REFUSED(oracle_unfraction(none[i], NAN, out, 0), 22, 0);
+        REFUSED(oracle_decode_a_zero(none[i], 0, 0, out, 0), 22, 0);
+    }
+}
+
 int main(void)
 {
     p_rows();
@@ -285,6 +336,7 @@ int main(void)
     listing();
     lent_outputs();
     classes();
+    editions();
     printf("oracle: %u figures of documents 01 and 02 held\n", held);
     return 0;
 }

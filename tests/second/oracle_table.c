@@ -1,4 +1,4 @@
-/* The refusal table: the lowest number wins, then its first place; 15 comes last of all. */
+/* The refusal table: 22 comes before all others, then the lowest number wins, then its first place; 15 comes last of all. */
 #include <string.h>
 
 #include "oracle_parts.h"
@@ -18,13 +18,28 @@ struct row row_none(unsigned number)
     return row_if(number, false);
 }
 
+unsigned limit_of(uint64_t edition)
+{
+    return edition == 2 ? 9 : 4;
+}
+
+struct row row_22(uint64_t edition)
+{
+    return row_if(22, edition != 1 && edition != 2);
+}
+
+static unsigned rank(unsigned number)
+{
+    return number == 22 ? 0 : number;
+}
+
 struct answer lowest(const struct row *rows, size_t count)
 {
     struct answer best = {.number = 0};
     for (size_t i = 0; i < count; i++) {
         if (!rows[i].applies)
             continue;
-        bool lower = best.number == 0 || rows[i].number < best.number;
+        bool lower = best.number == 0 || rank(rows[i].number) < rank(best.number);
         bool earlier = rows[i].number == best.number && rows[i].place < best.place;
         if (lower || earlier)
             best = (struct answer){.number = rows[i].number, .place = rows[i].place};

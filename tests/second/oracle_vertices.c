@@ -55,9 +55,9 @@ static bool carried(const struct tree *tree, const struct code *at, unsigned u, 
     return same_digits(at[u].digit, at[u].length, &at[v]);
 }
 
-struct answer oracle_equal_vertices(uint64_t n, const uint8_t *edges, size_t len, uint8_t *out, size_t room)
+struct answer oracle_equal_vertices(uint64_t edition, uint64_t n, const uint8_t *edges, size_t len, uint8_t *out, size_t room)
 {
-    struct answer refusal = oracle_check_edges(n, edges, len, no_root);
+    struct answer refusal = oracle_check_edges(edition, n, edges, len, no_root);
     if (refusal.number != 0)
         return refusal;
     struct tree as_lent = tree_of(n, edges);

@@ -5,7 +5,7 @@
 #include "gen.h"
 #include "second.h"
 
-CALL_ROOTED(pack);
+CALL_HOST_TELLING(pack, lent_bytes, in->n, in->bytes, in->len, in->root, out, room);
 CALL_BYTES(unpack);
 CALL_VALUE_CODED(whole, uint64_t, in->n, in->bytes, in->len, in->root);
 CALL_NUMBER(unwhole);
@@ -26,9 +26,9 @@ static struct answer check_packed(const struct bytes *packed)
     if (answer.number == 0) {
         struct list list;
         struct bytes again;
-        struct input in = at_1(&list, oracle_unpack(packed->byte, packed->len, list.ends, sizeof list.ends).place);
+        struct input in = at_1(&list, oracle_unpack(edition, packed->byte, packed->len, list.ends, sizeof list.ends).place);
         check(&call_pack, in);
-        again.len = oracle_pack(in.n, in.bytes, in.len, 1, again.byte, sizeof again.byte).place;
+        again.len = oracle_pack(edition, in.n, in.bytes, in.len, 1, again.byte, sizeof again.byte).place;
         claim(same_bytes(packed, &again), "a packed form is given again");
     }
     return answer;
@@ -40,9 +40,9 @@ static struct answer check_whole(uint64_t n, uint64_t value)
     if (answer.number == 0) {
         struct list list;
         uint64_t again = ~value;
-        struct input in = at_1(&list, oracle_unwhole(n, value, list.ends, sizeof list.ends).place);
+        struct input in = at_1(&list, oracle_unwhole(edition, n, value, list.ends, sizeof list.ends).place);
         check(&call_whole, in);
-        oracle_whole(in.n, in.bytes, in.len, 1, &again);
+        oracle_whole(edition, in.n, in.bytes, in.len, 1, &again);
         claim(in.n == n && again == value, "a whole number is given again");
     }
     return answer;
@@ -54,9 +54,9 @@ static struct answer check_fraction(double x)
     if (answer.number == 0) {
         struct list list;
         double again = -1;
-        struct input in = at_1(&list, oracle_unfraction(x, list.ends, sizeof list.ends).place);
+        struct input in = at_1(&list, oracle_unfraction(edition, x, list.ends, sizeof list.ends).place);
         check(&call_fraction, in);
-        oracle_fraction(in.n, in.bytes, in.len, 1, &again);
+        oracle_fraction(edition, in.n, in.bytes, in.len, 1, &again);
         claim(memcmp(&again, &x, sizeof x) == 0, "a fraction is given again, to the bit");
     }
     return answer;
@@ -88,7 +88,7 @@ static void short_packed(void)
 static void random_packed(void)
 {
     for (size_t length = 0; length <= 20; length++)
-        for (unsigned round = 0; round < 1500; round++) {
+        for (unsigned round = 0; round < rounds(1500); round++) {
             struct bytes packed = {.len = length};
             for (size_t i = 0; i < length; i++)
                 packed.byte[i] = (uint8_t)(one_in(3) ? random64() & random64() : random64());
@@ -109,7 +109,7 @@ static void wholes(void)
             check_whole(n, value);
     }
     for (unsigned n = 0; n <= 40; n++)
-        for (unsigned round = 0; round < 500; round++) {
+        for (unsigned round = 0; round < rounds(500); round++) {
             check_whole(n, random64() >> below(64));
             uint64_t bound = n >= 1 && n <= 32 ? (uint64_t)1 << (2 * n - 1) : 0;
             check_whole(n, bound - 1 - below(20));
@@ -134,7 +134,7 @@ static void flip_bit(struct bytes *packed)
 static void damaged_packed(const struct list *list, uint64_t root)
 {
     struct bytes packed;
-    packed.len = oracle_pack(list->n, list->ends, list->len, root, packed.byte, sizeof packed.byte).place;
+    packed.len = oracle_pack(edition, list->n, list->ends, list->len, root, packed.byte, sizeof packed.byte).place;
     claim(check_packed(&packed).number == 0, "a packed form is right");
     for (unsigned round = 0; round < 6; round++) {
         struct bytes one = packed;
@@ -153,7 +153,7 @@ static void damaged_packed(const struct list *list, uint64_t root)
 static void damaged_whole(const struct list *list, uint64_t root)
 {
     uint64_t value;
-    if (oracle_whole(list->n, list->ends, list->len, root, &value).number != 0)
+    if (oracle_whole(edition, list->n, list->ends, list->len, root, &value).number != 0)
         return;
     claim(check_whole(list->n, value).number == 0, "a whole number is right");
     check_whole(list->n + 1, value);
@@ -174,7 +174,7 @@ static void neighbourhood(double x)
 static void damaged_fraction(const struct list *list, uint64_t root)
 {
     double x;
-    if (oracle_fraction(list->n, list->ends, list->len, root, &x).number != 0)
+    if (oracle_fraction(edition, list->n, list->ends, list->len, root, &x).number != 0)
         return;
     claim(check_fraction(x).number == 0, "a fraction is right");
     neighbourhood(x);
@@ -185,7 +185,7 @@ static void damaged_fraction(const struct list *list, uint64_t root)
 static void random_and_damaged(void)
 {
     for (unsigned n = 1; n <= 64; n++)
-        for (unsigned round = 0; round < (n <= 33 ? 60 : 30); round++) {
+        for (unsigned round = 0; round < rounds(n <= 33 ? 60 : 30); round++) {
             struct list list = random_tree(n);
             uint64_t root = 1 + below(n);
             check_list(&list, root);
@@ -198,10 +198,10 @@ static void random_and_damaged(void)
         }
 }
 
-/* k / 2^20 for every k, and the neighbours of every k / 2^11. */
+/* k / 2^20 for every k, or in edition 2 for every fourth, and the neighbours of every k / 2^11. */
 static void fraction_grid(void)
 {
-    for (unsigned k = 0; k <= 1u << 20; k++)
+    for (unsigned k = 0; k <= 1u << 20; k += edition == 1 ? 1 : 4)
         check_fraction(k / 1048576.0);
     for (unsigned k = 0; k <= 1u << 11; k++)
         neighbourhood(k / 2048.0);
@@ -227,15 +227,15 @@ static void special_fractions(void)
         neighbourhood(0.5 + ldexp(1, e));
     }
     /* any bits at all: NaNs with every kind of payload, subnormals, huge numbers */
-    for (unsigned round = 0; round < 20000; round++)
+    for (unsigned round = 0; round < rounds(20000); round++)
         check_fraction(of_bits(random64()));
-    for (unsigned round = 0; round < 5000; round++) {
+    for (unsigned round = 0; round < rounds(5000); round++) {
         check_fraction(of_bits(random64() >> 12));
         check_fraction(of_bits(random64() >> 12 | (uint64_t)0x7ff << 52));
         check_fraction(of_bits(random64() >> 12 | (uint64_t)0xfff << 52));
     }
     /* 53 significant bits from one half up, where runs are short enough to get far */
-    for (unsigned round = 0; round < 60000; round++) {
+    for (unsigned round = 0; round < rounds(60000); round++) {
         uint64_t bits = random64() & (one_in(2) ? random64() | random64() : UINT64_MAX);
         if (one_in(2))
             bits &= UINT64_MAX << below(53);
@@ -272,7 +272,7 @@ static void check_bits(const struct bytes *bits, size_t count)
 static void unsorted(void)
 {
     for (unsigned n = 1; n <= 64; n++)
-        for (unsigned round = 0; round < 60; round++) {
+        for (unsigned round = 0; round < rounds(60); round++) {
             struct bytes code = unsorted_code(n), bits = {.len = 0};
             for (size_t i = 0; i < code.len; i++)
                 put_digit(&bits, code.byte[i]);
@@ -283,40 +283,79 @@ static void unsorted(void)
 /* Digits from 1 up, mostly within their caps, cut off anywhere: 12, and 10 where a cut-off run is long. */
 static void never_ended(void)
 {
-    for (unsigned round = 0; round < 6000; round++) {
+    for (unsigned round = 0; round < rounds(6000); round++) {
         struct bytes bits = {.len = 0};
-        unsigned most = 1 + (unsigned)below(3);
-        put_digit(&bits, 1 + (unsigned)below(4));
+        unsigned limit = neighbours(), most = 1 + (unsigned)below(limit - 1);
+        put_digit(&bits, 1 + (unsigned)below(limit));
         while (bits.len < 130)
-            put_digit(&bits, one_in(60) ? 4 + (unsigned)below(9) : 1 + (unsigned)below(most));
+            put_digit(&bits, one_in(60) ? limit + (unsigned)below(9) : 1 + (unsigned)below(most));
         check_bits(&bits, 128);
         check_bits(&bits, 53);
         check_bits(&bits, 1 + 2 * below(32));
         check_bits(&bits, 8 * (1 + below(16)));
         size_t cut = 1 + below(120);
-        for (size_t i = 0; i < 5 + below(2); i++)
+        for (size_t i = 0; i < limit + 1 + below(2); i++)
             bits.byte[cut + i] = 1;
-        check_bits(&bits, cut + 1 + below(6));
-        for (size_t i = 50; i < 53; i++)
+        check_bits(&bits, cut + 1 + below(limit + 2));
+        for (size_t i = 54 - limit; i < 53; i++)
             bits.byte[i] = 1;
         check_bits(&bits, 53);
     }
 }
 
+/* A run of every length up to 12 behind every number of bits up to 16, with its zero or cut off at each of its ones, and
+ * with leaves behind it. */
+static void runs(void)
+{
+    for (unsigned before = 0; before <= 16; before++)
+        for (unsigned run = 0; run <= 12; run++) {
+            struct bytes bits = {.len = 0};
+            for (unsigned left = before; left > 1;) {
+                unsigned digit = left == 3 ? 2 : 1;
+                put_digit(&bits, digit);
+                left -= digit + 1;
+            }
+            if (before == 1)
+                put_digit(&bits, 0);
+            size_t start = bits.len;
+            put_digit(&bits, run);
+            for (size_t count = start; count <= bits.len + run + 2; count++)
+                check_bits(&bits, count);
+        }
+}
+
+/* 255 128 0 is nine ones, and then ten zeros for the root's end and nine leaves; of 255 192 the run has ten. */
+static void stars(void)
+{
+    struct list star = star_of(10);
+    check_list(&star, 1);
+    struct answer nine = check_packed(&(struct bytes){.len = 3, .byte = {255, 128, 0}});
+    struct answer ten = check_packed(&(struct bytes){.len = 2, .byte = {255, 192}});
+    claim(ten.number == 10 && ten.place == 1, "a run of ten ones is 10 at 1");
+    claim(edition == 1 ? nine.number == 10 && nine.place == 1 : nine.number == 0 && nine.place == 18,
+          "a run of nine is the star of ten in edition 2, and 10 at 1 in edition 1");
+}
+
 void piece_bits(void)
 {
-    short_packed();
-    random_packed();
-    wholes();
-    random_and_damaged();
-    fraction_grid();
-    special_fractions();
-    unsorted();
-    never_ended();
-    CLAIM_MET(pack, 0, 3, 5, 6, 7, 8, 9, 15);
-    CLAIM_MET(unpack, 0, 3, 10, 11, 12, 13, 15);
-    CLAIM_MET(whole, 0, 3, 5, 6, 7, 8, 9);
-    CLAIM_MET(unwhole, 0, 3, 4, 10, 11, 12, 13, 15);
-    CLAIM_MET(fraction, 0, 3, 5, 6, 7, 8, 9);
-    CLAIM_MET(unfraction, 0, 4, 10, 11, 12, 13, 15);
+    IN_BOTH_EDITIONS {
+        stars();
+        runs();
+    }
+    IN_BOTH_EDITIONS {
+        short_packed();
+        random_packed();
+        wholes();
+        random_and_damaged();
+        fraction_grid();
+        special_fractions();
+        unsorted();
+        never_ended();
+    }
+    CLAIM_MET(pack, 0, 3, 5, 6, 7, 8, 9, 15, 22);
+    CLAIM_MET(unpack, 0, 3, 10, 11, 12, 13, 15, 22);
+    CLAIM_MET(whole, 0, 3, 5, 6, 7, 8, 9, 22);
+    CLAIM_MET(unwhole, 0, 3, 4, 10, 11, 12, 13, 15, 22);
+    CLAIM_MET(fraction, 0, 3, 5, 6, 7, 8, 9, 22);
+    CLAIM_MET(unfraction, 0, 4, 10, 11, 12, 13, 15, 22);
 }

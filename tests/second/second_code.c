@@ -13,34 +13,49 @@ static struct answer check_both(const struct bytes *code)
     return check(&call_decode_code, in);
 }
 
-/* Every string of up to 7 digits 0 to 5. */
+/* Every string of up to 7 digits 0 to 5, or in edition 2 of up to 5 digits 0 to 10. */
 static void short_strings(void)
 {
-    for (unsigned length = 0, count = 1; length <= 7; length++, count *= 6)
+    unsigned longest = edition == 1 ? 7 : 5, digits = neighbours() + 2;
+    for (unsigned length = 0, count = 1; length <= longest; length++, count *= digits)
         for (unsigned index = 0; index < count; index++) {
             struct bytes code = {.len = length};
             unsigned left = index;
-            for (unsigned i = 0; i < length; i++, left /= 6)
-                code.byte[i] = (uint8_t)(left % 6);
+            for (unsigned i = 0; i < length; i++, left /= digits)
+                code.byte[i] = (uint8_t)(left % digits);
             check_both(&code);
         }
+}
+
+/* A vertex with k leaves, as the root and below a root: the root's digit may be as many as it has neighbours, any other
+ * one less. */
+static void stars(void)
+{
+    for (unsigned k = 0; k <= 12; k++) {
+        struct bytes at_root = {.len = k + 1, .byte = {(uint8_t)k}}, below_root = {.len = k + 2, .byte = {1, (uint8_t)k}};
+        struct answer first = check_both(&at_root), second = check_both(&below_root);
+        claim(first.number == (k > neighbours() ? 10 : 0), "a root's digit above its cap is 10");
+        claim(first.number == 0 || first.place == 1, "at the root");
+        claim(second.number == (k + 1 > neighbours() ? 10 : 0), "another digit above its cap is 10");
+        claim(second.number == 0 || second.place == 2, "at the digit");
+    }
 }
 
 static void right_and_damaged(void)
 {
     for (unsigned n = 1; n <= 64; n++)
-        for (unsigned round = 0; round < 100; round++) {
+        for (unsigned round = 0; round < rounds(100); round++) {
             struct bytes code = random_code(n);
             claim(check_both(&code).number == 0, "a rooted code is right");
             struct bytes once = code;
-            damage_bytes(&once, 5);
+            damage_bytes(&once, neighbours() + 1);
             check_both(&once);
             struct bytes twice = once;
-            damage_bytes(&twice, 5);
+            damage_bytes(&twice, neighbours() + 1);
             check_both(&twice);
             for (unsigned i = 0; i < 5; i++) {
                 struct bytes one_digit = code;
-                one_digit.byte[below(n)] = (uint8_t)below(4);
+                one_digit.byte[below(n)] = (uint8_t)below(neighbours());
                 check_both(&one_digit);
             }
         }
@@ -49,7 +64,7 @@ static void right_and_damaged(void)
 /* A digit moved from one place to another keeps the sum: ends are met early or siblings out of order. */
 static void moved_digits(void)
 {
-    for (unsigned round = 0; round < 30000; round++) {
+    for (unsigned round = 0; round < rounds(30000); round++) {
         struct bytes code = random_code(2 + (unsigned)below(20));
         size_t from = below(code.len), to = below(code.len);
         uint8_t kept = code.byte[from];
@@ -64,7 +79,7 @@ static void moved_digits(void)
 static void unsorted(void)
 {
     for (unsigned n = 1; n <= 64; n++)
-        for (unsigned round = 0; round < 150; round++) {
+        for (unsigned round = 0; round < rounds(150); round++) {
             struct bytes code = unsorted_code(n);
             check_both(&code);
         }
@@ -75,7 +90,7 @@ static void lengths(void)
 {
     const size_t lent[] = {0, 1, 2, 63, 64, 65, 66, 128, 255, 256, 257, 300};
     for (size_t l = 0; l < sizeof lent / sizeof *lent; l++)
-        for (unsigned round = 0; round < 400; round++) {
+        for (unsigned round = 0; round < rounds(400); round++) {
             struct bytes code = random_code(1 + (unsigned)below(64));
             for (size_t i = code.len; i < lent[l]; i++)
                 code.byte[i] = (uint8_t)(one_in(3) ? below(256) : 0);
@@ -98,11 +113,15 @@ static void lengths(void)
 
 void piece_code(void)
 {
-    short_strings();
-    right_and_damaged();
-    moved_digits();
-    unsorted();
-    lengths();
-    CLAIM_MET(check_code, 0, 3, 10, 11, 12, 13);
-    CLAIM_MET(decode_code, 0, 3, 10, 11, 12, 13, 15);
+    IN_BOTH_EDITIONS
+        stars();
+    IN_BOTH_EDITIONS {
+        short_strings();
+        right_and_damaged();
+        moved_digits();
+        unsorted();
+        lengths();
+    }
+    CLAIM_MET(check_code, 0, 3, 10, 11, 12, 13, 22);
+    CLAIM_MET(decode_code, 0, 3, 10, 11, 12, 13, 15, 22);
 }

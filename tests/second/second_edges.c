@@ -4,7 +4,7 @@
 #include "second.h"
 
 CALL_BOTH(check_edges, no_output, in->n, in->bytes, in->len, in->root);
-CALL_ROOTED(rooted_code);
+CALL_TELLING(rooted_code, lent_bytes, in->n, in->bytes, in->len, in->root, out, room);
 
 static struct answer check_both(const struct list *list, uint64_t root)
 {
@@ -13,7 +13,7 @@ static struct answer check_both(const struct list *list, uint64_t root)
     return check(&call_rooted_code, in);
 }
 
-/* Every labelled tree of up to 6 vertices at every root, and at 0 and N+1. Six have a star, refused 9. */
+/* Every labelled tree of up to 6 vertices at every root, and at 0 and N+1. Six have a star, which edition 1 refuses 9. */
 static void labelled(void)
 {
     for (unsigned n = 1; n <= 6; n++)
@@ -29,7 +29,7 @@ static void labelled(void)
  * size are those of a count that neither the library nor this program made. */
 static void rooted_trees(void)
 {
-    static const uint64_t largest[] = {0, 0, 0, 1, 3, 6, 6, 7, 9, 12, 12, 15, 15};
+    static const uint64_t largest[][13] = {{0, 0, 0, 1, 3, 6, 6, 7, 9, 12, 12, 15, 15}, {0, 0, 0, 1, 3, 6, 10, 15, 21, 28, 36, 36, 37}};
     static struct bytes codes[most_skeletons];
     for (unsigned n = 1; n <= 12; n++) {
         uint64_t most = 0;
@@ -41,23 +41,24 @@ static void rooted_trees(void)
                 most = pairs > most ? pairs : most;
             }
         }
-        claim(most == largest[n], "the most pairs by size are 0, 0, 1, 3, 6, 6, 7, 9, 12, 12, 15, 15");
+        claim(most == largest[edition - 1][n], "the most pairs by size are 0, 0, 1, 3, 6, 6, 7, 9, 12, 12, 15, 15, "
+                                               "and in edition 2 0, 0, 1, 3, 6, 10, 15, 21, 28, 36, 36, 37");
     }
 }
 
-/* What is looked at is at most 3 times N times the whole part of log2 N. */
+/* What is looked at is at most 3 times N times the whole part of log2 N, in edition 2 at most 8 times. */
 static void within_bound(uint64_t n, uint64_t pairs)
 {
     uint64_t log2 = 0;
     while (n >> (log2 + 1) != 0)
         log2++;
-    claim(pairs <= 3 * n * log2, "the pairs keep the bound");
+    claim(pairs <= (neighbours() - 1) * n * log2, "the pairs keep the bound");
 }
 
 static void right(void)
 {
     for (unsigned n = 1; n <= 64; n++)
-        for (unsigned round = 0; round < 150; round++) {
+        for (unsigned round = 0; round < rounds(150); round++) {
             struct list list = random_tree(n);
             struct answer answer = check_both(&list, 1 + below(n));
             claim(answer.number == 0, "a random tree is right");
@@ -74,7 +75,7 @@ static void right(void)
 /* One to four kinds of damage at once. */
 static void damaged(void)
 {
-    for (unsigned round = 0; round < 60000; round++) {
+    for (unsigned round = 0; round < rounds(60000); round++) {
         struct list list = random_tree(1 + (unsigned)below(one_in(4) ? 64 : 12));
         for (uint64_t times = 1 + below(4) * below(2); times > 0; times--)
             damage_list(&list);
@@ -82,22 +83,35 @@ static void damaged(void)
     }
 }
 
-/* A fifth neighbour and nothing else, in trees of every size. */
+/* A neighbour too many and nothing else, in trees of every size. */
 static void overfilled(void)
 {
-    for (unsigned n = 6; n <= 64; n++)
-        for (unsigned round = 0; round < 60; round++) {
+    for (unsigned n = neighbours() + 2; n <= 64; n++)
+        for (unsigned round = 0; round < rounds(60); round++) {
             struct list list = random_tree(n);
             overfill(&list);
             shuffle(&list);
-            claim(check_both(&list, 1 + below(n)).number == 9, "five neighbours are refused 9");
+            claim(check_both(&list, 1 + below(n)).number == 9, "a neighbour too many is refused 9");
         }
+}
+
+/* The star of ten is a skeleton of edition 2 alone, and that of eleven of neither: 9 at the edge too many. */
+static void stars(void)
+{
+    for (unsigned n = 1; n <= 14; n++) {
+        struct list star = star_of(n);
+        for (unsigned root = 1; root <= n; root++) {
+            struct answer answer = check_both(&star, root);
+            claim(answer.number == (n > neighbours() + 1 ? 9 : 0), "a star has as many neighbours as it may");
+            claim(answer.number == 0 || answer.place == neighbours() + 1, "at the edge too many");
+        }
+    }
 }
 
 /* Any bytes at all, of the right length for N or nearly. */
 static void any_bytes(void)
 {
-    for (unsigned round = 0; round < 30000; round++) {
+    for (unsigned round = 0; round < rounds(30000); round++) {
         unsigned n = 1 + (unsigned)below(9);
         struct list list = {.n = n, .len = 2 * (n - 1)};
         unsigned values = one_in(4) ? n + 2 : n;
@@ -137,9 +151,9 @@ static void limits(void)
     const size_t lengths[] = {0, 1, 2, 3, 124, 125, 126, 127, 128, 129, 130, 254, 256, 300};
     for (size_t s = 0; s < sizeof sizes / sizeof *sizes; s++)
         for (size_t l = 0; l < sizeof lengths / sizeof *lengths; l++)
-            for (unsigned round = 0; round < 6; round++) {
+            for (unsigned round = 0; round < rounds(6); round++) {
                 struct list list = path_of(128);
-                if (round >= 3)
+                if (round % 2 == 1)
                     list = random_tree(64);
                 list.n = sizes[s];
                 list.len = lengths[l];
@@ -149,14 +163,18 @@ static void limits(void)
 
 void piece_edges(void)
 {
-    labelled();
-    rooted_trees();
-    right();
-    damaged();
-    overfilled();
-    any_bytes();
-    every_end();
-    limits();
-    CLAIM_MET(check_edges, 0, 3, 5, 6, 7, 8, 9);
-    CLAIM_MET(rooted_code, 0, 3, 5, 6, 7, 8, 9, 15);
+    IN_BOTH_EDITIONS
+        stars();
+    IN_BOTH_EDITIONS {
+        labelled();
+        rooted_trees();
+        right();
+        damaged();
+        overfilled();
+        any_bytes();
+        every_end();
+        limits();
+    }
+    CLAIM_MET(check_edges, 0, 3, 5, 6, 7, 8, 9, 22);
+    CLAIM_MET(rooted_code, 0, 3, 5, 6, 7, 8, 9, 15, 22);
 }

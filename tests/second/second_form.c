@@ -7,7 +7,7 @@ CALL_CODED(n_tuple_code);
 CALL_CODED(centred_code);
 CALL_BYTES(decode_n_tuple);
 CALL_BYTES(decode_centred);
-CALL_TELLING(same_skeleton, no_output, in->n, in->bytes, in->len, in->n2, in->bytes2, in->len2);
+CALL_HOST_TELLING(same_skeleton, no_output, in->n, in->bytes, in->len, in->n2, in->bytes2, in->len2);
 
 static void check_list(const struct list *list)
 {
@@ -23,7 +23,7 @@ static void check_back(const struct call *reads, const struct call *codes, const
     if (check(reads, in).number != 0)
         return;
     struct list list = list_of_code(code);
-    struct input back = {.n = list.n, .bytes = list.ends, .len = list.len};
+    struct input back = {.edition = edition, .n = list.n, .bytes = list.ends, .len = list.len};
     check(codes, back);
     struct bytes again;
     again.len = codes->ours(&back, again.byte, sizeof again.byte).place;
@@ -50,18 +50,27 @@ static void check_roots(const struct list *list)
     }
 }
 
+/* How many skeletons of a size there are was counted elsewhere. */
+static void counts(void)
+{
+    static const size_t wanted[][14] = {{0, 1, 1, 1, 2, 3, 5, 9, 18, 35, 75, 159, 355, 802}, {0, 1, 1, 1, 2, 3, 6, 11, 23, 47, 106, 234, 549, 1296}};
+    static struct bytes codes[most_skeletons];
+    for (unsigned n = 1; n <= 13; n++)
+        claim(all_skeletons(n, codes) == wanted[edition - 1][n],
+              "the skeletons by size are 1, 1, 1, 2, 3, 5, 9, 18, 35, 75, 159, 355, 802, "
+              "and in edition 2 1, 1, 1, 2, 3, 6, 11, 23, 47, 106, 234, 549, 1296");
+}
+
 /* All skeletons of up to 9 vertices, each pair of a size for the verdict. */
 static void small_skeletons(void)
 {
-    static const size_t wanted[] = {0, 1, 1, 1, 2, 3, 5, 9, 18, 35};
     static struct bytes codes[most_skeletons];
     for (unsigned n = 1; n <= 9; n++) {
         size_t count = all_skeletons(n, codes);
-        claim(count == wanted[n], "the skeletons by size are 1, 1, 1, 2, 3, 5, 9, 18, 35");
         for (size_t i = 0; i < count; i++) {
             struct list list = list_of_code(&codes[i]);
             check_roots(&list);
-            for (unsigned round = 0; round < 20; round++) {
+            for (unsigned round = 0; round < rounds(20); round++) {
                 renumber(&list);
                 shuffle(&list);
                 check_list(&list);
@@ -78,14 +87,14 @@ static void small_skeletons(void)
 static void random_trees(void)
 {
     for (unsigned n = 1; n <= 64; n++)
-        for (unsigned round = 0; round < 25; round++) {
+        for (unsigned round = 0; round < rounds(25); round++) {
             struct list list = random_tree(n);
             check_list(&list);
             struct bytes code = random_code(n);
             check_code(&code);
             code = centred_code_of(&list);
             check_code(&code);
-            damage_bytes(&code, 4);
+            damage_bytes(&code, neighbours());
             check_code(&code);
         }
 }
@@ -107,12 +116,12 @@ static void long_and_wide(void)
 
 static void two_centred(void)
 {
-    for (unsigned round = 0; round < 3000; round++) {
+    for (unsigned round = 0; round < rounds(3000); round++) {
         struct list list = two_halves(1 + (unsigned)below(31));
         renumber(&list);
         shuffle(&list);
         check_list(&list);
-        if (oracle_check_edges(list.n, list.ends, list.len, 1).number != 0)
+        if (oracle_check_edges(edition, list.n, list.ends, list.len, 1).number != 0)
             continue;
         struct bytes code = centred_code_of(&list);
         check_code(&code);
@@ -124,7 +133,7 @@ static void two_centred(void)
 /* Renumbered copies, near copies (one end moved), other sizes, and refusals in either list. */
 static void verdicts(void)
 {
-    for (unsigned round = 0; round < 8000; round++) {
+    for (unsigned round = 0; round < rounds(8000); round++) {
         unsigned n = 1 + (unsigned)below(one_in(4) ? 64 : 14);
         struct list a = random_tree(n), b = a;
         renumber(&b);
@@ -147,14 +156,17 @@ static void verdicts(void)
 
 void piece_form(void)
 {
-    small_skeletons();
-    random_trees();
-    long_and_wide();
-    two_centred();
-    verdicts();
-    CLAIM_MET(n_tuple_code, 0, 3, 5, 6, 7, 8, 9, 15);
-    CLAIM_MET(centred_code, 0, 3, 5, 6, 7, 8, 9, 15);
-    CLAIM_MET(decode_n_tuple, 0, 3, 10, 11, 12, 13, 14, 15);
-    CLAIM_MET(decode_centred, 0, 3, 10, 11, 12, 13, 14, 15);
-    CLAIM_MET(same_skeleton, 0, 3, 5, 6, 7, 8, 9);
+    IN_BOTH_EDITIONS {
+        counts();
+        small_skeletons();
+        random_trees();
+        long_and_wide();
+        two_centred();
+        verdicts();
+    }
+    CLAIM_MET(n_tuple_code, 0, 3, 5, 6, 7, 8, 9, 15, 22);
+    CLAIM_MET(centred_code, 0, 3, 5, 6, 7, 8, 9, 15, 22);
+    CLAIM_MET(decode_n_tuple, 0, 3, 10, 11, 12, 13, 14, 15, 22);
+    CLAIM_MET(decode_centred, 0, 3, 10, 11, 12, 13, 14, 15, 22);
+    CLAIM_MET(same_skeleton, 0, 3, 5, 6, 7, 8, 9, 22);
 }

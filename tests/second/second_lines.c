@@ -7,18 +7,18 @@
 #include "second.h"
 #include "texts.h"
 
-CALL_BYTES(read_line);
-CALL_CODED(write_line);
+CALL_HOST(read_line, lent_bytes, in->bytes, in->len, out, room);
+CALL_HOST_TELLING(write_line, lent_bytes, in->n, in->bytes, in->len, out, room);
 
 /* A line that is read is written again by the edges of its digits. */
 static void check_written_again(const struct text *text)
 {
     struct bytes code, again;
-    code.len = oracle_read_line(text->byte, text->len, code.byte, sizeof code.byte).place;
+    code.len = oracle_read_line(edition, text->byte, text->len, code.byte, sizeof code.byte).place;
     struct list list = list_of_code(&code);
     struct input in = {.n = list.n, .bytes = list.ends, .len = list.len};
     check(&call_write_line, in);
-    again.len = oracle_write_line(list.n, list.ends, list.len, again.byte, sizeof again.byte).place;
+    again.len = oracle_write_line(edition, list.n, list.ends, list.len, again.byte, sizeof again.byte).place;
     claim(again.len <= text->len && memcmp(again.byte, text->byte, again.len) == 0, "a line is written again");
 }
 
@@ -45,7 +45,9 @@ static void examples(void)
         "8 32100100\n6 220010\n6 311000\n6 2200,10\n3 20\n1 0", "", "\n", "1 0\n", "1 0", "0 0\n", "00 0\n",
         "08 32100100\n", "100 0\n", "1 0\n1 0\n", "1  0\n", " 1 0\n", "1 0 \n", "1 0\r\n", "1\n", "1 \n", " \n",
         "+1 0\n", "2 10\n", "2 1\n", "2 100\n", "3 200\n", "4 1200\n", "4 2010\n", "3 007\n", "2 00\n", "2 20\n",
-        "2 50\n", "6 140000\n", "7 3110100\n", "7 2210010\n", "64 0\n", "65 0\n", "99 0\n", "65 \n", "1 9\n", "0 9\n"};
+        "2 50\n", "6 140000\n", "7 3110100\n", "7 2210010\n", "64 0\n", "65 0\n", "99 0\n", "65 \n", "1 9\n", "0 9\n",
+        "6 500000\n", "10 9000000000\n", "11 90000000000\n", "11 91000000000\n", "11 18100000000\n", "12 190000000000\n",
+        "10 9000000000\n5 40000\n6 500000\n10 9000000000"};
     static struct reading theirs;
     for (size_t i = 0; i < sizeof texts / sizeof *texts; i++) {
         struct text text = text_of(texts[i]);
@@ -79,14 +81,14 @@ static void short_texts(void)
 
 static void append_line(struct text *text, const struct list *list)
 {
-    text->len += oracle_write_line(list->n, list->ends, list->len, text->byte + text->len, most_text - text->len).place;
+    text->len += oracle_write_line(edition, list->n, list->ends, list->len, text->byte + text->len, most_text - text->len).place;
 }
 
 /* Right lists written, damaged lists refused, and lines with other digits and counts read. */
 static void written(void)
 {
     for (unsigned n = 1; n <= 64; n++)
-        for (unsigned round = 0; round < 40; round++) {
+        for (unsigned round = 0; round < rounds(40); round++) {
             struct list list = random_tree(n);
             struct input in = {.n = list.n, .bytes = list.ends, .len = list.len};
             claim(check(&call_write_line, in).number == 0, "a random tree is right");
@@ -97,7 +99,7 @@ static void written(void)
             check(&call_write_line, (struct input){.n = list.n, .bytes = list.ends, .len = list.len});
             struct bytes code = one_in(2) ? random_code(n) : unsorted_code(n);
             if (one_in(2))
-                damage_bytes(&code, 5);
+                damage_bytes(&code, neighbours() + 1);
             text.len = (size_t)snprintf((char *)text.byte, 8, "%u ", one_in(4) ? (unsigned)below(120) : (unsigned)code.len);
             for (size_t i = 0; i < code.len; i++)
                 text.byte[text.len++] = (uint8_t)('0' + code.byte[i]);
@@ -178,11 +180,11 @@ static void every_change(const struct text *text)
 
 static void single_changes(void)
 {
-    for (unsigned round = 0; round < 260; round++) {
-        struct text text = random_text((unsigned)below(6), 1 + (unsigned)below(9));
+    for (unsigned round = 0; round < rounds(260); round++) {
+        struct text text = random_text((unsigned)below(6), 1 + (unsigned)below(neighbours() + 5));
         every_change(&text);
     }
-    for (unsigned round = 0; round < 40; round++) {
+    for (unsigned round = 0; round < rounds(40); round++) {
         struct text text = random_text(1 + (unsigned)below(3), 25);
         every_change(&text);
     }
@@ -196,15 +198,15 @@ static void single_changes(void)
  * are answered as in the clean text. */
 static void larger_damage(void)
 {
-    static const char likely[] = "0012345 \n\n";
+    static const char likely[] = "0012345 \n\n89";
     static struct reading clean, damaged;
-    for (unsigned round = 0; round < 12000; round++) {
+    for (unsigned round = 0; round < rounds(12000); round++) {
         struct text text = random_text((unsigned)below(9), one_in(10) ? 64 : 8), changed = text;
         size_t from = below(text.len + 1), lost = below(text.len - from + 1);
         uint8_t by[40];
         size_t by_count = below(sizeof by);
         for (size_t i = 0; i < by_count; i++)
-            by[i] = (uint8_t)(one_in(8) ? below(256) : (uint8_t)likely[below(10)]);
+            by[i] = (uint8_t)(one_in(8) ? below(256) : (uint8_t)likely[below(sizeof likely - 1)]);
         replace(&changed, from, lost, by, by_count);
         check_text(&text, &clean);
         check_text(&changed, &damaged);
@@ -230,7 +232,7 @@ static void larger_damage(void)
 static void long_texts(void)
 {
     static struct reading theirs;
-    for (unsigned round = 0; round < 50; round++) {
+    for (unsigned round = 0; round < rounds(50); round++) {
         struct text text = random_text(60, 50);
         check_text(&text, &theirs);
         check_short_room(&text);
@@ -248,7 +250,7 @@ static void long_texts(void)
 static void listings(void)
 {
     static uint8_t text[65536 + 3];
-    for (unsigned round = 0; round < 3; round++) {
+    for (unsigned round = 0; round < rounds(3); round++) {
         size_t len = 0;
         while (len < sizeof text) {
             struct text some = random_text(60, round == 0 ? 1 : 50);
@@ -282,14 +284,17 @@ static void counts(void)
 
 void piece_lines(void)
 {
-    examples();
-    short_texts();
-    written();
-    single_changes();
-    larger_damage();
-    long_texts();
-    listings();
+    IN_BOTH_EDITIONS
+        examples();
+    IN_BOTH_EDITIONS {
+        short_texts();
+        written();
+        single_changes();
+        larger_damage();
+        long_texts();
+        listings();
+    }
     counts();
-    CLAIM_MET(read_line, 0, 1, 2, 3, 5, 10, 11, 12, 13, 14, 15);
-    CLAIM_MET(write_line, 0, 3, 5, 6, 7, 8, 9, 15);
+    CLAIM_MET(read_line, 0, 1, 2, 3, 5, 10, 11, 12, 13, 14, 15, 22);
+    CLAIM_MET(write_line, 0, 3, 5, 6, 7, 8, 9, 15, 22);
 }

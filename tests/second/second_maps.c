@@ -47,10 +47,12 @@ static struct bytes check_pair(const struct list *a, const struct list *b)
 {
     struct input in = of_lists(a, b);
     struct bytes map = {.len = 0};
+    size_t pairs;
     struct answer answer = check(&call_renumbering, in);
     if (answer.number != 0 || answer.place == 0)
         return map;
-    map.len = call_renumbering.theirs(&in, map.byte, sizeof map.byte);
+    in.edition = edition;
+    map.len = call_renumbering.theirs(&in, map.byte, sizeof map.byte, &pairs);
     claim_carries(a, b, &map);
     claim(check_map(a, b, &map).number == 0, "a map that is handed out is accepted");
     return map;
@@ -81,7 +83,7 @@ static void small_skeletons(void)
             size_t many = all_skeletons(m, others);
             for (size_t i = 0; i < count; i++)
                 for (size_t j = 0; j < many; j++)
-                    for (unsigned round = 0; round < (n == m ? 8 : 1); round++) {
+                    for (unsigned round = 0; round < (n == m ? rounds(8) : 1); round++) {
                         struct list a = list_of_code(&codes[i]), b = list_of_code(&others[j]);
                         renumber(&a);
                         shuffle(&a);
@@ -131,7 +133,7 @@ static void all_but_one(const struct list *a, const struct bytes *own, const str
         return;
     size_t end = below(near.len), other = end ^ 1;
     uint8_t leaf = near.ends[end], to = (uint8_t)(1 + below(near.n));
-    if (degree(&near, leaf) != 1 || to == leaf || to == near.ends[other] || degree(&near, to) == 4) {
+    if (degree(&near, leaf) != 1 || to == leaf || to == near.ends[other] || degree(&near, to) == neighbours()) {
         near.ends[end] = to;
         check_map(a, &near, own);
         check_pair(a, &near);
@@ -147,7 +149,7 @@ static void all_but_one(const struct list *a, const struct bytes *own, const str
 
 static void copies(void)
 {
-    for (unsigned round = 0; round < 6000; round++) {
+    for (unsigned round = 0; round < rounds(6000); round++) {
         unsigned n = 1 + (unsigned)below(one_in(4) ? 64 : 14);
         struct list a = random_tree(n);
         struct bytes own;
@@ -171,7 +173,7 @@ static void copies(void)
 /* Two halves alike, so that both middle vertices have the centred code, and equal siblings. */
 static void ties(void)
 {
-    for (unsigned round = 0; round < 2000; round++) {
+    for (unsigned round = 0; round < rounds(2000); round++) {
         unsigned half = 1 + (unsigned)below(12);
         struct list one = random_physical(half), a = {.n = 2 * half, .len = 0};
         for (size_t i = 0; i < one.len; i += 2) {
@@ -191,8 +193,8 @@ static void ties(void)
 /* Refusals of either list, of both, and of the map behind them. */
 static void refusals(void)
 {
-    for (unsigned round = 0; round < 6000; round++) {
-        unsigned n = 1 + (unsigned)below(one_in(4) ? 64 : 10);
+    for (unsigned round = 0; round < rounds(6000); round++) {
+        unsigned n = 1 + (unsigned)below(one_in(4) ? 64 : 6 + neighbours());
         struct list a = random_tree(n);
         struct bytes own;
         struct list b = copy_of(&a, &own);
@@ -212,10 +214,12 @@ static void refusals(void)
 
 void piece_maps(void)
 {
-    small_skeletons();
-    copies();
-    ties();
-    refusals();
-    CLAIM_MET(renumbering, 0, 3, 5, 6, 7, 8, 9, 15);
-    CLAIM_MET(check_renumbering, 0, 3, 5, 6, 7, 8, 9, 18, 19);
+    IN_BOTH_EDITIONS {
+        small_skeletons();
+        copies();
+        ties();
+        refusals();
+    }
+    CLAIM_MET(renumbering, 0, 3, 5, 6, 7, 8, 9, 15, 22);
+    CLAIM_MET(check_renumbering, 0, 3, 5, 6, 7, 8, 9, 18, 19, 22);
 }

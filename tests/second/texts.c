@@ -46,18 +46,18 @@ void check_count(const uint8_t *numbers, size_t len)
                  (struct answer){.number = (unsigned)their_read, .place = their_refused});
 }
 
-/* Both read the text into the same room; `theirs` is left for further claims. */
-static void check_room(const struct text *text, struct room room, struct reading *theirs)
+/* Both read the text in an edition and into the same room; `theirs` is left for further claims. */
+static void check_room(uint64_t in_edition, const struct text *text, struct room room, struct reading *theirs)
 {
     static struct reading ours;
     static uint64_t salt;
-    struct input in = {.bytes = text->byte, .len = text->len};
+    struct input in = {.edition = in_edition, .bytes = text->byte, .len = text->len};
     begin_case("read_text", &in);
     fill(&ours, room, ++salt);
     fill(theirs, room, salt);
-    oracle_read_text(text->byte, text->len, ours.records, room.records, ours.numbers, room.numbers, ours.places,
+    oracle_read_text(in_edition, text->byte, text->len, ours.records, room.records, ours.numbers, room.numbers, ours.places,
                      room.places, &ours.lines, &ours.at);
-    zk_read_text(text->byte, text->len, theirs->records, room.records, theirs->numbers, room.numbers,
+    zk_read_text(in_edition, text->byte, text->len, theirs->records, room.records, theirs->numbers, room.numbers,
                  theirs->places, room.places, &theirs->lines, &theirs->at);
     if (same_reading(&ours, theirs, room)) {
         check_count(theirs->numbers, theirs->lines);
@@ -77,8 +77,22 @@ static void check_room(const struct text *text, struct room room, struct reading
 
 void check_text(const struct text *text, struct reading *theirs)
 {
+    static struct reading other;
     size_t lines = lines_in(text) + below(3);
-    check_room(text, (struct room){record * lines + below(record), lines, lines}, theirs);
+    struct room room = {record * lines + below(record), lines, lines};
+    check_room(edition, text, room, theirs);
+    if (edition == 2 && one_in(3)) {
+        check_room(1, text, room, &other);
+        claim(other.lines == theirs->lines && other.at == theirs->at, "both editions read as many lines");
+        for (size_t i = 0; i < other.lines; i++)
+            claim(other.numbers[i] == 10 || same_line(&other, i, theirs, i), "edition 1 answers a line as edition 2 does, or 10");
+    }
+    if (one_in(20)) {
+        check_room(no_edition(), text, room, &other);
+        claim(other.lines == theirs->lines && other.at == theirs->at, "in no edition as many lines are read");
+        for (size_t i = 0; i < other.lines; i++)
+            claim(other.numbers[i] == 22 && other.places[i] == 0, "in no edition every line is 22");
+    }
 }
 
 void check_short_room(const struct text *text)
@@ -92,7 +106,7 @@ void check_short_room(const struct text *text)
         room.numbers = below(lines);
     if (one_in(2))
         room.places = below(lines);
-    check_room(text, room, &theirs);
+    check_room(one_in(20) ? no_edition() : edition, text, room, &theirs);
 }
 
 /* Both write one piece; returns how many bytes. */

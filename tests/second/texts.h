@@ -22,13 +22,15 @@ struct reading {
 /* Both count the answers' numbers. */
 void check_count(const uint8_t *numbers, size_t len);
 
-/* Both read the text, with room for all its lines; `theirs` is left for further claims. */
+/* Both read the text in the edition under way, with room for all its lines; `theirs` is left for further claims. Some texts are
+ * read again in no edition, where every line is 22, and some of edition 2 in edition 1, where a line is answered
+ * alike, or 10. */
 void check_text(const struct text *text, struct reading *theirs);
 
 /* The same with room for some lines only, in any of the three outputs. */
 void check_short_room(const struct text *text);
 
-/* Both list the text: from its start with all the room that is needed, less and more, and any one piece of it. */
+/* Both list the text, which is of edition 1 always: from its start with all the room that is needed, less and more, and any one piece of it. */
 void check_listing(const uint8_t *text, size_t len);
 
 /* The same in pieces of so many bytes, each from where the one before it ended. */

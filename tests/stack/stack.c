@@ -2,6 +2,8 @@
  *
  *   stack LIMIT    prints a table, a row for each call and a column for each shape of skeleton; exits with 1 where a call touches more than LIMIT bytes
  *
+ * The shapes are a path, a caterpillar and the largest balanced tree of edition 1, and that of edition 2, on which the functions that are of edition 1 are not run.
+ *
  * A call runs on a thread whose stack was filled with a pattern. What an empty function touches there, which is what starting a thread takes, is
  * subtracted. Each run is made with two patterns, so a byte that is written with one of them is seen by the other. Calls that take a root are run
  * at every vertex; calls whose form ends below 64 vertices are run at the form's own limit. */
@@ -16,7 +18,7 @@
 enum { STACK = 1 << 18, LINES = 4 };
 
 /* What a call is handed. `lines` is LINES times the line of the skeleton. */
-static size_t n, root, len, packed_len, lines_len;
+static size_t edition, n, root, len, packed_len, lines_len;
 static uint64_t whole, zero_a, a_zero;
 static uint8_t edges[ZK_EDGES], other[ZK_EDGES], code[ZK_DIGITS], n_tuple[ZK_DIGITS], centred[ZK_DIGITS], packed[ZK_PACKED], cam[ZK_CAM], map[ZK_MAP],
     lines[LINES * ZK_LINE];
@@ -33,8 +35,11 @@ static double exact;
 
 static void none(void) { answer = 0; }
 
-#define CALL(NAME, ...) \
+#define MADE(NAME, ...) \
     static void do_##NAME(void) { answer = zk_##NAME(__VA_ARGS__); }
+#define CALL(NAME, ...) MADE(NAME, edition, __VA_ARGS__)
+/* a call of the host: the function of its name is of edition 1 */
+#define HOST(NAME, ...) MADE(NAME, __VA_ARGS__) CALL(NAME##_edition, __VA_ARGS__)
 
 CALL(check_code, code, n)
 CALL(decode_code, code, n, out, sizeof out)
@@ -44,10 +49,10 @@ CALL(check_edges, n, edges, len, root)
 CALL(rooted_code, n, edges, len, root, out, sizeof out)
 CALL(n_tuple_code, n, edges, len, out, sizeof out)
 CALL(centred_code, n, edges, len, out, sizeof out)
-CALL(same_skeleton, n, edges, len, n, other, len)
+HOST(same_skeleton, n, edges, len, n, other, len)
 CALL(renumbering, n, edges, len, n, other, len, out, sizeof out)
 CALL(check_renumbering, n, edges, len, n, other, len, map, n)
-CALL(pack, n, edges, len, root, out, sizeof out)
+HOST(pack, n, edges, len, root, out, sizeof out)
 CALL(unpack, packed, packed_len, out, sizeof out)
 CALL(whole, n, edges, len, root, &value)
 CALL(unwhole, n, whole, out, sizeof out)
@@ -62,8 +67,8 @@ CALL(decode_zero_a, n, zero_a, out, sizeof out)
 CALL(a_zero, n, edges, len, &value)
 CALL(a_zero_by_code, n, edges, len, &value)
 CALL(decode_a_zero, n, a_zero, out, sizeof out)
-CALL(read_line, lines, lines_len, out, sizeof out)
-CALL(write_line, n, edges, len, out, sizeof out)
+HOST(read_line, lines, lines_len, out, sizeof out)
+HOST(write_line, n, edges, len, out, sizeof out)
 CALL(equal_vertices, n, edges, len, out, sizeof out)
 
 /* The same, with the pairs looked at handed over. */
@@ -83,7 +88,7 @@ CALL(equal_vertices_pairs, n, edges, len, out, sizeof out, &one)
 
 static void do_read_text(void) {
     answer = 0;
-    zk_read_text(lines, lines_len, records, sizeof records, numbers, sizeof numbers, places, LINES, &one, &another);
+    zk_read_text(edition, lines, lines_len, records, sizeof records, numbers, sizeof numbers, places, LINES, &one, &another);
 }
 
 static void do_count(void) {
@@ -96,21 +101,22 @@ static void do_list(void) {
     one = zk_list(lines, lines_len, 0, out, sizeof out);
 }
 
-/* A call, the largest size of its form, and whether it takes a root. */
-#define ROW(NAME, MOST, ROOTED) {"zk_" #NAME, do_##NAME, MOST, ROOTED}
+/* A call, the largest size of its form, whether it takes a root, and the highest edition that it knows. */
+#define ROW(NAME, MOST, ROOTED) {"zk_" #NAME, do_##NAME, MOST, ROOTED, 2}
+#define ROW_HOST(NAME, MOST, ROOTED) {"zk_" #NAME, do_##NAME, MOST, ROOTED, 1}, ROW(NAME##_edition, MOST, ROOTED)
 static const struct call {
     const char *name;
     void (*run)(void);
-    unsigned most, rooted;
+    unsigned most, rooted, editions;
 } calls[] = {
     ROW(check_code, 64, 1),     ROW(decode_code, 64, 1),    ROW(decode_n_tuple, 64, 0), ROW(decode_centred, 64, 0),
     ROW(check_edges, 64, 1),    ROW(rooted_code, 64, 1),    ROW(n_tuple_code, 64, 0),   ROW(centred_code, 64, 0),
-    ROW(same_skeleton, 64, 0),  ROW(pack, 64, 1),           ROW(unpack, 64, 1),         ROW(whole, 32, 1),
+    ROW_HOST(same_skeleton, 64, 0), ROW_HOST(pack, 64, 1),  ROW(unpack, 64, 1),         ROW(whole, 32, 1),
     ROW(unwhole, 32, 1),        ROW(fraction, 27, 1),       ROW(unfraction, 27, 1),     ROW(cam, 64, 0),
     ROW(zero_a, 21, 0),         ROW(a_zero, 11, 0),         ROW(cam_by_code, 64, 0),    ROW(zero_a_by_code, 21, 0),
     ROW(a_zero_by_code, 11, 0), ROW(decode_cam, 64, 0),     ROW(decode_zero_a, 21, 0),  ROW(decode_a_zero, 11, 0),
-    ROW(equal_vertices, 64, 0), ROW(read_line, 64, 0),      ROW(write_line, 64, 0),     ROW(read_text, 64, 0),
-    ROW(count, 64, 0),          ROW(list, 64, 0),           ROW(renumbering, 64, 0),    ROW(check_renumbering, 64, 0),
+    ROW(equal_vertices, 64, 0), ROW_HOST(read_line, 64, 0), ROW_HOST(write_line, 64, 0), ROW(read_text, 64, 0),
+    ROW(count, 64, 0),          {"zk_list", do_list, 64, 0, 1}, ROW(renumbering, 64, 0),    ROW(check_renumbering, 64, 0),
     ROW(rooted_code_pairs, 64, 1), ROW(n_tuple_code_pairs, 64, 0), ROW(centred_code_pairs, 64, 0), ROW(same_skeleton_pairs, 64, 0),
     ROW(pack_pairs, 64, 1), ROW(whole_pairs, 32, 1), ROW(fraction_pairs, 27, 1), ROW(cam_by_code_pairs, 64, 0),
     ROW(zero_a_by_code_pairs, 21, 0), ROW(a_zero_by_code_pairs, 11, 0), ROW(write_line_pairs, 64, 0), ROW(equal_vertices_pairs, 64, 0),
@@ -123,11 +129,13 @@ static const struct call {
 static unsigned path(unsigned i) { return i; }
 static unsigned caterpillar(unsigned i) { return i % 2 ? i : i - 1; } /* a spine with a leaf at each of its vertices */
 static unsigned balanced(unsigned i) { return i <= 4 ? 1 : (i - 5) / 3 + 2; } /* four branches, then three, level by level */
+static unsigned wide(unsigned i) { return i <= 9 ? 1 : (i - 10) / 8 + 2; } /* nine, then eight */
 
 static const struct shape {
     const char *name;
     unsigned (*below)(unsigned);
-} shapes[] = {{"path", path}, {"caterpillar", caterpillar}, {"balanced", balanced}};
+    unsigned edition;
+} shapes[] = {{"path", path, 1}, {"caterpillar", caterpillar, 1}, {"balanced", balanced, 1}, {"edition 2", wide, 2}};
 
 enum { SHAPES = sizeof shapes / sizeof shapes[0], CALLS = sizeof calls / sizeof calls[0] };
 
@@ -142,25 +150,26 @@ static uint32_t must(uint32_t given, const char *what) {
 
 /* A skeleton of m vertices, and all that a call may be handed of it but what depends on the root. */
 static void make(const struct shape *shape, unsigned m) {
+    edition = shape->edition;
     n = m;
     len = 2 * (n - 1);
     for (unsigned i = 1; i < n; i++) {
         edges[2 * i - 2] = other[len - 2 * i + 1] = cam[i - 1] = (uint8_t)shape->below(i);
         edges[2 * i - 1] = other[len - 2 * i] = (uint8_t)(i + 1);
     }
-    must(zk_n_tuple_code(n, edges, len, n_tuple, sizeof n_tuple), "n_tuple_code");
-    must(zk_centred_code(n, edges, len, centred, sizeof centred), "centred_code");
-    must(zk_cam(n, edges, len, out, sizeof out), "cam");
+    must(zk_n_tuple_code(edition, n, edges, len, n_tuple, sizeof n_tuple), "n_tuple_code");
+    must(zk_centred_code(edition, n, edges, len, centred, sizeof centred), "centred_code");
+    must(zk_cam(edition, n, edges, len, out, sizeof out), "cam");
     if (memcmp(out, cam, n - 1)) {
         printf("stack: the numbering of a %s of %u is not physical\n", shape->name, m);
         exit(2);
     }
     if (n <= 21)
-        must(zk_zero_a(n, edges, len, &zero_a), "zero_a");
+        must(zk_zero_a(edition, n, edges, len, &zero_a), "zero_a");
     if (n <= 11)
-        must(zk_a_zero(n, edges, len, &a_zero), "a_zero");
-    must(zk_renumbering(n, edges, len, n, other, len, map, sizeof map), "renumbering");
-    size_t line = must(zk_write_line(n, edges, len, lines, sizeof lines), "write_line");
+        must(zk_a_zero(edition, n, edges, len, &a_zero), "a_zero");
+    must(zk_renumbering(edition, n, edges, len, n, other, len, map, sizeof map), "renumbering");
+    size_t line = must(zk_write_line_edition(edition, n, edges, len, lines, sizeof lines), "write_line");
     for (unsigned i = 1; i < LINES; i++)
         memcpy(lines + i * line, lines, line);
     lines_len = LINES * line;
@@ -169,12 +178,12 @@ static void make(const struct shape *shape, unsigned m) {
 /* The same of the code at a vertex. */
 static void turn(unsigned v) {
     root = v;
-    must(zk_rooted_code(n, edges, len, root, code, sizeof code), "rooted_code");
-    packed_len = must(zk_pack(n, edges, len, root, packed, sizeof packed), "pack");
+    must(zk_rooted_code(edition, n, edges, len, root, code, sizeof code), "rooted_code");
+    packed_len = must(zk_pack_edition(edition, n, edges, len, root, packed, sizeof packed), "pack");
     if (n <= 32)
-        must(zk_whole(n, edges, len, root, &whole), "whole");
+        must(zk_whole(edition, n, edges, len, root, &whole), "whole");
     if (n <= 27)
-        must(zk_fraction(n, edges, len, root, &fraction), "fraction");
+        must(zk_fraction(edition, n, edges, len, root, &fraction), "fraction");
 }
 
 /* ---- The measurement ---- */
@@ -241,6 +250,10 @@ int main(int argc, char **argv) {
     for (unsigned c = 0; c < CALLS; c++) {
         printf("%-24s %4u", calls[c].name, calls[c].most);
         for (unsigned s = 0; s < SHAPES; s++) {
+            if (shapes[s].edition > calls[c].editions) {
+                printf(" %12s", "");
+                continue;
+            }
             size_t bytes = most(&calls[c], &shapes[s]);
             printf(" %12zu", bytes);
             failed |= bytes > limit;

@@ -5,13 +5,13 @@ use mathlib.Core.Bool.{Bool, true, false, true≢false}
 use mathlib.Core.List.{List, [], _∷_, _++_}
 use Prim.Native.Nat.{ℕ, zero, suc, _*_, _^_, _<_}
 use native.Mathlib.Omega.{arith}
-use lib.ListN.{length, getD}
+use lib.ListN.{length, getD, length-append}
 use Rattle.refusal.specs.document.Table.{FirstRefusal, row3}
-use Rattle.refusal.specs.Laws.{clear-one, clear-both, refusal-back}
-use Rattle.limits.specs.document.Limits.{valence, wholeSize}
+use Rattle.refusal.specs.Laws.{clear-one, clear-both, first-place, refusal-front, refusal-back, size-clear}
+use Rattle.limits.specs.document.Limits.{valence, packedBytes, wholeSize}
 use Rattle.digit_code.specs.document.Code as code
 use Rattle.digit_code.specs.Ends.{ends-iff}
-use Rattle.bits.specs.document.Bits.{bits, bit, word, bytes, fractionBits, Zeros, Nothing, row4-whole, bitRows, wholeRows}
+use Rattle.bits.specs.document.Bits.{bits, bit, word, bytes, digitsFrom, cutFrom, runs, fractionBits, Zeros, Nothing, row4-whole, row10-bits, bitRows, packedRows, wholeRows}
 use Rattle.bits.specs.Reading.{more-refused}
 use Rattle.bits.specs.document.Written.{Packs}
 
@@ -24,6 +24,32 @@ packed = record { carries = record { fill = false ∷ []; same = refl; may = (re
     small-bytes zero = omega arith
     small-bytes (suc zero) = omega arith
     small-bytes (suc (suc i)) = omega arith
+
+-- nine neighbours: the star of ten, whose root is a run of nine ones; ten ones are above the cap
+pub star : Packs (9 ∷ 0 ∷ 0 ∷ 0 ∷ 0 ∷ 0 ∷ 0 ∷ 0 ∷ 0 ∷ 0 ∷ []) (255 ∷ 128 ∷ 0 ∷ [])
+unfolding word bit bits bytes
+star =
+    record {
+      carries = record { fill = false ∷ false ∷ false ∷ false ∷ false ∷ []; same = refl; may = (refl, omega arith) };
+      are-bytes = record { below = small-bytes };
+    }
+  where
+    small-bytes : (i : ℕ) → getD (255 ∷ 128 ∷ 0 ∷ []) i 0 < 256
+    small-bytes zero = omega arith
+    small-bytes (suc zero) = omega arith
+    small-bytes (suc (suc zero)) = omega arith
+    small-bytes (suc (suc (suc i))) = omega arith
+
+ten-ones : code.digit (runs (bytes (255 ∷ 192 ∷ []))) 1 ≡ 10
+unfolding word bit bytes digitsFrom cutFrom
+ten-ones = refl
+
+pub refused-ten : FirstRefusal (packedRows packedBytes 9 (255 ∷ 192 ∷ [])) 10 1
+refused-ten =
+    refusal-back (size-clear {most = packedBytes} {n = 2} (omega arith) (omega arith))
+    (refusal-front _
+    (first-place {r = row10-bits 9 (bytes (255 ∷ 192 ∷ []))}
+    (omega arith, simp length-append (omega arith), (λ e h. omega (arith, h .less)), rw ten-ones (omega arith)) (λ q l a. omega (arith, a .0))))
 
 pub fraction : fractionBits (30344 * 2 ^ 38) false ≡ bits (3 ∷ 2 ∷ 1 ∷ 0 ∷ 0 ∷ 1 ∷ 0 ∷ 0 ∷ []) ++ word 38 0
 unfolding word bit bits fractionBits

@@ -2,7 +2,7 @@
 --
 -- Assumes nothing.
 use mathlib.Core.Path.{_≡_, refl, sym, ap, _∙_}
-use mathlib.Core.Bool.{false}
+use mathlib.Core.Bool.{Bool, false}
 use mathlib.Core.List.{List, [], _∷_, _++_, append-assoc, append-nil}
 use Prim.Native.Nat.{ℕ, zero, suc, _+_, _-_, _*_, _/_, _%_, _^_, _≤_, _<_}
 use native.Mathlib.Nat.{mod-lt, lt-of-lt-of-le}
@@ -31,27 +31,33 @@ more-below [] v b l (suc i) = lit< tt
 more-below (x ∷ s) v b l zero = b zero
 more-below (x ∷ s) v b l (suc i) = more-below s v (λ j. b (suc j)) l i
 
--- i digits of d are read; m bytes are out, and c bits of them are in a
-pub record Packing (d old out : List ℕ) (i m c a : ℕ) : Type 0 where
-  pub same : bits (take i d) ≡ bytes (take m out) ++ word c a
-  pub few : c < 8
-  pub read : i ≤ length d
+-- the bits bs are stored: they are in m bytes of `out`, and in the c lowest bits of a
+-- behind these bytes `out` is as it was, old
+pub record Stored (bs : List Bool) (old out : List ℕ) (m c a : ℕ) : Type 0 where
+  pub same : bs ≡ bytes (take m out) ++ word c a
   pub count : length (take m out) ≡ m
   pub size : length out ≡ length old
   pub kept : drop m out ≡ drop m old
   pub are-bytes : Bytes (take m out)
 
+-- the whole bytes of the c lowest bits of a are put out, from m on: whatever was stored is stored still, with fewer than eight bits in a
+pub record PutOut (a c m : ℕ) (out new : List ℕ) (r : ℕ) : Type 0 where
+  pub many : r ≡ m + c / 8
+  pub stored : (bs : List Bool) (old : List ℕ) → Stored bs old out m c a → Stored bs old new r (c % 8) a
+
+-- i digits of d are read
+pub record Packing (d old out : List ℕ) (i m c a : ℕ) : Type 0 where
+  pub stored : Stored (bits (take i d)) old out m c a
+  pub few : c < 8
+  pub read : i ≤ length d
+
 pub pack-none : (d old : List ℕ) → Packing d old old 0 0 0 0
 unfolding bits bytes word
 pack-none d old =
     record {
-      same = refl;
+      stored = record { same = refl; count = refl; size = refl; kept = refl; are-bytes = record { below = λ i. lit< tt } };
       few = lit< tt;
       read = omega arith;
-      count = refl;
-      size = refl;
-      kept = refl;
-      are-bytes = record { below = λ i. lit< tt };
     }
 
 bytes-one : (v : ℕ) → bytes (v ∷ []) ≡ word 8 v
@@ -66,12 +72,12 @@ record Out (old out new : List ℕ) (m v : ℕ) : Type 0 where
   kept : drop (m + 1) new ≡ drop (m + 1) old
   are-bytes : Bytes (take (m + 1) new)
 
-module _ {d old out : List ℕ} {i m c a : ℕ} (s : Packing d old out i m c a) where
-  -- how far the writer is
-  bits-out : i + sum (take i d) ≡ 8 * m + c
-  bits-out =
-      let l = simp (length-bits, length-append, length-bytes, length-word) at (ap length (s .same)) in
-      omega (arith, l, s .count, length-take-le i d (s .read))
+module _ {bs : List Bool} {old out : List ℕ} {m c a : ℕ} (s : Stored bs old out m c a) where
+  -- how many bits are stored
+  stored-bits : length bs ≡ 8 * m + c
+  stored-bits =
+      let l = simp (length-append, length-bytes, length-word) at (ap length (s .same)) in
+      omega (arith, l, s .count)
 
   put : (v : ℕ) → m < length out → v < 256 → Out old out (set out m v) m v
   put v l b =
@@ -84,65 +90,82 @@ module _ {d old out : List ℕ} {i m c a : ℕ} (s : Packing d old out i m c a) 
         are-bytes = rw t (record { below = more-below (take m out) v (s .are-bytes .below) b });
       }
 
-  module _ {R : ℕ} (w : Coded R size d) (r : R ≤ 6) (n : (2 * length d + 6) / 8 ≤ length old) where
+  -- the highest eight of the bits are put out as a byte
+  pub stored-byte : 8 ≤ c → m < length out → Stored bs old (set out m (a / 2 ^ (c - 8) % 256)) (m + 1) (c - 8) a
+  stored-byte g l =
+      let z : 8 + (c - 8) ≡ c = omega arith in
+      let t : word c a ≡ word 8 (a / 2 ^ (c - 8) % 256) ++ word (c - 8) a = rw z at (word-byte (c - 8) a) in
+      let o = put (a / 2 ^ (c - 8) % 256) l (mod-lt _ (lit< tt)) in
+      record {
+        same = s .same ∙ rw (t, o .taken, bytes-append, bytes-one) (sym (append-assoc (bytes (take m out)) _ _));
+        count = o .count;
+        size = o .size;
+        kept = o .kept;
+        are-bytes = o .are-bytes;
+      }
+
+-- none is whole, one is, or two are
+module _ (a c m : ℕ) (out : List ℕ) where
+  pub put-none : c < 8 → PutOut a c m out out m
+  put-none g = let z : c ≡ c % 8 = omega arith in record { many = omega arith; stored = λ bs old s. rw (← z) s }
+
+  module _ (g : 8 ≤ c) (l : m < length out) where
+    -- the first byte is there
+    abbrev first : List ℕ
+    first = set out m (a / 2 ^ (c - 8) % 256)
+
+    pub put-one : c - 8 < 8 → PutOut a c m out first (m + 1)
+    put-one h = let z : c - 8 ≡ c % 8 = omega arith in record { many = omega arith; stored = λ bs old s. rw (← z) (stored-byte s g l) }
+
+    pub put-two : 8 ≤ c - 8 → c < 24 → m + 1 < length out → PutOut a c m out (set first (m + 1) (a / 2 ^ (c - 8 - 8) % 256)) (m + 2)
+    put-two h k b =
+        let z : c - 8 - 8 ≡ c % 8 = omega arith in
+        let y : m + 1 + 1 ≡ m + 2 = omega arith in
+        record { many = omega arith; stored = λ bs old s. rw (← z, ← y) (stored-byte (stored-byte s g l) h (rw length-set b)) }
+
+module _ {d old out : List ℕ} {i m c a : ℕ} (s : Packing d old out i m c a) where
+  -- how far the writer is
+  bits-out : i + sum (take i d) ≡ 8 * m + c
+  bits-out = omega (arith, stored-bits (s .stored), length-bits (take i d), length-take-le i d (s .read))
+
+  module _ {R : ℕ} (w : Coded R size d) (n : (2 * length d + 6) / 8 ≤ length old) where
     all-bits : length d ≤ i → 8 * m + c + 1 ≡ 2 * length d
     all-bits l =
         let t : sum (take i d) ≡ sum d = ap sum (take-all i d l) in
         omega (arith, bits-out, t, s .read, rw take-length at (end-sum d (length d) (w .ends)))
 
-    -- a byte that is full, or the last, has room
+    -- the last byte has room
     pub pack-last : length d ≤ i → m < length out
-    pack-last l = omega (arith, bits-out, s .size, s .read, all-bits l)
+    pack-last l = omega (arith, bits-out, s .stored .size, s .read, all-bits l)
 
     module _ (h : i < length d) where
-      pub pack-room : Room (getD d i 0) (a % 256)
-      pack-room =
-          let k : getD d i 0 ≤ 6 = omega (arith, w .small i) in
+      -- the next digit fits the word, where it is at most 54
+      pub pack-room : R ≤ 54 → Room (getD d i 0) (a % 256)
+      pack-room r =
+          let k : getD d i 0 ≤ 54 = omega (arith, w .small i) in
           let p : 8 ≤ 62 - getD d i 0 = omega arith in
           record { short = omega arith; below = lt-of-lt-of-le (mod-lt a (lit< tt)) (pow-mono p) }
 
-      pub pack-byte : 8 ≤ c + (getD d i 0 + 1) → m < length out
-      pack-byte g = omega (arith, bits-out, s .size, sum-within d (i + 1) (w .ends), sum-more d i h)
+      -- the bytes that it fills have room
+      pub pack-bytes : m + (c + (getD d i 0 + 1)) / 8 ≤ length out
+      pack-bytes = omega (arith, bits-out, s .stored .size, sum-within d (i + 1) (w .ends), sum-more d i h)
 
-      -- the digit is in the word
-      module _ (b : ℕ) (e : b ≡ a % 256 * 2 ^ (getD d i 0 + 1) + (2 ^ (getD d i 0 + 1) - 2)) where
-        full : bits (take (i + 1) d) ≡ bytes (take m out) ++ word (c + (getD d i 0 + 1)) b
-        full =
-            let k : 8 - c + c ≡ 8 = omega (arith, s .few) in
-            let l : word c (a % 256) ≡ word c a = rw k at (word-less c (8 - c) a) in
-            rw (bits-take d i h, s .same, e, word-append c (a % 256) (getD d i 0), l, append-assoc)
-
-        -- the byte is not full
-        pub pack-on : c + (getD d i 0 + 1) < 8 → Packing d old out (i + 1) m (c + (getD d i 0 + 1)) b
-        pack-on g =
-            record {
-              same = full;
-              few = g;
-              read = omega arith;
-              count = s .count;
-              size = s .size;
-              kept = s .kept;
-              are-bytes = s .are-bytes;
-            }
-
-        -- it is
-        pub pack-out
-            : 8 ≤ c + (getD d i 0 + 1)
-            → Packing d old (set out m (b / 2 ^ (c + (getD d i 0 + 1) - 8) % 256)) (i + 1) (m + 1) (c + (getD d i 0 + 1) - 8) b
-        pack-out g =
-            let c′ = c + (getD d i 0 + 1) - 8 in
-            let z : 8 + c′ ≡ c + (getD d i 0 + 1) = omega arith in
-            let t : word (c + (getD d i 0 + 1)) b ≡ word 8 (b / 2 ^ c′ % 256) ++ word c′ b = rw z at (word-byte c′ b) in
-            let o = put (b / 2 ^ c′ % 256) (pack-byte g) (mod-lt _ (lit< tt)) in
-            record {
-              same = full ∙ rw (t, o .taken, bytes-append, bytes-one) (sym (append-assoc (bytes (take m out)) _ _));
-              few = omega (arith, s .few, w .small i);
-              read = omega arith;
-              count = o .count;
-              size = o .size;
-              kept = o .kept;
-              are-bytes = o .are-bytes;
-            }
+      -- and when they are out, the writer is one digit further
+      pub pack-on
+          : (b : ℕ) → b ≡ a % 256 * 2 ^ (getD d i 0 + 1) + (2 ^ (getD d i 0 + 1) - 2)
+          → {new : List ℕ} {r : ℕ} → PutOut b (c + (getD d i 0 + 1)) m out new r → Packing d old new (i + 1) r ((c + (getD d i 0 + 1)) % 8) b
+      pack-on b e p =
+          let k : 8 - c + c ≡ 8 = omega (arith, s .few) in
+          let l : word c (a % 256) ≡ word c a = rw k at (word-less c (8 - c) a) in
+          let t : Stored (bits (take (i + 1) d)) old out m (c + (getD d i 0 + 1)) b =
+          record {
+            same = rw (bits-take d i h, s .stored .same, e, word-append c (a % 256) (getD d i 0), l, append-assoc);
+            count = s .stored .count;
+            size = s .stored .size;
+            kept = s .stored .kept;
+            are-bytes = s .stored .are-bytes;
+          } in
+          record { stored = p .stored (bits (take (i + 1) d)) old t; few = mod-lt _ (lit< tt); read = omega arith }
 
     -- the last byte, filled with zeros
     pub pack-done : length d ≤ i → Writes (Packs d) old (m + 1) (set out m (a * 2 ^ (8 - c) % 256))
@@ -150,10 +173,10 @@ module _ {d old out : List ℕ} {i m c a : ℕ} (s : Packing d old out i m c a) 
     pack-done l =
         let v = a * 2 ^ (8 - c) % 256 in
         let z : c + (8 - c) ≡ 8 = omega (arith, s .few) in
-        let o = put v (pack-last l) (mod-lt _ (lit< tt)) in
+        let o = put (s .stored) v (pack-last l) (mod-lt _ (lit< tt)) in
         let x : word 8 v ≡ word c a ++ replicate (8 - c) false = rw z at (word-shift c (8 - c) a) in
         let y : bytes (take (m + 1) (set out m v)) ≡ bits d ++ replicate (8 - c) false =
-        rw (o .taken, bytes-append, bytes-one, x, ← append-assoc, ← s .same, take-all i d l) in
+        rw (o .taken, bytes-append, bytes-one, x, ← append-assoc, ← s .stored .same, take-all i d l) in
         let f : length (replicate (8 - c) false) < 8 = rw length-replicate (omega (arith, all-bits l)) in
         record {
           result = take (m + 1) (set out m v);

@@ -1,7 +1,7 @@
 // The bit forms of a rooted code: packed bytes, a whole number, the 53 bits of a fraction.
 ghost use mathlib.Core.Path.{_≡_};
 ghost use mathlib.Core.List.{[], _∷_};
-ghost use Prim.Native.Nat.{_+_, _-_, _*_, _/_, _^_, _<_, _≤_};
+ghost use Prim.Native.Nat.{suc, _+_, _-_, _*_, _/_, _^_, _<_, _≤_};
 ghost use lib.ListN.{length, getD, drop};
 ghost use Rattle.limits.specs.document.Limits.{size, packedBytes, wholeSize};
 ghost use Rattle.limits.specs.Width.{width};
@@ -13,6 +13,7 @@ ghost use Rattle.bits.specs.Answered.{Reading};
 ghost use Rattle.bits.specs.Written.{Coded};
 ghost use Rattle.bits.specs.document.Written.{Packs, Numbers};
 ghost use Rattle.bits.specs.Writing.{Room};
+ghost use Rattle.bits.specs.Packing.{PutOut};
 ghost use Rattle.refusal.specs.document.Table.{Writes};
 ghost use Rattle.refusal.specs.Checks.{Answers};
 ghost use Rattle.bits.specs.Decided.{Ended, Ordered, Decision};
@@ -46,16 +47,17 @@ fn byte(s: &[u8], i: usize) -> u8
     if i < s.len() { s[i] } else { 0 }
 }
 
-// The ones from a bit of packed bytes on: the leading zeros of the inverted word that begins there. Nine bits or more are looked at.
+// The ones from a bit of packed bytes on: the leading zeros of the inverted word that begins there. More bits are looked at than a row is wide.
 fn digit_at(s: &[u8], bit: usize) -> usize
     requires { ⌜ bit < 8 * length (now s) ⌝ }
-    ensures { λ r. ⌜ Near 9 r (drop bit (bytes (now (s .entry)))) ⌝ }
+    ensures { λ r. ⌜ Near (suc width) r (drop bit (bytes (now (s .entry)))) ⌝ }
 {
     let i = bit / 8;
-    let high = byte(s, i) as u16;
-    let low = byte(s, i + 1) as u16;
-    let w = (high * 256 + low) << (bit % 8);
-    u16::leading_zeros(!w) as usize
+    let high = byte(s, i) as u32;
+    let middle = byte(s, i + 1) as u32;
+    let low = byte(s, i + 2) as u32;
+    let w = ((high * 256 + middle) * 256 + low) << (8 + bit % 8);
+    u32::leading_zeros(!w) as usize
 }
 
 // The ones from a bit of the len lowest bits of x on.
@@ -87,9 +89,9 @@ fn step(limit: u8, k: usize, m: usize, n: usize, b: usize, out: &mut [u8]) -> Tu
     Turn::On(e)
 }
 
-// The digits of a packed code, up to its end. No digit may be more than the nine bits tell that are looked at.
+// The digits of a packed code, up to its end. No digit may be more than the bits tell that are looked at.
 pub fn digits(limit: u8, s: &[u8], out: &mut [u8]) -> Found
-    requires { ⌜ (1 ≤ limit) × (limit < 9) ⌝ }
+    requires { ⌜ (1 ≤ limit) × (limit ≤ width) ⌝ }
     requires { ⌜ (length (now s) ≤ packedBytes) × (length (now out) ≡ size) ⌝ }
     ensures { λ r. ⌜ Scanned limit (bytes (now (s .entry))) (now (out .exit)) r ⌝ }
 {
@@ -126,7 +128,7 @@ pub fn word_digits(limit: u8, x: u64, len: usize, out: &mut [u8]) -> Found
 
 // The digits of a packed code, with rows 10 to 12.
 pub fn packed(limit: u8, s: &[u8], out: &mut [u8]) -> Answer
-    requires { ⌜ (1 ≤ limit) × (limit < 9) ⌝ }
+    requires { ⌜ (1 ≤ limit) × (limit ≤ width) ⌝ }
     requires { ⌜ (length (now s) ≤ packedBytes) × (length (now out) ≡ size) ⌝ }
     ensures { λ r. ⌜ Reading limit Fill (bytes (now (s .entry))) (now (out .exit)) r ⌝ }
 {
@@ -214,7 +216,7 @@ pub fn siblings(read: Answer, digits: &[u8]) -> Answer
 
 // The right code in a packed code: rows 3 and 10 to 13.
 pub fn packed_code(limit: u8, s: &[u8], out: &mut [u8]) -> Answer
-    requires { ⌜ (1 ≤ limit) × (limit < 9) ⌝ }
+    requires { ⌜ (1 ≤ limit) × (limit ≤ width) ⌝ }
     requires { ⌜ length (now out) ≡ size ⌝ }
     ensures { λ r. ⌜ Decision (packedRows packedBytes limit (now (s .entry))) limit Fill (bytes (now (s .entry))) (now (out .exit)) r ⌝ }
 {
@@ -282,10 +284,26 @@ pub fn number_of(code: &[u8]) -> u64
     x
 }
 
+// Writes the whole bytes of the c lowest bits of a, highest first, from m on; where they end. Fewer than eight bits are then left.
+fn put_out(a: u64, c: u64, m: usize, out: &mut [u8]) -> usize
+    requires { ⌜ (c < 24) × (m + c / 8 ≤ length (now out)) ⌝ }
+    ensures { λ r. ⌜ PutOut a c m (now (out .entry)) (now (out .exit)) r ⌝ }
+{
+    if c < 8 {
+        return m;
+    }
+    let left = c - 8;
+    out[m] = ((a >> left) % 256) as u8;
+    if left < 8 {
+        return m + 1;
+    }
+    out[m + 1] = ((a >> (left - 8)) % 256) as u8;
+    m + 2
+}
+
 // The packed form of a code, at the start of out; how many bytes it has. The c lowest bits of a are still to be written.
-// With digits up to six, one digit fills at most one byte.
 pub fn pack(code: &[u8], out: &mut [u8]) -> usize
-    requires { ⌜ Coded 6 size (now code) × ((2 * length (now code) + 6) / 8 ≤ length (now out)) ⌝ }
+    requires { ⌜ Coded width size (now code) × ((2 * length (now code) + 6) / 8 ≤ length (now out)) ⌝ }
     ensures { λ r. ⌜ Writes (Packs (now (code .entry))) (now (out .entry)) r (now (out .exit)) ⌝ }
 {
     let mut a: u64 = 0;
@@ -297,11 +315,8 @@ pub fn pack(code: &[u8], out: &mut [u8]) -> usize
         a = append(a % 256, k);
         c += k + 1;
         i += 1;
-        if 8 <= c {
-            c -= 8;
-            out[m] = ((a >> c) % 256) as u8;
-            m += 1;
-        }
+        m = put_out(a, c, m, out);
+        c %= 8;
     }
     out[m] = ((a << (8 - c)) % 256) as u8;
     m + 1

@@ -87,7 +87,7 @@ fn packed(n: usize, edges: &[u8], k: usize) {
     if edges.len() < k {
         return;
     }
-    let r = zurkhovel::bit_tuple::pack(n, &edges[..k], 1, &mut out);
+    let r = zurkhovel::bit_tuple::pack(1, n, &edges[..k], 1, &mut out);
     let a = r.answer;
     if let Answer::Done(j) = a {
         bytes(&out, j);
@@ -100,7 +100,7 @@ fn packed_code(code: &[u8], n: usize) {
     if code.len() < n {
         return;
     }
-    if let Answer::Done(k) = zurkhovel::codes::decode_centred(&code[..n], &mut edges) {
+    if let Answer::Done(k) = zurkhovel::codes::decode_centred(1, &code[..n], &mut edges) {
         packed(n, &edges, k);
     }
 }
@@ -109,8 +109,8 @@ fn packed_code(code: &[u8], n: usize) {
 fn row(name: &[u8], n: usize, edges: &[u8], chain: u8) {
     let mut centred = [0u8; 7];
     let mut tuple = [0u8; 7];
-    zurkhovel::codes::centred_code(n, edges, &mut centred);
-    zurkhovel::codes::n_tuple_code(n, edges, &mut tuple);
+    zurkhovel::codes::centred_code(1, n, edges, &mut centred);
+    zurkhovel::codes::n_tuple_code(1, n, edges, &mut tuple);
     text(b"| ");
     text(name);
     text(b" | ");

@@ -17,7 +17,7 @@ fn rooted(edges: &[u8], v: usize) {
     sized(b"rooted_code", 7, edges);
     text(b", ");
     number(v as u64);
-    let a = zurkhovel::codes::rooted_code(7, edges, v, &mut out);
+    let a = zurkhovel::codes::rooted_code(1, 7, edges, v, &mut out);
     reported(a, &out);
 }
 
@@ -26,13 +26,13 @@ fn coded(edges: &[u8]) {
     let mut out = [0u8; 7];
     let mut pairs = [0u8; 12];
     sized(b"n_tuple_code", 7, edges);
-    let a = zurkhovel::codes::n_tuple_code(7, edges, &mut out);
+    let a = zurkhovel::codes::n_tuple_code(1, 7, edges, &mut out);
     reported(a, &out);
     sized(b"centred_code", 7, edges);
-    let b = zurkhovel::codes::centred_code(7, edges, &mut out);
+    let b = zurkhovel::codes::centred_code(1, 7, edges, &mut out);
     reported(b, &out);
     given(b"decode_centred", &out);
-    let c = zurkhovel::codes::decode_centred(&out, &mut pairs);
+    let c = zurkhovel::codes::decode_centred(1, &out, &mut pairs);
     answer(c, &pairs);
 }
 
@@ -41,14 +41,14 @@ fn bits(edges: &[u8]) {
     let mut out = [0u8; 2];
     sized(b"pack", 7, edges);
     text(b", 2");
-    let a = zurkhovel::bit_tuple::pack(7, edges, 2, &mut out);
+    let a = zurkhovel::bit_tuple::pack(1, 7, edges, 2, &mut out);
     reported(a, &out);
     sized(b"whole", 7, edges);
     text(b", 2");
-    valued(zurkhovel::bit_tuple::whole(7, edges, 2));
+    valued(zurkhovel::bit_tuple::whole(1, 7, edges, 2));
     sized(b"fraction", 7, edges);
     text(b", 2");
-    let r = zurkhovel::bit_tuple::fraction(7, edges, 2);
+    let r = zurkhovel::bit_tuple::fraction(1, 7, edges, 2);
     let a = r.answer;
     match a {
         Fraction::Exact(x) => {
@@ -64,25 +64,25 @@ fn bits(edges: &[u8]) {
 fn adjacency(edges: &[u8]) {
     let mut out = [0u8; 6];
     sized(b"cam", 7, edges);
-    let a = zurkhovel::matrix::cam(7, edges, &mut out);
+    let a = zurkhovel::matrix::cam(1, 7, edges, &mut out);
     answer(a, &out);
     sized(b"cam_by_code", 7, edges);
-    let b = zurkhovel::matrix::cam_by_code(7, edges, &mut out);
+    let b = zurkhovel::matrix::cam_by_code(1, 7, edges, &mut out);
     reported(b, &out);
     sized(b"zero_a", 7, edges);
-    value(zurkhovel::matrix::zero_a(7, edges));
+    value(zurkhovel::matrix::zero_a(1, 7, edges));
     sized(b"zero_a_by_code", 7, edges);
-    valued(zurkhovel::matrix::zero_a_by_code(7, edges));
+    valued(zurkhovel::matrix::zero_a_by_code(1, 7, edges));
     sized(b"a_zero", 7, edges);
-    value(zurkhovel::matrix::a_zero(7, edges));
+    value(zurkhovel::matrix::a_zero(1, 7, edges));
     sized(b"a_zero_by_code", 7, edges);
-    valued(zurkhovel::matrix::a_zero_by_code(7, edges));
+    valued(zurkhovel::matrix::a_zero_by_code(1, 7, edges));
 }
 
 fn same(edges: &[u8], others: &[u8]) {
     sized(b"same_skeleton", 7, edges);
     sized(b",", 7, others);
-    let r = zurkhovel::codes::same_skeleton(7, edges, 7, others);
+    let r = zurkhovel::codes::same_skeleton(1, 7, edges, 7, others);
     let a = r.answer;
     match a {
         Verdict::Same => text(b" = Same\n"),
@@ -95,20 +95,20 @@ fn same(edges: &[u8], others: &[u8]) {
 fn alike(edges: &[u8]) {
     let mut out = [0u8; 7];
     sized(b"equal_vertices", 7, edges);
-    let a = zurkhovel::alike::equal_vertices(7, edges, &mut out);
+    let a = zurkhovel::alike::equal_vertices(1, 7, edges, &mut out);
     reported(a, &out);
     sized(b"equal_vertices", 6, &[1, 2, 2, 3, 3, 4, 4, 5, 2, 6]);
-    let b = zurkhovel::alike::equal_vertices(6, &[1, 2, 2, 3, 3, 4, 4, 5, 2, 6], &mut out);
+    let b = zurkhovel::alike::equal_vertices(1, 6, &[1, 2, 2, 3, 3, 4, 4, 5, 2, 6], &mut out);
     reported(b, &out);
     sized(b"equal_vertices", 4, &[1, 2, 2, 3, 3, 4]);
-    let c = zurkhovel::alike::equal_vertices(4, &[1, 2, 2, 3, 3, 4], &mut out);
+    let c = zurkhovel::alike::equal_vertices(1, 4, &[1, 2, 2, 3, 3, 4], &mut out);
     reported(c, &out);
 }
 
 fn line(edges: &[u8]) {
     let mut out = [0u8; 10];
     sized(b"write_line", 7, edges);
-    let a = zurkhovel::text::write_line(7, edges, &mut out);
+    let a = zurkhovel::text::write_line(1, 7, edges, &mut out);
     reported(a, &out);
 }
 

@@ -12,7 +12,7 @@ fn read(s: &[u8]) {
     text(b"read_line '");
     line(s);
     text(b"'");
-    let a = zurkhovel::text::read_line(s, &mut out);
+    let a = zurkhovel::text::read_line(1, s, &mut out);
     answer(a, &out);
 }
 
@@ -45,7 +45,7 @@ fn no_centred_code() {
 fn edges(n: usize, list: &[u8]) {
     sized(b"check_edges", n, list);
     text(b", 1");
-    answer(zurkhovel::codes::check_edges(n, list, 1), &[]);
+    answer(zurkhovel::codes::check_edges(1, n, list, 1), &[]);
 }
 
 fn lists() {
@@ -59,14 +59,14 @@ fn lists() {
 fn numbers() {
     let mut out = [0u8; 2];
     numbered(b"unwhole", 3, 32);
-    let a = zurkhovel::bit_tuple::unwhole(3, 32, &mut out);
+    let a = zurkhovel::bit_tuple::unwhole(1, 3, 32, &mut out);
     answer(a, &out);
     sized(b"cam", 3, &[1, 3, 3, 2]);
-    let b = zurkhovel::matrix::cam(3, &[1, 3, 3, 2], &mut out);
+    let b = zurkhovel::matrix::cam(1, 3, &[1, 3, 3, 2], &mut out);
     answer(b, &out);
     sized(b"centred_code", 3, &[1, 2, 2, 3]);
     text(b" into 2 bytes");
-    let c = zurkhovel::codes::centred_code(3, &[1, 2, 2, 3], &mut out);
+    let c = zurkhovel::codes::centred_code(1, 3, &[1, 2, 2, 3], &mut out);
     reported(c, &out);
 }
 

@@ -9,6 +9,7 @@ pub mod Search
 pub mod Two
 pub mod Stack
 pub mod Right
+pub mod Editions
 pub mod Compare
 pub mod Comparing
 pub mod Examples

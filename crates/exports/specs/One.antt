@@ -4,7 +4,7 @@
 --
 -- In order: the law for each kind of answer; the functions. Assumes nothing.
 use mathlib.Core.Path.{_≡_, refl, sym, ap, subst, _∙_}
-use mathlib.Core.Bool.{Bool, true, false}
+use mathlib.Core.Bool.{true, false}
 use mathlib.Core.List.{List}
 use Prim.Native.Nat.{ℕ}
 use lib.Ieee.{Float}
@@ -98,153 +98,154 @@ one-exact P f o q x y =
     let (b, j) = exact q in
     i ∙ ap toldFraction (f a b (subst P i x) (subst P j y)) ∙ sym j
 
--- ---- the functions
+-- ---- the functions, in the edition e
 
-pub one-zk-check-code : (c : List ℕ) (r s : ℕ) → PackedAnswer (CheckCode c) r → PackedAnswer (CheckCode c) s → r ≡ s
-one-zk-check-code c = one-check (codes.one-check-code c)
+module _ (e : ℕ) where
+  pub one-zk-check-code : (c : List ℕ) (r s : ℕ) → PackedAnswer (CheckCode e c) r → PackedAnswer (CheckCode e c) s → r ≡ s
+  one-zk-check-code c = one-check (codes.one-check-code e c)
 
-pub one-zk-decode-code :
-    (c : List ℕ) (old new new′ : List ℕ) (r s : ℕ) → PackedAnswer (DecodeCode c old new) r → PackedAnswer (DecodeCode c old new′) s
-    → (r ≡ s) × (new ≡ new′)
-one-zk-decode-code c old new new′ = one-written (codes.one-decode-code c old new new′)
+  pub one-zk-decode-code :
+      (c : List ℕ) (old new new′ : List ℕ) (r s : ℕ) → PackedAnswer (DecodeCode e c old new) r → PackedAnswer (DecodeCode e c old new′) s
+      → (r ≡ s) × (new ≡ new′)
+  one-zk-decode-code c old new new′ = one-written (codes.one-decode-code e c old new new′)
 
-pub one-zk-decode-n-tuple :
-    (c : List ℕ) (old new new′ : List ℕ) (r s : ℕ) → PackedAnswer (DecodeForm nTuple c old new) r → PackedAnswer (DecodeForm nTuple c old new′) s
-    → (r ≡ s) × (new ≡ new′)
-one-zk-decode-n-tuple c old new new′ = one-written (codes.one-decode-n-tuple c old new new′)
+  pub one-zk-decode-n-tuple :
+      (c : List ℕ) (old new new′ : List ℕ) (r s : ℕ) → PackedAnswer (DecodeForm e nTuple c old new) r → PackedAnswer (DecodeForm e nTuple c old new′) s
+      → (r ≡ s) × (new ≡ new′)
+  one-zk-decode-n-tuple c old new new′ = one-written (codes.one-decode-n-tuple e c old new new′)
 
-pub one-zk-decode-centred :
-    (c : List ℕ) (old new new′ : List ℕ) (r s : ℕ) → PackedAnswer (DecodeForm centred c old new) r → PackedAnswer (DecodeForm centred c old new′) s
-    → (r ≡ s) × (new ≡ new′)
-one-zk-decode-centred c old new new′ = one-written (codes.one-decode-centred c old new new′)
+  pub one-zk-decode-centred :
+      (c : List ℕ) (old new new′ : List ℕ) (r s : ℕ) → PackedAnswer (DecodeForm e centred c old new) r → PackedAnswer (DecodeForm e centred c old new′) s
+      → (r ≡ s) × (new ≡ new′)
+  one-zk-decode-centred c old new new′ = one-written (codes.one-decode-centred e c old new new′)
 
-pub one-zk-check-edges : (N : ℕ) (E : List ℕ) (root : ℕ) (r s : ℕ) → PackedAnswer (CheckEdges N E root) r → PackedAnswer (CheckEdges N E root) s → r ≡ s
-one-zk-check-edges N E root = one-check (codes.one-check-edges N E root)
+  pub one-zk-check-edges : (N : ℕ) (E : List ℕ) (root : ℕ) (r s : ℕ) → PackedAnswer (CheckEdges e N E root) r → PackedAnswer (CheckEdges e N E root) s → r ≡ s
+  one-zk-check-edges N E root = one-check (codes.one-check-edges e N E root)
 
-pub one-zk-rooted-code :
-    (N : ℕ) (E : List ℕ) (root : ℕ) (old new new′ : List ℕ) (r s : ℕ) → PackedAnswer (RootedCode N E root old new) r → PackedAnswer (RootedCode N E root old new′) s
-    → (r ≡ s) × (new ≡ new′)
-one-zk-rooted-code N E root old new new′ = one-written (codes.one-rooted-code N E root old new new′)
+  pub one-zk-rooted-code :
+      (N : ℕ) (E : List ℕ) (root : ℕ) (old new new′ : List ℕ) (r s : ℕ) → PackedAnswer (RootedCode e N E root old new) r → PackedAnswer (RootedCode e N E root old new′) s
+      → (r ≡ s) × (new ≡ new′)
+  one-zk-rooted-code N E root old new new′ = one-written (codes.one-rooted-code e N E root old new new′)
 
-pub one-zk-n-tuple-code :
-    (N : ℕ) (E : List ℕ) (old new new′ : List ℕ) (r s : ℕ) → PackedAnswer (FormCode nTuple N E old new) r → PackedAnswer (FormCode nTuple N E old new′) s
-    → (r ≡ s) × (new ≡ new′)
-one-zk-n-tuple-code N E old new new′ = one-written (codes.one-n-tuple-code N E old new new′)
+  pub one-zk-n-tuple-code :
+      (N : ℕ) (E : List ℕ) (old new new′ : List ℕ) (r s : ℕ) → PackedAnswer (FormCode e nTuple N E old new) r → PackedAnswer (FormCode e nTuple N E old new′) s
+      → (r ≡ s) × (new ≡ new′)
+  one-zk-n-tuple-code N E old new new′ = one-written (codes.one-n-tuple-code e N E old new new′)
 
-pub one-zk-centred-code :
-    (N : ℕ) (E : List ℕ) (old new new′ : List ℕ) (r s : ℕ) → PackedAnswer (FormCode centred N E old new) r → PackedAnswer (FormCode centred N E old new′) s
-    → (r ≡ s) × (new ≡ new′)
-one-zk-centred-code N E old new new′ = one-written (codes.one-centred-code N E old new new′)
+  pub one-zk-centred-code :
+      (N : ℕ) (E : List ℕ) (old new new′ : List ℕ) (r s : ℕ) → PackedAnswer (FormCode e centred N E old new) r → PackedAnswer (FormCode e centred N E old new′) s
+      → (r ≡ s) × (new ≡ new′)
+  one-zk-centred-code N E old new new′ = one-written (codes.one-centred-code e N E old new new′)
 
-pub one-zk-same-skeleton :
-    (N : ℕ) (E : List ℕ) (P : ℕ) (F : List ℕ) (r s : ℕ) → PackedFinding (SameSkeleton N E P F) r → PackedFinding (SameSkeleton N E P F) s → r ≡ s
-one-zk-same-skeleton N E P F r s (o, x, e) (q, y, g) =
-    let (a, i) = finding o in
-    let (b, j) = finding q in
-    e ∙ ap (packed withList truth) (i ∙ ap said (codes.one-same-skeleton N E P F a b (subst (SameSkeleton N E P F) i x) (subst (SameSkeleton N E P F) j y)) ∙ sym j) ∙ sym g
+  pub one-zk-same-skeleton :
+      (N : ℕ) (E : List ℕ) (P : ℕ) (F : List ℕ) (r s : ℕ) → PackedFinding (SameSkeleton e N E P F) r → PackedFinding (SameSkeleton e N E P F) s → r ≡ s
+  one-zk-same-skeleton N E P F r s (o, x, z) (q, y, g) =
+      let (a, i) = finding o in
+      let (b, j) = finding q in
+      z ∙ ap (packed withList truth) (i ∙ ap said (codes.one-same-skeleton e N E P F a b (subst (SameSkeleton e N E P F) i x) (subst (SameSkeleton e N E P F) j y)) ∙ sym j) ∙ sym g
 
-pub one-zk-renumbering :
-    (N : ℕ) (E : List ℕ) (P : ℕ) (F old new new′ : List ℕ) (r s : ℕ) → PackedMapping (HandOut N E P F old new) r → PackedMapping (HandOut N E P F old new′) s
-    → (r ≡ s) × (new ≡ new′)
-one-zk-renumbering N E P F old new new′ r s (o, x, e) (q, y, g) =
-    let (a, i) = mapping o in
-    let (b, j) = mapping q in
-    let (h, l) = carried.one-renumbering N E P F old new new′ a b (subst (HandOut N E P F old new) i x) (subst (HandOut N E P F old new′) j y) in
-    (e ∙ ap (packed withList (λ n. n)) (i ∙ ap mapped h ∙ sym j) ∙ sym g, l)
+  pub one-zk-renumbering :
+      (N : ℕ) (E : List ℕ) (P : ℕ) (F old new new′ : List ℕ) (r s : ℕ) → PackedMapping (HandOut e N E P F old new) r → PackedMapping (HandOut e N E P F old new′) s
+      → (r ≡ s) × (new ≡ new′)
+  one-zk-renumbering N E P F old new new′ r s (o, x, z) (q, y, g) =
+      let (a, i) = mapping o in
+      let (b, j) = mapping q in
+      let (h, l) = carried.one-renumbering e N E P F old new new′ a b (subst (HandOut e N E P F old new) i x) (subst (HandOut e N E P F old new′) j y) in
+      (z ∙ ap (packed withList (λ n. n)) (i ∙ ap mapped h ∙ sym j) ∙ sym g, l)
 
-pub one-zk-check-renumbering :
-    (N : ℕ) (E : List ℕ) (P : ℕ) (F w : List ℕ) (r s : ℕ) → PackedMapping (CheckRenumbering N E P F w) r → PackedMapping (CheckRenumbering N E P F w) s → r ≡ s
-one-zk-check-renumbering N E P F w r s (o, x, e) (q, y, g) =
-    let (a, i) = mapping o in
-    let (b, j) = mapping q in
-    e ∙ ap (packed withList (λ n. n)) (i ∙ ap mapped (carried.one-check-renumbering N E P F w a b (subst (CheckRenumbering N E P F w) i x) (subst (CheckRenumbering N E P F w) j y)) ∙ sym j) ∙ sym g
+  pub one-zk-check-renumbering :
+      (N : ℕ) (E : List ℕ) (P : ℕ) (F w : List ℕ) (r s : ℕ) → PackedMapping (CheckRenumbering e N E P F w) r → PackedMapping (CheckRenumbering e N E P F w) s → r ≡ s
+  one-zk-check-renumbering N E P F w r s (o, x, z) (q, y, g) =
+      let (a, i) = mapping o in
+      let (b, j) = mapping q in
+      z ∙ ap (packed withList (λ n. n)) (i ∙ ap mapped (carried.one-check-renumbering e N E P F w a b (subst (CheckRenumbering e N E P F w) i x) (subst (CheckRenumbering e N E P F w) j y)) ∙ sym j) ∙ sym g
 
-pub one-zk-pack :
-    (N : ℕ) (E : List ℕ) (root : ℕ) (old new new′ : List ℕ) (r s : ℕ) → PackedAnswer (Pack N E root old new) r → PackedAnswer (Pack N E root old new′) s
-    → (r ≡ s) × (new ≡ new′)
-one-zk-pack N E root old new new′ = one-written (bits.one-pack N E root old new new′)
+  pub one-zk-pack :
+      (N : ℕ) (E : List ℕ) (root : ℕ) (old new new′ : List ℕ) (r s : ℕ) → PackedAnswer (Pack e N E root old new) r → PackedAnswer (Pack e N E root old new′) s
+      → (r ≡ s) × (new ≡ new′)
+  one-zk-pack N E root old new new′ = one-written (bits.one-pack e N E root old new new′)
 
-pub one-zk-unpack :
-    (b : List ℕ) (old new new′ : List ℕ) (r s : ℕ) → PackedAnswer (Unpack b old new) r → PackedAnswer (Unpack b old new′) s
-    → (r ≡ s) × (new ≡ new′)
-one-zk-unpack b old new new′ = one-written (bits.one-unpack b old new new′)
+  pub one-zk-unpack :
+      (b : List ℕ) (old new new′ : List ℕ) (r s : ℕ) → PackedAnswer (Unpack e b old new) r → PackedAnswer (Unpack e b old new′) s
+      → (r ≡ s) × (new ≡ new′)
+  one-zk-unpack b old new new′ = one-written (bits.one-unpack e b old new new′)
 
-pub one-zk-whole :
-    (N : ℕ) (E : List ℕ) (root : ℕ) (old new new′ : ℕ) (r s : ℕ) → PackedValue (Whole N E root) old new r → PackedValue (Whole N E root) old new′ s
-    → (r ≡ s) × (new ≡ new′)
-one-zk-whole N E root = one-held (one-number (Whole N E root) (bits.one-whole N E root))
+  pub one-zk-whole :
+      (N : ℕ) (E : List ℕ) (root : ℕ) (old new new′ : ℕ) (r s : ℕ) → PackedValue (Whole e N E root) old new r → PackedValue (Whole e N E root) old new′ s
+      → (r ≡ s) × (new ≡ new′)
+  one-zk-whole N E root = one-held (one-number (Whole e N E root) (bits.one-whole e N E root))
 
-pub one-zk-unwhole :
-    (N : ℕ) (x : ℕ) (old new new′ : List ℕ) (r s : ℕ) → PackedAnswer (Unwhole N x old new) r → PackedAnswer (Unwhole N x old new′) s
-    → (r ≡ s) × (new ≡ new′)
-one-zk-unwhole N x old new new′ = one-written (bits.one-unwhole N x old new new′)
+  pub one-zk-unwhole :
+      (N : ℕ) (x : ℕ) (old new new′ : List ℕ) (r s : ℕ) → PackedAnswer (Unwhole e N x old new) r → PackedAnswer (Unwhole e N x old new′) s
+      → (r ≡ s) × (new ≡ new′)
+  one-zk-unwhole N x old new new′ = one-written (bits.one-unwhole e N x old new new′)
 
-pub one-zk-fraction :
-    (N : ℕ) (E : List ℕ) (root : ℕ) (old new new′ : Float) (r s : ℕ) → PackedValue (InFraction N E root) old new r → PackedValue (InFraction N E root) old new′ s
-    → (r ≡ s) × (new ≡ new′)
-one-zk-fraction N E root = one-held (one-exact (InFraction N E root) (bits.one-fraction N E root))
+  pub one-zk-fraction :
+      (N : ℕ) (E : List ℕ) (root : ℕ) (old new new′ : Float) (r s : ℕ) → PackedValue (InFraction e N E root) old new r → PackedValue (InFraction e N E root) old new′ s
+      → (r ≡ s) × (new ≡ new′)
+  one-zk-fraction N E root = one-held (one-exact (InFraction e N E root) (bits.one-fraction e N E root))
 
-pub one-zk-unfraction :
-    (x : Float) (old new new′ : List ℕ) (r s : ℕ) → PackedAnswer (Unfraction x old new) r → PackedAnswer (Unfraction x old new′) s
-    → (r ≡ s) × (new ≡ new′)
-one-zk-unfraction x old new new′ = one-written (bits.one-unfraction x old new new′)
+  pub one-zk-unfraction :
+      (x : Float) (old new new′ : List ℕ) (r s : ℕ) → PackedAnswer (Unfraction e x old new) r → PackedAnswer (Unfraction e x old new′) s
+      → (r ≡ s) × (new ≡ new′)
+  one-zk-unfraction x old new new′ = one-written (bits.one-unfraction e x old new new′)
 
-pub one-zk-cam :
-    (N : ℕ) (E : List ℕ) (old new new′ : List ℕ) (r s : ℕ) → PackedAnswer (Cam N E old new) r → PackedAnswer (Cam N E old new′) s
-    → (r ≡ s) × (new ≡ new′)
-one-zk-cam N E old new new′ = one-written (matrix.one-cam N E old new new′)
+  pub one-zk-cam :
+      (N : ℕ) (E : List ℕ) (old new new′ : List ℕ) (r s : ℕ) → PackedAnswer (Cam e N E old new) r → PackedAnswer (Cam e N E old new′) s
+      → (r ≡ s) × (new ≡ new′)
+  one-zk-cam N E old new new′ = one-written (matrix.one-cam e N E old new new′)
 
-pub one-zk-zero-a :
-    (N : ℕ) (E : List ℕ) (old new new′ : ℕ) (r s : ℕ) → PackedValue (ZeroA N E) old new r → PackedValue (ZeroA N E) old new′ s
-    → (r ≡ s) × (new ≡ new′)
-one-zk-zero-a N E = one-held (one-number (ZeroA N E) (matrix.one-zero-a N E))
+  pub one-zk-zero-a :
+      (N : ℕ) (E : List ℕ) (old new new′ : ℕ) (r s : ℕ) → PackedValue (ZeroA e N E) old new r → PackedValue (ZeroA e N E) old new′ s
+      → (r ≡ s) × (new ≡ new′)
+  one-zk-zero-a N E = one-held (one-number (ZeroA e N E) (matrix.one-zero-a e N E))
 
-pub one-zk-a-zero :
-    (N : ℕ) (E : List ℕ) (old new new′ : ℕ) (r s : ℕ) → PackedValue (AZero N E) old new r → PackedValue (AZero N E) old new′ s
-    → (r ≡ s) × (new ≡ new′)
-one-zk-a-zero N E = one-held (one-number (AZero N E) (matrix.one-a-zero N E))
+  pub one-zk-a-zero :
+      (N : ℕ) (E : List ℕ) (old new new′ : ℕ) (r s : ℕ) → PackedValue (AZero e N E) old new r → PackedValue (AZero e N E) old new′ s
+      → (r ≡ s) × (new ≡ new′)
+  one-zk-a-zero N E = one-held (one-number (AZero e N E) (matrix.one-a-zero e N E))
 
-pub one-zk-cam-by-code :
-    (N : ℕ) (E : List ℕ) (old new new′ : List ℕ) (r s : ℕ) → PackedAnswer (CamByCode N E old new) r → PackedAnswer (CamByCode N E old new′) s
-    → (r ≡ s) × (new ≡ new′)
-one-zk-cam-by-code N E old new new′ = one-written (matrix.one-cam-by-code N E old new new′)
+  pub one-zk-cam-by-code :
+      (N : ℕ) (E : List ℕ) (old new new′ : List ℕ) (r s : ℕ) → PackedAnswer (CamByCode e N E old new) r → PackedAnswer (CamByCode e N E old new′) s
+      → (r ≡ s) × (new ≡ new′)
+  one-zk-cam-by-code N E old new new′ = one-written (matrix.one-cam-by-code e N E old new new′)
 
-pub one-zk-zero-a-by-code :
-    (N : ℕ) (E : List ℕ) (old new new′ : ℕ) (r s : ℕ) → PackedValue (ZeroAByCode N E) old new r → PackedValue (ZeroAByCode N E) old new′ s
-    → (r ≡ s) × (new ≡ new′)
-one-zk-zero-a-by-code N E = one-held (one-number (ZeroAByCode N E) (matrix.one-zero-a-by-code N E))
+  pub one-zk-zero-a-by-code :
+      (N : ℕ) (E : List ℕ) (old new new′ : ℕ) (r s : ℕ) → PackedValue (ZeroAByCode e N E) old new r → PackedValue (ZeroAByCode e N E) old new′ s
+      → (r ≡ s) × (new ≡ new′)
+  one-zk-zero-a-by-code N E = one-held (one-number (ZeroAByCode e N E) (matrix.one-zero-a-by-code e N E))
 
-pub one-zk-a-zero-by-code :
-    (N : ℕ) (E : List ℕ) (old new new′ : ℕ) (r s : ℕ) → PackedValue (AZeroByCode N E) old new r → PackedValue (AZeroByCode N E) old new′ s
-    → (r ≡ s) × (new ≡ new′)
-one-zk-a-zero-by-code N E = one-held (one-number (AZeroByCode N E) (matrix.one-a-zero-by-code N E))
+  pub one-zk-a-zero-by-code :
+      (N : ℕ) (E : List ℕ) (old new new′ : ℕ) (r s : ℕ) → PackedValue (AZeroByCode e N E) old new r → PackedValue (AZeroByCode e N E) old new′ s
+      → (r ≡ s) × (new ≡ new′)
+  one-zk-a-zero-by-code N E = one-held (one-number (AZeroByCode e N E) (matrix.one-a-zero-by-code e N E))
 
-pub one-zk-decode-cam :
-    (N : ℕ) (c : List ℕ) (old new new′ : List ℕ) (r s : ℕ) → PackedAnswer (DecodeCam N c old new) r → PackedAnswer (DecodeCam N c old new′) s
-    → (r ≡ s) × (new ≡ new′)
-one-zk-decode-cam N c old new new′ = one-written (matrix.one-decode-cam N c old new new′)
+  pub one-zk-decode-cam :
+      (N : ℕ) (c : List ℕ) (old new new′ : List ℕ) (r s : ℕ) → PackedAnswer (DecodeCam e N c old new) r → PackedAnswer (DecodeCam e N c old new′) s
+      → (r ≡ s) × (new ≡ new′)
+  one-zk-decode-cam N c old new new′ = one-written (matrix.one-decode-cam e N c old new new′)
 
-pub one-zk-decode-zero-a :
-    (N : ℕ) (x : ℕ) (old new new′ : List ℕ) (r s : ℕ) → PackedAnswer (DecodeZeroA N x old new) r → PackedAnswer (DecodeZeroA N x old new′) s
-    → (r ≡ s) × (new ≡ new′)
-one-zk-decode-zero-a N x old new new′ = one-written (matrix.one-decode-zero-a N x old new new′)
+  pub one-zk-decode-zero-a :
+      (N : ℕ) (x : ℕ) (old new new′ : List ℕ) (r s : ℕ) → PackedAnswer (DecodeZeroA e N x old new) r → PackedAnswer (DecodeZeroA e N x old new′) s
+      → (r ≡ s) × (new ≡ new′)
+  one-zk-decode-zero-a N x old new new′ = one-written (matrix.one-decode-zero-a e N x old new new′)
 
-pub one-zk-decode-a-zero :
-    (N : ℕ) (x : ℕ) (old new new′ : List ℕ) (r s : ℕ) → PackedAnswer (DecodeAZero N x old new) r → PackedAnswer (DecodeAZero N x old new′) s
-    → (r ≡ s) × (new ≡ new′)
-one-zk-decode-a-zero N x old new new′ = one-written (matrix.one-decode-a-zero N x old new new′)
+  pub one-zk-decode-a-zero :
+      (N : ℕ) (x : ℕ) (old new new′ : List ℕ) (r s : ℕ) → PackedAnswer (DecodeAZero e N x old new) r → PackedAnswer (DecodeAZero e N x old new′) s
+      → (r ≡ s) × (new ≡ new′)
+  one-zk-decode-a-zero N x old new new′ = one-written (matrix.one-decode-a-zero e N x old new new′)
 
-pub one-zk-equal-vertices :
-    (N : ℕ) (E : List ℕ) (old new new′ : List ℕ) (r s : ℕ) → PackedAnswer (EqualVertices N E old new) r → PackedAnswer (EqualVertices N E old new′) s
-    → (r ≡ s) × (new ≡ new′)
-one-zk-equal-vertices N E old new new′ = one-written (text.one-equal-vertices N E old new new′)
+  pub one-zk-equal-vertices :
+      (N : ℕ) (E : List ℕ) (old new new′ : List ℕ) (r s : ℕ) → PackedAnswer (EqualVertices e N E old new) r → PackedAnswer (EqualVertices e N E old new′) s
+      → (r ≡ s) × (new ≡ new′)
+  one-zk-equal-vertices N E old new new′ = one-written (text.one-equal-vertices e N E old new new′)
 
-pub one-zk-read-line :
-    (t : List ℕ) (old new new′ : List ℕ) (r s : ℕ) → PackedAnswer (ReadLine t old new) r → PackedAnswer (ReadLine t old new′) s
-    → (r ≡ s) × (new ≡ new′)
-one-zk-read-line t old new new′ = one-written (text.one-read-line t old new new′)
+  pub one-zk-read-line :
+      (t : List ℕ) (old new new′ : List ℕ) (r s : ℕ) → PackedAnswer (ReadLine e t old new) r → PackedAnswer (ReadLine e t old new′) s
+      → (r ≡ s) × (new ≡ new′)
+  one-zk-read-line t old new new′ = one-written (text.one-read-line e t old new new′)
 
-pub one-zk-write-line :
-    (N : ℕ) (E : List ℕ) (old new new′ : List ℕ) (r s : ℕ) → PackedAnswer (WriteLine N E old new) r → PackedAnswer (WriteLine N E old new′) s
-    → (r ≡ s) × (new ≡ new′)
-one-zk-write-line N E old new new′ = one-written (text.one-write-line N E old new new′)
+  pub one-zk-write-line :
+      (N : ℕ) (E : List ℕ) (old new new′ : List ℕ) (r s : ℕ) → PackedAnswer (WriteLine e N E old new) r → PackedAnswer (WriteLine e N E old new′) s
+      → (r ≡ s) × (new ≡ new′)
+  one-zk-write-line N E old new new′ = one-written (text.one-write-line e N E old new new′)

@@ -3,11 +3,11 @@
 -- is the call's own theorem (`OneReported` of the crate `zurkhovel`) through the packing.
 --
 -- In order: the law for each kind of answer; the functions. Assumes nothing.
-use mathlib.Core.Path.{_≡_, refl, sym, ap, subst, _∙_}
+use mathlib.Core.Path.{_≡_, sym, ap, subst, _∙_}
 use mathlib.Core.List.{List}
 use Prim.Native.Nat.{ℕ}
 use lib.Ieee.{Float}
-use Rattle.refusal.specs.document.Table.{OutcomeOf, Outcome}
+use Rattle.refusal.specs.document.Table.{Outcome}
 use Rattle.refusal.specs.document.Outcome.{told, numbered}
 use Rattle.fraction.specs.document.Outcome.{toldFraction}
 use Rattle.form.specs.document.Form.{nTuple, centred}
@@ -72,79 +72,80 @@ one-exact {P} {Count} f o q m m′ x y =
     let h = f (record { answer = a; pairs = m }) (record { answer = b; pairs = m′ }) (subst (λ w. Reporting P Count w m) i x) (subst (λ w. Reporting P Count w m′) j y) in
     (i ∙ ap (λ (v : ReportedFraction). toldFraction (v .answer)) h ∙ sym j, ap (λ (v : ReportedFraction). v .pairs) h)
 
--- ---- the functions
+-- ---- the functions, in the edition e
 
-pub one-zk-rooted-code-pairs :
-    (N : ℕ) (E : List ℕ) (root : ℕ) (old new new′ : List ℕ) (m m′ r s : ℕ) → PackedAnswer (λ o. Reporting (RootedCode N E root old new) (atRoot N E root) o m) r
-    → PackedAnswer (λ o. Reporting (RootedCode N E root old new′) (atRoot N E root) o m′) s → (r ≡ s) × (new ≡ new′) × (m ≡ m′)
-one-zk-rooted-code-pairs N E root old new new′ = one-written (calls.one-rooted-code-reported N E root old new new′)
+module _ (e : ℕ) where
+  pub one-zk-rooted-code-pairs :
+      (N : ℕ) (E : List ℕ) (root : ℕ) (old new new′ : List ℕ) (m m′ r s : ℕ) → PackedAnswer (λ o. Reporting (RootedCode e N E root old new) (atRoot N E root) o m) r
+      → PackedAnswer (λ o. Reporting (RootedCode e N E root old new′) (atRoot N E root) o m′) s → (r ≡ s) × (new ≡ new′) × (m ≡ m′)
+  one-zk-rooted-code-pairs N E root old new new′ = one-written (calls.one-rooted-code-reported e N E root old new new′)
 
-pub one-zk-n-tuple-code-pairs :
-    (N : ℕ) (E : List ℕ) (old new new′ : List ℕ) (m m′ r s : ℕ) → PackedAnswer (λ o. Reporting (FormCode nTuple N E old new) (nTuplePairs N E) o m) r
-    → PackedAnswer (λ o. Reporting (FormCode nTuple N E old new′) (nTuplePairs N E) o m′) s → (r ≡ s) × (new ≡ new′) × (m ≡ m′)
-one-zk-n-tuple-code-pairs N E old new new′ = one-written (calls.one-n-tuple-code-reported N E old new new′)
+  pub one-zk-n-tuple-code-pairs :
+      (N : ℕ) (E : List ℕ) (old new new′ : List ℕ) (m m′ r s : ℕ) → PackedAnswer (λ o. Reporting (FormCode e nTuple N E old new) (nTuplePairs N E) o m) r
+      → PackedAnswer (λ o. Reporting (FormCode e nTuple N E old new′) (nTuplePairs N E) o m′) s → (r ≡ s) × (new ≡ new′) × (m ≡ m′)
+  one-zk-n-tuple-code-pairs N E old new new′ = one-written (calls.one-n-tuple-code-reported e N E old new new′)
 
-pub one-zk-centred-code-pairs :
-    (N : ℕ) (E : List ℕ) (old new new′ : List ℕ) (m m′ r s : ℕ) → PackedAnswer (λ o. Reporting (FormCode centred N E old new) (centredPairs N E) o m) r
-    → PackedAnswer (λ o. Reporting (FormCode centred N E old new′) (centredPairs N E) o m′) s → (r ≡ s) × (new ≡ new′) × (m ≡ m′)
-one-zk-centred-code-pairs N E old new new′ = one-written (calls.one-centred-code-reported N E old new new′)
+  pub one-zk-centred-code-pairs :
+      (N : ℕ) (E : List ℕ) (old new new′ : List ℕ) (m m′ r s : ℕ) → PackedAnswer (λ o. Reporting (FormCode e centred N E old new) (centredPairs N E) o m) r
+      → PackedAnswer (λ o. Reporting (FormCode e centred N E old new′) (centredPairs N E) o m′) s → (r ≡ s) × (new ≡ new′) × (m ≡ m′)
+  one-zk-centred-code-pairs N E old new new′ = one-written (calls.one-centred-code-reported e N E old new new′)
 
-pub one-zk-same-skeleton-pairs :
-    (N : ℕ) (E : List ℕ) (P : ℕ) (F : List ℕ) (m m′ r s : ℕ) → PackedFinding (λ o. Reporting (SameSkeleton N E P F) (OfBoth N E P F) o m) r
-    → PackedFinding (λ o. Reporting (SameSkeleton N E P F) (OfBoth N E P F) o m′) s → (r ≡ s) × (m ≡ m′)
-one-zk-same-skeleton-pairs N E P F m m′ r s (o, x, e) (q, y, g) =
-    let (a, i) = finding o in
-    let (b, j) = finding q in
-    let h = calls.one-same-skeleton-reported N E P F (record { answer = a; pairs = m }) (record { answer = b; pairs = m′ })
-    (subst (λ w. Reporting (SameSkeleton N E P F) (OfBoth N E P F) w m) i x) (subst (λ w. Reporting (SameSkeleton N E P F) (OfBoth N E P F) w m′) j y) in
-    (e ∙ ap (packed withList truth) (i ∙ ap (λ (v : ReportedVerdict). said (v .answer)) h ∙ sym j) ∙ sym g, ap (λ (v : ReportedVerdict). v .pairs) h)
+  pub one-zk-same-skeleton-pairs :
+      (N : ℕ) (E : List ℕ) (P : ℕ) (F : List ℕ) (m m′ r s : ℕ) → PackedFinding (λ o. Reporting (SameSkeleton e N E P F) (OfBoth N E P F) o m) r
+      → PackedFinding (λ o. Reporting (SameSkeleton e N E P F) (OfBoth N E P F) o m′) s → (r ≡ s) × (m ≡ m′)
+  one-zk-same-skeleton-pairs N E P F m m′ r s (o, x, z) (q, y, g) =
+      let (a, i) = finding o in
+      let (b, j) = finding q in
+      let h = calls.one-same-skeleton-reported e N E P F (record { answer = a; pairs = m }) (record { answer = b; pairs = m′ })
+      (subst (λ w. Reporting (SameSkeleton e N E P F) (OfBoth N E P F) w m) i x) (subst (λ w. Reporting (SameSkeleton e N E P F) (OfBoth N E P F) w m′) j y) in
+      (z ∙ ap (packed withList truth) (i ∙ ap (λ (v : ReportedVerdict). said (v .answer)) h ∙ sym j) ∙ sym g, ap (λ (v : ReportedVerdict). v .pairs) h)
 
-pub one-zk-renumbering-pairs :
-    (N : ℕ) (E : List ℕ) (P : ℕ) (F old new new′ : List ℕ) (m m′ r s : ℕ) → PackedMapping (λ o. Reporting (HandOut N E P F old new) (OfBoth N E P F) o m) r
-    → PackedMapping (λ o. Reporting (HandOut N E P F old new′) (OfBoth N E P F) o m′) s → (r ≡ s) × (new ≡ new′) × (m ≡ m′)
-one-zk-renumbering-pairs N E P F old new new′ m m′ r s (o, x, e) (q, y, g) =
-    let (a, i) = mapping o in
-    let (b, j) = mapping q in
-    let (h, l) = calls.one-renumbering-reported N E P F old new new′ (record { answer = a; pairs = m }) (record { answer = b; pairs = m′ })
-    (subst (λ w. Reporting (HandOut N E P F old new) (OfBoth N E P F) w m) i x) (subst (λ w. Reporting (HandOut N E P F old new′) (OfBoth N E P F) w m′) j y) in
-    (e ∙ ap (packed withList (λ n. n)) (i ∙ ap (λ (v : ReportedMapping). mapped (v .answer)) h ∙ sym j) ∙ sym g, l, ap (λ (v : ReportedMapping). v .pairs) h)
+  pub one-zk-renumbering-pairs :
+      (N : ℕ) (E : List ℕ) (P : ℕ) (F old new new′ : List ℕ) (m m′ r s : ℕ) → PackedMapping (λ o. Reporting (HandOut e N E P F old new) (OfBoth N E P F) o m) r
+      → PackedMapping (λ o. Reporting (HandOut e N E P F old new′) (OfBoth N E P F) o m′) s → (r ≡ s) × (new ≡ new′) × (m ≡ m′)
+  one-zk-renumbering-pairs N E P F old new new′ m m′ r s (o, x, z) (q, y, g) =
+      let (a, i) = mapping o in
+      let (b, j) = mapping q in
+      let (h, l) = calls.one-renumbering-reported e N E P F old new new′ (record { answer = a; pairs = m }) (record { answer = b; pairs = m′ })
+      (subst (λ w. Reporting (HandOut e N E P F old new) (OfBoth N E P F) w m) i x) (subst (λ w. Reporting (HandOut e N E P F old new′) (OfBoth N E P F) w m′) j y) in
+      (z ∙ ap (packed withList (λ n. n)) (i ∙ ap (λ (v : ReportedMapping). mapped (v .answer)) h ∙ sym j) ∙ sym g, l, ap (λ (v : ReportedMapping). v .pairs) h)
 
-pub one-zk-pack-pairs :
-    (N : ℕ) (E : List ℕ) (root : ℕ) (old new new′ : List ℕ) (m m′ r s : ℕ) → PackedAnswer (λ o. Reporting (Pack N E root old new) (atRoot N E root) o m) r
-    → PackedAnswer (λ o. Reporting (Pack N E root old new′) (atRoot N E root) o m′) s → (r ≡ s) × (new ≡ new′) × (m ≡ m′)
-one-zk-pack-pairs N E root old new new′ = one-written (calls.one-pack-reported N E root old new new′)
+  pub one-zk-pack-pairs :
+      (N : ℕ) (E : List ℕ) (root : ℕ) (old new new′ : List ℕ) (m m′ r s : ℕ) → PackedAnswer (λ o. Reporting (Pack e N E root old new) (atRoot N E root) o m) r
+      → PackedAnswer (λ o. Reporting (Pack e N E root old new′) (atRoot N E root) o m′) s → (r ≡ s) × (new ≡ new′) × (m ≡ m′)
+  one-zk-pack-pairs N E root old new new′ = one-written (calls.one-pack-reported e N E root old new new′)
 
-pub one-zk-whole-pairs :
-    (N : ℕ) (E : List ℕ) (root : ℕ) (old new new′ : ℕ) (m m′ r s : ℕ) → PackedValue (λ o. Reporting (Whole N E root) (atRoot N E root) o m) old new r
-    → PackedValue (λ o. Reporting (Whole N E root) (atRoot N E root) o m′) old new′ s → (r ≡ s) × (new ≡ new′) × (m ≡ m′)
-one-zk-whole-pairs N E root = one-held (one-number (calls.one-whole-reported N E root))
+  pub one-zk-whole-pairs :
+      (N : ℕ) (E : List ℕ) (root : ℕ) (old new new′ : ℕ) (m m′ r s : ℕ) → PackedValue (λ o. Reporting (Whole e N E root) (atRoot N E root) o m) old new r
+      → PackedValue (λ o. Reporting (Whole e N E root) (atRoot N E root) o m′) old new′ s → (r ≡ s) × (new ≡ new′) × (m ≡ m′)
+  one-zk-whole-pairs N E root = one-held (one-number (calls.one-whole-reported e N E root))
 
-pub one-zk-fraction-pairs :
-    (N : ℕ) (E : List ℕ) (root : ℕ) (old new new′ : Float) (m m′ r s : ℕ) → PackedValue (λ o. Reporting (InFraction N E root) (atRoot N E root) o m) old new r
-    → PackedValue (λ o. Reporting (InFraction N E root) (atRoot N E root) o m′) old new′ s → (r ≡ s) × (new ≡ new′) × (m ≡ m′)
-one-zk-fraction-pairs N E root = one-held (one-exact (calls.one-fraction-reported N E root))
+  pub one-zk-fraction-pairs :
+      (N : ℕ) (E : List ℕ) (root : ℕ) (old new new′ : Float) (m m′ r s : ℕ) → PackedValue (λ o. Reporting (InFraction e N E root) (atRoot N E root) o m) old new r
+      → PackedValue (λ o. Reporting (InFraction e N E root) (atRoot N E root) o m′) old new′ s → (r ≡ s) × (new ≡ new′) × (m ≡ m′)
+  one-zk-fraction-pairs N E root = one-held (one-exact (calls.one-fraction-reported e N E root))
 
-pub one-zk-cam-by-code-pairs :
-    (N : ℕ) (E : List ℕ) (old new new′ : List ℕ) (m m′ r s : ℕ) → PackedAnswer (λ o. Reporting (CamByCode N E old new) (centredPairs N E) o m) r
-    → PackedAnswer (λ o. Reporting (CamByCode N E old new′) (centredPairs N E) o m′) s → (r ≡ s) × (new ≡ new′) × (m ≡ m′)
-one-zk-cam-by-code-pairs N E old new new′ = one-written (calls.one-cam-by-code-reported N E old new new′)
+  pub one-zk-cam-by-code-pairs :
+      (N : ℕ) (E : List ℕ) (old new new′ : List ℕ) (m m′ r s : ℕ) → PackedAnswer (λ o. Reporting (CamByCode e N E old new) (centredPairs N E) o m) r
+      → PackedAnswer (λ o. Reporting (CamByCode e N E old new′) (centredPairs N E) o m′) s → (r ≡ s) × (new ≡ new′) × (m ≡ m′)
+  one-zk-cam-by-code-pairs N E old new new′ = one-written (calls.one-cam-by-code-reported e N E old new new′)
 
-pub one-zk-zero-a-by-code-pairs :
-    (N : ℕ) (E : List ℕ) (old new new′ : ℕ) (m m′ r s : ℕ) → PackedValue (λ o. Reporting (ZeroAByCode N E) (centredPairs N E) o m) old new r
-    → PackedValue (λ o. Reporting (ZeroAByCode N E) (centredPairs N E) o m′) old new′ s → (r ≡ s) × (new ≡ new′) × (m ≡ m′)
-one-zk-zero-a-by-code-pairs N E = one-held (one-number (calls.one-zero-a-by-code-reported N E))
+  pub one-zk-zero-a-by-code-pairs :
+      (N : ℕ) (E : List ℕ) (old new new′ : ℕ) (m m′ r s : ℕ) → PackedValue (λ o. Reporting (ZeroAByCode e N E) (centredPairs N E) o m) old new r
+      → PackedValue (λ o. Reporting (ZeroAByCode e N E) (centredPairs N E) o m′) old new′ s → (r ≡ s) × (new ≡ new′) × (m ≡ m′)
+  one-zk-zero-a-by-code-pairs N E = one-held (one-number (calls.one-zero-a-by-code-reported e N E))
 
-pub one-zk-a-zero-by-code-pairs :
-    (N : ℕ) (E : List ℕ) (old new new′ : ℕ) (m m′ r s : ℕ) → PackedValue (λ o. Reporting (AZeroByCode N E) (centredPairs N E) o m) old new r
-    → PackedValue (λ o. Reporting (AZeroByCode N E) (centredPairs N E) o m′) old new′ s → (r ≡ s) × (new ≡ new′) × (m ≡ m′)
-one-zk-a-zero-by-code-pairs N E = one-held (one-number (calls.one-a-zero-by-code-reported N E))
+  pub one-zk-a-zero-by-code-pairs :
+      (N : ℕ) (E : List ℕ) (old new new′ : ℕ) (m m′ r s : ℕ) → PackedValue (λ o. Reporting (AZeroByCode e N E) (centredPairs N E) o m) old new r
+      → PackedValue (λ o. Reporting (AZeroByCode e N E) (centredPairs N E) o m′) old new′ s → (r ≡ s) × (new ≡ new′) × (m ≡ m′)
+  one-zk-a-zero-by-code-pairs N E = one-held (one-number (calls.one-a-zero-by-code-reported e N E))
 
-pub one-zk-equal-vertices-pairs :
-    (N : ℕ) (E : List ℕ) (old new new′ : List ℕ) (m m′ r s : ℕ) → PackedAnswer (λ o. Reporting (EqualVertices N E old new) (centredPairs N E) o m) r
-    → PackedAnswer (λ o. Reporting (EqualVertices N E old new′) (centredPairs N E) o m′) s → (r ≡ s) × (new ≡ new′) × (m ≡ m′)
-one-zk-equal-vertices-pairs N E old new new′ = one-written (calls.one-equal-vertices-reported N E old new new′)
+  pub one-zk-equal-vertices-pairs :
+      (N : ℕ) (E : List ℕ) (old new new′ : List ℕ) (m m′ r s : ℕ) → PackedAnswer (λ o. Reporting (EqualVertices e N E old new) (centredPairs N E) o m) r
+      → PackedAnswer (λ o. Reporting (EqualVertices e N E old new′) (centredPairs N E) o m′) s → (r ≡ s) × (new ≡ new′) × (m ≡ m′)
+  one-zk-equal-vertices-pairs N E old new new′ = one-written (calls.one-equal-vertices-reported e N E old new new′)
 
-pub one-zk-write-line-pairs :
-    (N : ℕ) (E : List ℕ) (old new new′ : List ℕ) (m m′ r s : ℕ) → PackedAnswer (λ o. Reporting (WriteLine N E old new) (centredPairs N E) o m) r
-    → PackedAnswer (λ o. Reporting (WriteLine N E old new′) (centredPairs N E) o m′) s → (r ≡ s) × (new ≡ new′) × (m ≡ m′)
-one-zk-write-line-pairs N E old new new′ = one-written (calls.one-write-line-reported N E old new new′)
+  pub one-zk-write-line-pairs :
+      (N : ℕ) (E : List ℕ) (old new new′ : List ℕ) (m m′ r s : ℕ) → PackedAnswer (λ o. Reporting (WriteLine e N E old new) (centredPairs N E) o m) r
+      → PackedAnswer (λ o. Reporting (WriteLine e N E old new′) (centredPairs N E) o m′) s → (r ≡ s) × (new ≡ new′) × (m ≡ m′)
+  one-zk-write-line-pairs N E old new new′ = one-written (calls.one-write-line-reported e N E old new new′)

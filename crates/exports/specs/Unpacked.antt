@@ -3,16 +3,16 @@
 -- In order: a refusal taken apart; the answer of a call that writes or only checks, the verdict, the answer of a call on maps, and of a call that is asked for a
 -- value;-- what a C function promises, of the answer that is read back. Assumes nothing.
 use mathlib.Core.Path.{_≡_, refl, sym, ap, ap₂, subst, _∙_}
-use mathlib.Core.Bool.{Bool, true, false}
-use mathlib.Core.Logic.{ite, ⊎-elim}
-use Prim.Native.Nat.{ℕ, _+_, _*_, _≤_, _<_}
+use mathlib.Core.Bool.{true, false}
+use mathlib.Core.Logic.{ite, inl, inr, if-pos, if-neg}
+use Prim.Native.Nat.{ℕ, _+_, _*_, _/_, _≤_, _<_}
 use native.Mathlib.Omega.{arith}
-use native.Mathlib.Decide.{decLt}
+use native.Mathlib.Decide.{decLt, ℕ-discrete}
 use lib.Dec.{eqb}
 use Rattle.refusal.specs.document.Table.{OutcomeOf, Outcome, gives, refuses}
-use Rattle.refusal.specs.document.Small.{byteValues, SmallNumber, SmallOfList, Small, SmallAnswer, SmallRefusal}
+use Rattle.refusal.specs.document.Small.{byteValues, Small, SmallAnswer, SmallRefusal}
 use Rattle.zurkhovel.specs.document.Same.{Finding}
-use Rattle.zurkhovel.specs.document.Maps.{MapOutcome, SmallOfThree}
+use Rattle.zurkhovel.specs.document.Maps.{MapOutcome, SmallOf}
 use Rattle.exports.specs.document.Packing.{packed, truth, withList, held, numberIn, placeIn, listIn, unpacked, unpackedFinding, unpackedMapping, unpackedValue, PackedAnswer, PackedFinding, PackedMapping, PackedValue}
 
 -- ---- a refusal taken apart
@@ -53,25 +53,43 @@ value-back (refuses k p) old ((a, b), l) =
     let r : ℕ = byteValues * k + p in
     above (gives old) (refuses (numberIn r) (placeIn r)) r (omega arith) ∙ ap₂ refuses (number-back k p b l) (place-back k p l)
 
+-- a refusal belongs to one of at most so many lists, or to none
+pub few-lists : {most i k : ℕ} → SmallOf most (i, k) → i ≤ most
+few-lists (inl (z, n)) = omega arith
+few-lists (inr (x, n, m)) = omega arith
+
+-- 22 is not one of the lists', and any other number is
+told-22 : (n x : ℕ) → n ≡ 22 → ite (ℕ-discrete n 22) 0 x ≡ 0
+told-22 n x e = if-pos {C = ℕ} (ℕ-discrete n 22) e 0 x
+
+told-other : (n x : ℕ) → (n ≡ 22 → ⊥) → ite (ℕ-discrete n 22) 0 x ≡ x
+told-other n x m = if-neg {C = ℕ} (ℕ-discrete n 22) m 0 x
+
 -- one of several lists, where v is read of a success
 list-back :
-    {A : Type 0} (v : ℕ → A) (i k p : ℕ) → (1 ≤ i) × (i ≤ 3) → SmallNumber k → p < byteValues
+    {A : Type 0} (v : ℕ → A) (most i k p : ℕ) → most ≤ 3 → SmallOf most (i, k) → p < byteValues
     → let r : ℕ = byteValues * withList (i, k) + p in _≡_ {A = OutcomeOf (ℕ × ℕ) A} (ite (decLt r byteValues) (gives (v r)) (refuses (listIn r, numberIn r) (placeIn r))) (refuses (i, k) p)
-list-back v i k p (x, y) (a, b) l =
+list-back v most i k p t (inl (z, n)) l =
     let r : ℕ = byteValues * withList (i, k) + p in
-    let list : listIn r ≡ i = omega arith in
     let number : numberIn r ≡ k = omega arith in
+    let list : listIn r ≡ i = told-22 (numberIn r) _ (number ∙ n) ∙ sym z in
+    let place : placeIn r ≡ p = omega arith in
+    above (gives (v r)) (refuses (listIn r, numberIn r) (placeIn r)) r (omega arith) ∙ ap₂ refuses (ap₂ (λ (x y : ℕ). (x, y)) list number) place
+list-back v most i k p t (inr ((x, y), (a, b), n)) l =
+    let r : ℕ = byteValues * withList (i, k) + p in
+    let number : numberIn r ≡ k = omega arith in
+    let list : listIn r ≡ i = told-other (numberIn r) _ (λ e. n (sym number ∙ e)) ∙ (let q : r / (byteValues * byteValues) + 1 ≡ i = omega arith in q) in
     let place : placeIn r ≡ p = omega arith in
     above (gives (v r)) (refuses (listIn r, numberIn r) (placeIn r)) r (omega arith) ∙ ap₂ refuses (ap₂ (λ (x y : ℕ). (x, y)) list number) place
 
-pub finding-back : (o : Finding) → Small SmallOfList (λ b. Unit {0}) o → unpackedFinding (packed withList truth o) ≡ o
-finding-back (gives true) s = below (gives true) (refuses (1, 0) 1) 1 (omega arith)
-finding-back (gives false) s = below (gives false) (refuses (1, 0) 0) 0 (omega arith)
-finding-back (refuses (i, k) p) ((d, n), l) = list-back (λ r. eqb r 1) i k p (⊎-elim (λ e. (omega arith, omega arith)) (λ e. (omega arith, omega arith)) d) n l
+pub finding-back : (o : Finding) → Small (SmallOf 2) (λ b. Unit {0}) o → unpackedFinding (packed withList truth o) ≡ o
+finding-back (gives true) s = below (gives true) (refuses (listIn 1, numberIn 1) (placeIn 1)) 1 (omega arith)
+finding-back (gives false) s = below (gives false) (refuses (listIn 0, numberIn 0) (placeIn 0)) 0 (omega arith)
+finding-back (refuses (i, k) p) (d, l) = list-back (λ r. eqb r 1) 2 i k p (omega arith) d l
 
-pub mapping-back : (o : MapOutcome) → Small SmallOfThree (λ n. n < byteValues) o → unpackedMapping (packed withList (λ n. n) o) ≡ o
+pub mapping-back : (o : MapOutcome) → Small (SmallOf 3) (λ n. n < byteValues) o → unpackedMapping (packed withList (λ n. n) o) ≡ o
 mapping-back (gives n) s = below (gives n) (refuses (listIn n, numberIn n) (placeIn n)) n s
-mapping-back (refuses (i, k) p) ((d, n), l) = list-back (λ r. r) i k p d n l
+mapping-back (refuses (i, k) p) (d, l) = list-back (λ r. r) 3 i k p (omega arith) d l
 
 -- ---- what a C function promises, of the answer that is read back
 
@@ -79,11 +97,11 @@ pub answer-read : {P : Outcome ℕ → Type 0} {r : ℕ} → ((o : Outcome ℕ) 
 answer-read {P} s (o, x, e) = subst P (sym (ap unpacked e ∙ answer-back o (s o x))) x
 
 pub finding-read :
-    {P : Finding → Type 0} {r : ℕ} → ((o : Finding) → P o → Small SmallOfList (λ b. Unit {0}) o) → PackedFinding P r → P (unpackedFinding r)
+    {P : Finding → Type 0} {r : ℕ} → ((o : Finding) → P o → Small (SmallOf 2) (λ b. Unit {0}) o) → PackedFinding P r → P (unpackedFinding r)
 finding-read {P} s (o, x, e) = subst P (sym (ap unpackedFinding e ∙ finding-back o (s o x))) x
 
 pub mapping-read :
-    {P : MapOutcome → Type 0} {r : ℕ} → ((o : MapOutcome) → P o → Small SmallOfThree (λ n. n < byteValues) o) → PackedMapping P r → P (unpackedMapping r)
+    {P : MapOutcome → Type 0} {r : ℕ} → ((o : MapOutcome) → P o → Small (SmallOf 3) (λ n. n < byteValues) o) → PackedMapping P r → P (unpackedMapping r)
 mapping-read {P} s (o, x, e) = subst P (sym (ap unpackedMapping e ∙ mapping-back o (s o x))) x
 
 pub value-read :

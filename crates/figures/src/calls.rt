@@ -1,4 +1,4 @@
-// One worked example for each public call, as docs/CALLS.md shows it.
+// One worked example for each public call in edition 1, as docs/CALLS.md shows it.
 use fraction::Fraction;
 use refusal::Answer;
 use shown::answer;
@@ -46,18 +46,18 @@ fn asked(name: &[u8], r: ReportedNumber) {
 fn digit_codes() {
     let mut out = [0u8; 126];
     given(b"check_code", &[2, 0, 1, 0]);
-    answer(zurkhovel::codes::check_code(&[2, 0, 1, 0]), &[]);
+    answer(zurkhovel::codes::check_code(1, &[2, 0, 1, 0]), &[]);
     given(b"decode_code", &[1, 2, 0, 0]);
-    let a = zurkhovel::codes::decode_code(&[1, 2, 0, 0], &mut out);
+    let a = zurkhovel::codes::decode_code(1, &[1, 2, 0, 0], &mut out);
     answer(a, &out);
     given(b"decode_n_tuple", &[3, 1, 1, 0, 0, 0]);
-    let b = zurkhovel::codes::decode_n_tuple(&[3, 1, 1, 0, 0, 0], &mut out);
+    let b = zurkhovel::codes::decode_n_tuple(1, &[3, 1, 1, 0, 0, 0], &mut out);
     answer(b, &out);
     given(b"decode_centred", &[2, 2, 0, 0, 1, 0]);
-    let c = zurkhovel::codes::decode_centred(&[2, 2, 0, 0, 1, 0], &mut out);
+    let c = zurkhovel::codes::decode_centred(1, &[2, 2, 0, 0, 1, 0], &mut out);
     answer(c, &out);
     given(b"decode_centred", &[3, 1, 1, 0, 0, 0]);
-    let d = zurkhovel::codes::decode_centred(&[3, 1, 1, 0, 0, 0], &mut out);
+    let d = zurkhovel::codes::decode_centred(1, &[3, 1, 1, 0, 0, 0], &mut out);
     answer(d, &out);
 }
 
@@ -65,28 +65,28 @@ fn digit_codes() {
 fn edge_codes(edges: &[u8]) {
     let mut out = [0u8; 64];
     rooted(b"check_edges", 3, &[1, 2, 1, 2], 1);
-    answer(zurkhovel::codes::check_edges(3, &[1, 2, 1, 2], 1), &[]);
+    answer(zurkhovel::codes::check_edges(1, 3, &[1, 2, 1, 2], 1), &[]);
     rooted(b"rooted_code", 6, edges, 1);
-    let a = zurkhovel::codes::rooted_code(6, edges, 1, &mut out);
+    let a = zurkhovel::codes::rooted_code(1, 6, edges, 1, &mut out);
     told(b"rooted_code", a, &out);
     sized(b"n_tuple_code", 6, edges);
-    let b = zurkhovel::codes::n_tuple_code(6, edges, &mut out);
+    let b = zurkhovel::codes::n_tuple_code(1, 6, edges, &mut out);
     told(b"n_tuple_code", b, &out);
     sized(b"centred_code", 6, edges);
-    let c = zurkhovel::codes::centred_code(6, edges, &mut out);
+    let c = zurkhovel::codes::centred_code(1, 6, edges, &mut out);
     told(b"centred_code", c, &out);
     sized(b"equal_vertices", 6, edges);
-    let d = zurkhovel::alike::equal_vertices(6, edges, &mut out);
+    let d = zurkhovel::alike::equal_vertices(1, 6, edges, &mut out);
     told(b"equal_vertices", d, &out);
     sized(b"equal_vertices", 4, &[1, 2, 2, 3, 3, 4]);
-    let e = zurkhovel::alike::equal_vertices(4, &[1, 2, 2, 3, 3, 4], &mut out);
+    let e = zurkhovel::alike::equal_vertices(1, 4, &[1, 2, 2, 3, 3, 4], &mut out);
     told(b"equal_vertices", e, &out);
     sized(b"equal_vertices", 5, &[1, 2, 2, 3, 2, 4, 2, 5]);
-    let f = zurkhovel::alike::equal_vertices(5, &[1, 2, 2, 3, 2, 4, 2, 5], &mut out);
+    let f = zurkhovel::alike::equal_vertices(1, 5, &[1, 2, 2, 3, 2, 4, 2, 5], &mut out);
     told(b"equal_vertices", f, &out);
 }
 
-// A refusal of a call with two lists: which list, or 3 for the map; its number, and its place.
+// A refusal of a call with two lists: which list, or 3 for the map, or 0 for the edition; its number, and its place.
 fn refused_of(list: u8, k: u8, p: usize) {
     text(b" = Refused(");
     number(list as u64);
@@ -97,10 +97,10 @@ fn refused_of(list: u8, k: u8, p: usize) {
     text(b")\n");
 }
 
-fn same(n1: usize, edges1: &[u8], n2: usize, edges2: &[u8]) {
+pub(crate) fn same_in(edition: usize, n1: usize, edges1: &[u8], n2: usize, edges2: &[u8]) {
     sized(b"same_skeleton", n1, edges1);
     sized(b",", n2, edges2);
-    let r = zurkhovel::codes::same_skeleton(n1, edges1, n2, edges2);
+    let r = zurkhovel::codes::same_skeleton(edition, n1, edges1, n2, edges2);
     let a = r.answer;
     match a {
         Verdict::Same => text(b" = Same\n"),
@@ -122,7 +122,7 @@ fn handed(edges1: &[u8], edges2: &[u8]) {
     let mut out = [0u8; 64];
     sized(b"renumbering", 4, edges1);
     sized(b",", 4, edges2);
-    let r = zurkhovel::maps::renumbering(4, edges1, 4, edges2, &mut out);
+    let r = zurkhovel::maps::renumbering(1, 4, edges1, 4, edges2, &mut out);
     let a = r.answer;
     mapped(a, &out);
     looked(b"renumbering", r.pairs);
@@ -133,7 +133,7 @@ fn judged(edges1: &[u8], edges2: &[u8], map: &[u8]) {
     sized(b",", 4, edges2);
     given(b",", map);
     mapped(
-        zurkhovel::maps::check_renumbering(4, edges1, 4, edges2, map),
+        zurkhovel::maps::check_renumbering(1, 4, edges1, 4, edges2, map),
         &[],
     );
 }
@@ -151,12 +151,12 @@ fn maps(edges1: &[u8], edges2: &[u8]) {
 fn bits_of(edges: &[u8]) {
     let mut out = [0u8; 16];
     rooted(b"pack", 8, edges, 1);
-    let a = zurkhovel::bit_tuple::pack(8, edges, 1, &mut out);
+    let a = zurkhovel::bit_tuple::pack(1, 8, edges, 1, &mut out);
     told(b"pack", a, &out);
     rooted(b"whole", 8, edges, 1);
-    asked(b"whole", zurkhovel::bit_tuple::whole(8, edges, 1));
+    asked(b"whole", zurkhovel::bit_tuple::whole(1, 8, edges, 1));
     rooted(b"fraction", 8, edges, 1);
-    let r = zurkhovel::bit_tuple::fraction(8, edges, 1);
+    let r = zurkhovel::bit_tuple::fraction(1, 8, edges, 1);
     let c = r.answer;
     match c {
         Fraction::Exact(x) => {
@@ -172,13 +172,13 @@ fn bits_of(edges: &[u8]) {
 fn bits_read() {
     let mut out = [0u8; 126];
     given(b"unpack", &[237, 16]);
-    let a = zurkhovel::bit_tuple::unpack(&[237, 16], &mut out);
+    let a = zurkhovel::bit_tuple::unpack(1, &[237, 16], &mut out);
     answer(a, &out);
     numbered(b"unwhole", 8, 30344);
-    let b = zurkhovel::bit_tuple::unwhole(8, 30344, &mut out);
+    let b = zurkhovel::bit_tuple::unwhole(1, 8, 30344, &mut out);
     answer(b, &out);
     text(b"unfraction 0.5");
-    let c = zurkhovel::bit_tuple::unfraction(0.5, &mut out);
+    let c = zurkhovel::bit_tuple::unfraction(1, 0.5, &mut out);
     answer(c, &out);
 }
 
@@ -186,37 +186,37 @@ fn bits_read() {
 fn matrices(edges: &[u8]) {
     let mut out = [0u8; 63];
     sized(b"cam", 7, edges);
-    let a = zurkhovel::matrix::cam(7, edges, &mut out);
+    let a = zurkhovel::matrix::cam(1, 7, edges, &mut out);
     answer(a, &out);
     sized(b"zero_a", 7, edges);
-    value(zurkhovel::matrix::zero_a(7, edges));
+    value(zurkhovel::matrix::zero_a(1, 7, edges));
     sized(b"a_zero", 7, edges);
-    value(zurkhovel::matrix::a_zero(7, edges));
+    value(zurkhovel::matrix::a_zero(1, 7, edges));
     sized(b"cam_by_code", 7, edges);
-    let b = zurkhovel::matrix::cam_by_code(7, edges, &mut out);
+    let b = zurkhovel::matrix::cam_by_code(1, 7, edges, &mut out);
     told(b"cam_by_code", b, &out);
     sized(b"zero_a_by_code", 7, edges);
     asked(
         b"zero_a_by_code",
-        zurkhovel::matrix::zero_a_by_code(7, edges),
+        zurkhovel::matrix::zero_a_by_code(1, 7, edges),
     );
     sized(b"a_zero_by_code", 7, edges);
     asked(
         b"a_zero_by_code",
-        zurkhovel::matrix::a_zero_by_code(7, edges),
+        zurkhovel::matrix::a_zero_by_code(1, 7, edges),
     );
 }
 
 fn matrices_read() {
     let mut out = [0u8; 126];
     sized(b"decode_cam", 7, &[1, 2, 2, 3, 1, 6]);
-    let a = zurkhovel::matrix::decode_cam(7, &[1, 2, 2, 3, 1, 6], &mut out);
+    let a = zurkhovel::matrix::decode_cam(1, 7, &[1, 2, 2, 3, 1, 6], &mut out);
     answer(a, &out);
     numbered(b"decode_zero_a", 7, 545);
-    let b = zurkhovel::matrix::decode_zero_a(7, 545, &mut out);
+    let b = zurkhovel::matrix::decode_zero_a(1, 7, 545, &mut out);
     answer(b, &out);
     numbered(b"decode_a_zero", 7, 1646688);
-    let c = zurkhovel::matrix::decode_a_zero(7, 1646688, &mut out);
+    let c = zurkhovel::matrix::decode_a_zero(1, 7, 1646688, &mut out);
     answer(c, &out);
 }
 
@@ -224,10 +224,10 @@ fn matrices_read() {
 fn line(edges: &[u8]) {
     let mut out = [0u8; 68];
     sized(b"write_line", 6, edges);
-    let a = zurkhovel::text::write_line(6, edges, &mut out);
+    let a = zurkhovel::text::write_line(1, 6, edges, &mut out);
     told(b"write_line", a, &out);
     given(b"read_line", b"6 220010\n");
-    let b = zurkhovel::text::read_line(b"6 220010\n", &mut out);
+    let b = zurkhovel::text::read_line(1, b"6 220010\n", &mut out);
     answer(b, &out);
 }
 
@@ -237,6 +237,7 @@ fn lines() {
     let mut numbers = [0u8; 3];
     let mut places = [0usize; 3];
     let p = zurkhovel::text::read_text(
+        1,
         b"6 220010\n6 311000\n1 0\n",
         &mut records,
         &mut numbers,
@@ -287,9 +288,9 @@ fn listings() {
 pub(crate) fn examples() {
     digit_codes();
     edge_codes(&[1, 2, 2, 3, 3, 4, 4, 5, 2, 6]);
-    same(4, &[1, 2, 2, 3, 3, 4], 4, &[1, 4, 4, 2, 2, 3]);
-    same(4, &[1, 2, 2, 3, 3, 4], 3, &[1, 2, 1, 2]);
-    same(4, &[1, 2, 2, 3, 3, 4], 3, &[1, 2, 2, 3]);
+    same_in(1, 4, &[1, 2, 2, 3, 3, 4], 4, &[1, 4, 4, 2, 2, 3]);
+    same_in(1, 4, &[1, 2, 2, 3, 3, 4], 3, &[1, 2, 1, 2]);
+    same_in(1, 4, &[1, 2, 2, 3, 3, 4], 3, &[1, 2, 2, 3]);
     maps(&[1, 2, 2, 3, 3, 4], &[3, 1, 1, 4, 4, 2]);
     bits_of(&[1, 2, 2, 3, 3, 4, 2, 5, 1, 6, 6, 7, 1, 8]);
     bits_read();

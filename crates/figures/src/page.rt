@@ -15,7 +15,7 @@ use shown::valued;
 fn decode(code: &[u8]) {
     let mut out = [0u8; 126];
     given(b"decode_code", code);
-    let a = zurkhovel::codes::decode_code(code, &mut out);
+    let a = zurkhovel::codes::decode_code(1, code, &mut out);
     answer(a, &out);
 }
 
@@ -41,7 +41,7 @@ fn codes() {
 fn not_centred(code: &[u8]) {
     let mut out = [0u8; 126];
     given(b"decode_centred", code);
-    let a = zurkhovel::codes::decode_centred(code, &mut out);
+    let a = zurkhovel::codes::decode_centred(1, code, &mut out);
     answer(a, &out);
 }
 
@@ -52,11 +52,11 @@ fn sizes() {
     code[62] = 0;
     code[63] = 0;
     text(b"check_code of a path of 64");
-    answer(zurkhovel::codes::check_code(&code[..64]), &[]);
+    answer(zurkhovel::codes::check_code(1, &code[..64]), &[]);
     code[62] = 1;
     code[64] = 0;
     text(b"check_code of a path of 65");
-    answer(zurkhovel::codes::check_code(&code), &[]);
+    answer(zurkhovel::codes::check_code(1, &code), &[]);
 }
 
 // A named skeleton, by its edges: its centred code and its N-tuple code, and the whole number of its code at a vertex.
@@ -64,15 +64,15 @@ fn skeleton(name: &[u8], n: usize, edges: &[u8], root: usize) {
     let mut out = [0u8; 64];
     text(name);
     text(b": centred_code");
-    let centred = zurkhovel::codes::centred_code(n, edges, &mut out);
+    let centred = zurkhovel::codes::centred_code(1, n, edges, &mut out);
     reported(centred, &out);
     text(name);
     text(b": n_tuple_code");
-    let tuple = zurkhovel::codes::n_tuple_code(n, edges, &mut out);
+    let tuple = zurkhovel::codes::n_tuple_code(1, n, edges, &mut out);
     reported(tuple, &out);
     text(name);
     text(b": whole");
-    valued(zurkhovel::bit_tuple::whole(n, edges, root));
+    valued(zurkhovel::bit_tuple::whole(1, n, edges, root));
 }
 
 fn skeletons() {
@@ -101,17 +101,17 @@ fn skeletons() {
 fn adjacency(edges: &[u8]) {
     let mut out = [0u8; 63];
     text(b"001's example: cam");
-    let own = zurkhovel::matrix::cam(7, edges, &mut out);
+    let own = zurkhovel::matrix::cam(1, 7, edges, &mut out);
     answer(own, &out);
     text(b"001's example: zero_a");
-    value(zurkhovel::matrix::zero_a(7, edges));
+    value(zurkhovel::matrix::zero_a(1, 7, edges));
     text(b"001's example: a_zero");
-    value(zurkhovel::matrix::a_zero(7, edges));
+    value(zurkhovel::matrix::a_zero(1, 7, edges));
     text(b"001's example: cam_by_code");
-    let by_code = zurkhovel::matrix::cam_by_code(7, edges, &mut out);
+    let by_code = zurkhovel::matrix::cam_by_code(1, 7, edges, &mut out);
     reported(by_code, &out);
     text(b"001's example: zero_a_by_code");
-    valued(zurkhovel::matrix::zero_a_by_code(7, edges));
+    valued(zurkhovel::matrix::zero_a_by_code(1, 7, edges));
 }
 
 // A fraction read.
@@ -119,7 +119,7 @@ fn read_fraction(name: &[u8], x: f64) {
     let mut out = [0u8; 126];
     text(b"unfraction ");
     text(name);
-    let a = zurkhovel::bit_tuple::unfraction(x, &mut out);
+    let a = zurkhovel::bit_tuple::unfraction(1, x, &mut out);
     answer(a, &out);
 }
 
@@ -135,11 +135,11 @@ fn fractions() {
 fn path_fraction(code: &[u8], edges: &mut [u8]) {
     text(b"fraction of a path of ");
     number(code.len() as u64);
-    if let Answer::Refused(k, p) = zurkhovel::codes::decode_code(code, edges) {
+    if let Answer::Refused(k, p) = zurkhovel::codes::decode_code(1, code, edges) {
         refused(k, p);
         return;
     }
-    let r = zurkhovel::bit_tuple::fraction(code.len(), edges, 1);
+    let r = zurkhovel::bit_tuple::fraction(1, code.len(), edges, 1);
     let a = r.answer;
     match a {
         Fraction::Exact(_) => text(b" = Exact\n"),
@@ -159,19 +159,19 @@ fn limits() {
     longer[27] = 0;
     path_fraction(&longer, &mut more);
     numbered(b"decode_zero_a", 21, 2432902008176639999);
-    let a = zurkhovel::matrix::decode_zero_a(21, 2432902008176639999, &mut out);
+    let a = zurkhovel::matrix::decode_zero_a(1, 21, 2432902008176639999, &mut out);
     answer(a, &out);
     numbered(b"decode_zero_a", 22, 0);
-    let b = zurkhovel::matrix::decode_zero_a(22, 0, &mut out);
+    let b = zurkhovel::matrix::decode_zero_a(1, 22, 0, &mut out);
     answer(b, &out);
     numbered(b"decode_a_zero", 11, 29573023153783296);
-    let c = zurkhovel::matrix::decode_a_zero(11, 29573023153783296, &mut out);
+    let c = zurkhovel::matrix::decode_a_zero(1, 11, 29573023153783296, &mut out);
     answer(c, &out);
     numbered(b"decode_a_zero", 12, 29573023153783296);
-    let d = zurkhovel::matrix::decode_a_zero(12, 29573023153783296, &mut out);
+    let d = zurkhovel::matrix::decode_a_zero(1, 12, 29573023153783296, &mut out);
     answer(d, &out);
     numbered(b"unwhole", 3, 16);
-    let e = zurkhovel::bit_tuple::unwhole(3, 16, &mut out);
+    let e = zurkhovel::bit_tuple::unwhole(1, 3, 16, &mut out);
     answer(e, &out);
 }
 

@@ -3,7 +3,7 @@
 --
 -- In order: one sum over the middles, and its bound; one sum over the vertices of maximum degree, and its bound; of the two codes; how many roots
 -- there are. Assumes nothing.
-use mathlib.Core.Path.{_≡_, refl, sym, ap, ap₂, subst, _∙_}
+use mathlib.Core.Path.{_≡_, refl, sym, ap, ap₂, _∙_}
 use mathlib.Core.Logic.{_⊎_, inl, inr, ite}
 use mathlib.Core.List.{List}
 use Prim.Native.Nat.{ℕ, zero, suc, _+_, _-_, _*_, _^_, _≤_, _<_}
@@ -12,7 +12,6 @@ use native.Mathlib.Omega.{arith}
 use Rattle.limits.specs.document.Limits.{size}
 use Rattle.limits.specs.Width.{width}
 use Rattle.skeleton.specs.document.Skeleton.{degree, IsTree, IsSkeleton}
-use Rattle.longest_path.specs.document.Path.{IsCentre}
 use Rattle.longest_path.specs.Theorems.{one-centre, centre-inside}
 use Rattle.numbering.specs.document.Pairs.{rootedPairs, log2}
 use Rattle.skeleton.specs.Base.{base}
@@ -123,7 +122,7 @@ module _ (most R N : ℕ) (E : List ℕ) (s : IsSkeleton most R N E) (j : ℕ) (
       step (no p) g h = omega arith
 
 -- of a skeleton that the code takes
-pub centred-few : {N n : ℕ} {E : List ℕ} → IsSkeleton size width N E → centredPairs N E n → n ≤ size * size
+pub centred-few : {N n : ℕ} {E : List ℕ} → IsSkeleton size width N E → centredPairs N E n → n ≤ 2 * (size * size)
 centred-few {N} {n} {E} s x = omega (arith, centred-power size width N E s 6 (omega (arith, s .few)) n x, s .few)
 
 -- ---- how many roots

@@ -2,6 +2,6 @@
 -- Assumes nothing.
 use Prim.Native.Nat.{ℕ}
 
--- "rows of up to four numbers": places in a row of the table of neighbours
+-- rows of up to nine numbers: places in a row of the table of neighbours
 abbrev pub width : ℕ
-width = 4
+width = 9

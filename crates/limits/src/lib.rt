@@ -7,7 +7,7 @@ pub const SIZE: usize = 64;
 pub const VALENCE: u8 = 4;
 
 // Places in a row of the table of neighbours: no vertex may have more neighbours.
-pub const WIDTH: usize = 4;
+pub const WIDTH: usize = 9;
 
 // Atoms that a mark can name, and the neighbours that the first of them may have, at most.
 pub const ATOMS: u8 = 3;

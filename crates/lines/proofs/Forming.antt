@@ -8,12 +8,12 @@ use lib.ListN.{length, getD, take, drop, length-append, length-drop}
 use lib.Seq.{append-snoc, drop-cons, drop-at, take-all}
 use Rattle.lines.specs.declared.Opening.{Opening}
 use Rattle.lines.specs.declared.Opening.the-variants.{At, Nothing}
-use Rattle.lines.specs.document.Line.{figures, Digits, IsCount, one-digit, two-digits}
+use Rattle.texts.specs.document.Numerals.{figures, Digits, IsCount, one-digit, two-digits}
 use Rattle.lines.specs.Form.{Value, values, Figured, all, not-all, Begins, Opens, begins, begins-not, Forms, formed, unformed}
 use Rattle.lines.specs.document.Marks.{WrittenDigit, WrittenDigits}
-use Rattle.lines.specs.Cuts.{cut-once}
-use Rattle.lines.specs.Bodies.{length-figures, count-free}
-use Rattle.lines.specs.Each.{each-at}
+use Rattle.texts.specs.Cuts.{cut-once}
+use Rattle.texts.specs.Numerals.{length-figures, count-free}
+use Rattle.texts.specs.Each.{each-at}
 use Rattle.lines.specs.Taking.{length-values}
 
 pub value-digit : {b v : ℕ} → Value b v → (v ≡ 10 → ⊥) → (v ≤ 9) × (b ≡ 48 + v)
@@ -92,8 +92,8 @@ opened (begins-not h) e = let z : _≡_ {A = ℕ} 0 1 = cc in absurd (let n : �
 pub unopened : {b : List ℕ} {o : Opening} → Opens b o → o ≡ Nothing → Forms b Nothing
 unopened (begins h) e = let z : _≡_ {A = ℕ} 0 1 = cc in absurd (let n : ⊥ = omega arith in n)
 unopened (begins-not h) e =
-    unformed (λ n ds f.
-    h n (length (f .count) + 1) (record { count = f .count; rest = figures ds; counts = f .counts; parts = f .parts; start = refl }))
+    unformed (λ q f.
+    h (q .count) (length (f .count) + 1) (record { count = f .count; rest = figures (q .digits); counts = f .counts; parts = f .parts; start = refl }))
 
 figured : {t : List ℕ} {r : Bool} → Figured t r → r ≡ true → (1 ≤ length t) × WrittenDigits t
 figured (all l f) e = (l, f)
@@ -129,10 +129,10 @@ module _ {b : List ℕ} {n s : ℕ} (h : Begins b n s) where
   pub has-none : {r : Bool} → Figured (take (length b - s) (drop s b)) r → r ≡ false → Forms b Nothing
   has-none g e =
       let k = unfigured (rw (rest-is b s) at g) e in
-      unformed (λ m ds f.
+      unformed (λ d f.
       let p =
-      cut-once 32 b (h .count) (h .rest) (f .count) (figures ds)
+      cut-once 32 b (h .count) (h .rest) (f .count) (figures (d .digits))
       (record { parts = h .parts; free = count-free 32 (omega arith) (h .counts) })
       (record { parts = f .parts; free = count-free 32 (omega arith) (f .counts) }) .1 in
-      let q : drop s b ≡ figures ds = follows ∙ p in
-      k (rw (q, length-figures) (f .some)) (rw q (are-figures ds (f .digits))))
+      let q : drop s b ≡ figures (d .digits) = follows ∙ p in
+      k (rw (q, length-figures) (f .some)) (rw q (are-figures (d .digits) (f .digits))))

@@ -13,12 +13,15 @@ use Rattle.lines.specs.declared.Opening.{Opening}
 use Rattle.lines.specs.declared.Opening.the-variants.{At, Nothing}
 use Rattle.lines.specs.declared.Span.{Span}
 use Rattle.lines.specs.declared.Span.the-variants.{Digits, Refused}
-use Rattle.lines.specs.document.Line.{Free, Cut, Formed, Shaped, row1, row2, row3-line, row5-line, frontRows}
-use Rattle.lines.specs.Form.{UpTo, values, Forms, formed, unformed, Stands, Located, stands, refused}
+use Rattle.texts.specs.document.Bytes.{Free, Cut}
+use Rattle.texts.specs.document.Text.{Shaped, row1, row2, ofLine}
+use Rattle.texts.specs.Answered.{where-is, shaped-fed, unformed-2}
+use Rattle.texts.specs.Ending.{UpTo, unfed, fed-cut}
+use Rattle.lines.specs.document.Line.{Front, front, Formed, row3-line, row5-line}
+use Rattle.lines.specs.Form.{values, Forms, formed, unformed, Stands, frontRows, Located, stands, refused}
 use Rattle.lines.specs.document.Marks.{WrittenDigits}
-use Rattle.lines.specs.Answered.{where-is, shaped-fed}
-use Rattle.lines.specs.Taking.{length-values, unfed, fed-cut}
-use Rattle.lines.specs.Marks.{unformed-2}
+use Rattle.lines.specs.Plain.{plain-once}
+use Rattle.lines.specs.Taking.{length-values}
 
 -- the first row applies at 0
 here : {r : Row} (rs : List Row) → r .applies 0 → FirstRefusal (r ∷ rs) (r .number) 0
@@ -28,26 +31,30 @@ here {r} rs h = refusal-front rs (first-place {r = r} h (λ q l a. absurd (omega
 after : {r : Row} {rs : List Row} {k p : ℕ} → ((q : ℕ) → r .applies q → ⊥) → FirstRefusal rs k p → FirstRefusal (r ∷ rs) k p
 after {r} f l = refusal-back (clear-one {r = r} f) l
 
+-- rows 3 and 5 of a line
+abbrev sizes : ℕ → List ℕ → List Row
+sizes most t = ofLine Formed t (row3-line most) ∷ ofLine Formed t row5-line ∷ []
+
 module _ (most : ℕ) {t : List ℕ} where
   refused-1 : Free 10 t → FirstRefusal (frontRows most t) 1 0
-  refused-1 f = here {r = row1 t} (row2 t ∷ row3-line most t ∷ row5-line t ∷ []) (refl, f)
+  refused-1 f = here {r = row1 t} (row2 Formed t ∷ sizes most t) (refl, f)
 
-  refused-2 : {b rest : List ℕ} → Cut 10 t b rest → ((n : ℕ) (ds : List ℕ) → Formed b n ds → ⊥) → FirstRefusal (frontRows most t) 2 0
-  refused-2 c h = unformed-2 c h (row3-line most t ∷ row5-line t ∷ [])
+  refused-2 : {b rest : List ℕ} → Cut 10 t b rest → ((q : Front) → Formed b q → ⊥) → FirstRefusal (frontRows most t) 2 0
+  refused-2 c h = unformed-2 Formed c h (sizes most t)
 
-  module _ {n : ℕ} {ds : List ℕ} (s : Shaped t n ds) where
-    formed-on : {k p : ℕ} → FirstRefusal (row3-line most t ∷ row5-line t ∷ []) k p → FirstRefusal (frontRows most t) k p
-    formed-on l = after {r = row1 t} (λ q f. shaped-fed s (f .1)) (after {r = row2 t} (λ q f. f .1 n ds s) l)
+  module _ {q : Front} (s : Shaped Formed t q) where
+    formed-on : {k p : ℕ} → FirstRefusal (sizes most t) k p → FirstRefusal (frontRows most t) k p
+    formed-on l = after {r = row1 t} (λ p f. shaped-fed Formed s (f .1)) (after {r = row2 Formed t} (λ p f. f .1 q s) l)
 
-    refused-3 : Outside most n → FirstRefusal (frontRows most t) 3 0
+    refused-3 : Outside most (q .count) → FirstRefusal (frontRows most t) 3 0
     refused-3 o =
-        formed-on (here {r = row3-line most t} (row5-line t ∷ []) (refl, record { count = n; digits = ds; shape = s; holds = o }))
+        formed-on (here {r = ofLine Formed t (row3-line most)} (ofLine Formed t row5-line ∷ []) (record { parts = q; shape = s; holds = (refl, o) }))
 
-    refused-5 : (Outside most n → ⊥) → (length ds ≡ n → ⊥) → FirstRefusal (frontRows most t) 5 0
+    refused-5 : (Outside most (q .count) → ⊥) → (length (q .digits) ≡ q .count → ⊥) → FirstRefusal (frontRows most t) 5 0
     refused-5 i e =
         formed-on
-        (after {r = row3-line most t} (λ q f. i (where-is (λ m es. Outside most m) s (f .1)))
-        (here {r = row5-line t} [] (refl, record { count = n; digits = ds; shape = s; holds = e })))
+        (after {r = ofLine Formed t (row3-line most)} (λ p f. i (where-is Formed plain-once (λ x. (p ≡ 0) × Outside most (x .count)) s f .1))
+        (here {r = ofLine Formed t row5-line} [] (record { parts = q; shape = s; holds = (refl, e) })))
 
 -- ---- what was found
 
@@ -62,7 +69,7 @@ pub record Found (t : List ℕ) (e n s : ℕ) : Type 0 where
   pub ordered : s ≤ e
   pub within : e ≤ length t
   pub figures : WrittenDigits (part s e t)
-  pub shape : Shaped t n (values (part s e t))
+  pub shape : Shaped Formed t (front n (values (part s e t)))
 
 module _ {t : List ℕ} {e : ℕ} (u : UpTo t e) where
   pub no-feed : (most : ℕ) → e ≡ length t → FirstRefusal (frontRows most t) 1 0
@@ -104,7 +111,7 @@ module _ (most : ℕ) {t : List ℕ} {e n s : ℕ} (f : Found t e n s) where
         ordered = f .ordered;
         within = f .within;
         figures = f .figures;
-        shape = subst (λ (m : ℕ). Shaped t m (values (part s e t))) (sym c) (f .shape);
+        shape = subst (λ (m : ℕ). Shaped Formed t (front m (values (part s e t)))) (sym c) (f .shape);
         some = omega arith;
         few = omega arith;
       }

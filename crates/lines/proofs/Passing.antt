@@ -1,6 +1,6 @@
 -- From one line of a text to the next. Assumes nothing.
 use mathlib.Core.Path.{_≡_, refl, sym, ap, _∙_}
-use mathlib.Core.List.{List}
+use mathlib.Core.List.{List, [], _∷_}
 use Prim.Native.Nat.{ℕ, suc, _+_, _*_, _-_, _^_, _≤_, _<_}
 use native.Mathlib.Omega.{arith}
 use lib.ListN.{length, take, drop, set, length-take, length-drop, drop-of-length-le}
@@ -9,11 +9,15 @@ use mir.Syntax.{w64}
 use mir.Val.{Fits}
 use borrow.Rule.Slice.PartMut.{midOf, putMid}
 use Rattle.refusal.specs.document.Table.{Outcome}
-use Rattle.lines.specs.Form.{UpTo, Behind, Room}
+use Rattle.texts.specs.document.Lent.{numberOf, placeOf, ReadSoFar}
+use Rattle.texts.specs.Ending.{UpTo, Behind}
+use Rattle.texts.specs.Taking.{FoundLine, line-read}
+use Rattle.texts.specs.Turns.{read-none, read-more, read-lengths}
+use Rattle.lines.specs.Form.{Room}
 use Rattle.limits.specs.document.Limits.{size}
-use Rattle.lines.specs.document.Reading.{numberOf, placeOf, LineRead, ReadSoFar, TextRead}
-use Rattle.lines.specs.Taking.{line-read}
-use Rattle.lines.specs.Turns.{read-more, read-lengths}
+use Rattle.edition.specs.document.Edition.{neighboursIn}
+use Rattle.lines.specs.document.Reading.{digitsLent, linesOf, LineRead, TextRead}
+use Rattle.lines.specs.Plain.{plain-once, plain-few}
 use Rattle.lines.specs.document.Judged.{digitTable}
 use Rattle.lines.proofs.Forming.{rest-is}
 
@@ -41,14 +45,20 @@ module _ {t : List ℕ} {at e : ℕ} (l : at < length t) (u : UpTo (take (length
 -- ---- a reader's loop
 
 -- before line k + 1, with room for `lines`
-pub record Going (R : ℕ) (text rec₀ num₀ pla₀ : List ℕ) (lines : ℕ) (rec num pla : List ℕ) (k at : ℕ) : Type 0 where
-  pub read : ReadSoFar size (digitTable R) size text rec₀ num₀ pla₀ rec num pla k at
+pub record Going (e : ℕ) (text rec₀ num₀ pla₀ : List ℕ) (lines : ℕ) (rec num pla : List ℕ) (k at : ℕ) : Type 0 where
+  pub read : ReadSoFar (linesOf e) (digitsLent size) text (rec₀ ∷ []) num₀ pla₀ (rec ∷ []) num pla k at
   pub room : Room size (length rec₀) (length num₀) (length pla₀) lines
   pub below : k ≤ lines
 
-module _ {R : ℕ} {text rec₀ num₀ pla₀ : List ℕ} {lines : ℕ} {rec num pla : List ℕ} {k at : ℕ} (g : Going R text rec₀ num₀ pla₀ lines rec num pla k at) where
+-- before the first line
+pub none-read : (e : ℕ) (text rec num pla : List ℕ) → ReadSoFar (linesOf e) (digitsLent size) text (rec ∷ []) num pla (rec ∷ []) num pla 0 0
+none-read e text rec num pla = read-none (linesOf e) (digitsLent size) text (rec ∷ []) num pla (refl, tt)
+
+module _ {e : ℕ} {text rec₀ num₀ pla₀ : List ℕ} {lines : ℕ} {rec num pla : List ℕ} {k at : ℕ} (g : Going e text rec₀ num₀ pla₀ lines rec num pla k at) where
   pub lengths : (length rec ≡ length rec₀) × (length num ≡ length num₀) × (length pla ≡ length pla₀)
-  lengths = read-lengths (omega arith) (g .read)
+  lengths =
+      let l = read-lengths (linesOf e) (digitsLent size) plain-once (plain-few size (digitTable (neighboursIn e)), tt) (g .read) in
+      (l .0 .0, l .1, l .2)
 
   -- there is room for one line more
   pub room-now : k < lines → (size * k + size ≤ length rec) × (k < length num) × (k < length pla)
@@ -61,29 +71,40 @@ module _ {R : ℕ} {text rec₀ num₀ pla₀ : List ℕ} {lines : ℕ} {rec num
   pub not-past : (at ≡ length text → ⊥) → at < length text
   not-past n = omega (arith, g .read .within)
 
-  pub at-end : at ≡ length text → TextRead size (digitTable R) size text rec₀ num₀ pla₀ rec num pla k at
-  at-end e = record { read = g .read; stops = λ l a b c. let z : ⊥ = omega arith in z }
+  pub at-end : at ≡ length text → TextRead size (linesOf e) text rec₀ num₀ pla₀ rec num pla k at
+  at-end q = record { read = g .read; stops = λ l a b c. let z : ⊥ = omega arith in z }
 
-  pub no-room : lines ≤ k → TextRead size (digitTable R) size text rec₀ num₀ pla₀ rec num pla k at
+  pub no-room : lines ≤ k → TextRead size (linesOf e) text rec₀ num₀ pla₀ rec num pla k at
   no-room l =
-      let e : k ≡ lines = omega (arith, g .below) in
-      record { read = g .read; stops = λ m a b c. g .room .no-more (omega arith) (omega arith) (omega arith) }
+      let q : k ≡ lines = omega (arith, g .below) in
+      record { read = g .read; stops = λ m a b c. g .room .no-more (omega (arith, a .0)) (omega arith) (omega arith) }
+
+  -- one line more is found, with the answer o
+  found-more :
+      {to : ℕ} {new : List ℕ} {o : Outcome ℕ} → k < lines → (at ≡ length text → ⊥)
+      → FoundLine (linesOf e) (digitsLent size) plain-once (drop at text) (midOf (size * k) size rec ∷ []) (new ∷ []) o → Behind text at to
+      → Going e text rec₀ num₀ pla₀ lines (putMid (size * k) size rec new) (set num k (numberOf o)) (set pla k (placeOf o)) (k + 1) to
+  found-more l n a b =
+      let r = room-now l in
+      let x = lengths in
+      record {
+        read =
+            read-more (linesOf e) (digitsLent size) plain-once (plain-few size (digitTable (neighboursIn e)), tt) (g .read) (not-past n)
+            ((omega arith, tt), omega arith, omega arith) b (a .line) (a .told) refl (ap (putMid (size * k) size rec) (a .lies .0), tt);
+        room = g .room;
+        below = omega arith;
+      }
 
   pub going-more :
       {to : ℕ} {new num′ pla′ : List ℕ} {o : Outcome ℕ} → k < lines → (at ≡ length text → ⊥)
-      → LineRead size (digitTable R) (take (length text - at) (drop at text)) (midOf (size * k) (size * k + size - size * k) rec) new o
+      → LineRead size (linesOf e) (take (length text - at) (drop at text)) (midOf (size * k) (size * k + size - size * k) rec) new o
       → (num′ ≡ set num k (numberOf o)) × (pla′ ≡ set pla k (placeOf o)) → Behind text at to
-      → Going R text rec₀ num₀ pla₀ lines (putMid (size * k) (size * k + size - size * k) rec new) num′ pla′ (k + 1) to
-  going-more {to} {new} {o = o} l n h e b =
+      → Going e text rec₀ num₀ pla₀ lines (putMid (size * k) (size * k + size - size * k) rec new) num′ pla′ (k + 1) to
+  going-more {to} {new} {o = o} l n h f b =
       let r = room-now l in
       let x = lengths in
       let q : size * k + size - size * k ≡ size = omega arith in
-      let h′ : LineRead size (digitTable R) (drop at text) (midOf (size * k) size rec) new o = rw (rest-is text at, q) at h in
+      let h′ : LineRead size (linesOf e) (drop at text) (midOf (size * k) size rec) new o = rw (rest-is text at, q) at h in
       let m : size ≤ length (midOf (size * k) size rec) = simp (length-take, length-drop) (omega arith) in
-      let a = line-read size (digitTable R) m h′ in
-      rw (e .0, e .1, q)
-      (record {
-        read = read-more size (digitTable R) (omega arith) (g .read) (not-past n) (omega arith) b (a .line) (a .told) (a .lies) refl;
-        room = g .room;
-        below = omega arith;
-      })
+      rw (f .0, f .1, q)
+      (found-more l n (line-read (linesOf e) (digitsLent size) plain-once (plain-few size (digitTable (neighboursIn e))) (midOf (size * k) size rec ∷ []) (m, tt) (refl, tt) h′) b)

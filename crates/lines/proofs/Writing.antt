@@ -11,8 +11,10 @@ use borrow.Rule.Slice.PartMut.{midOf, putMid}
 use Rattle.laws.specs.Laid.{laid-length}
 use Rattle.laws.specs.document.Laid.{laidOver, Laid}
 use Rattle.laws.specs.Laying.{laid-none, laid-more, laid-part}
-use Rattle.lines.specs.document.Line.{figures, decimal, body, line}
-use Rattle.lines.specs.Bodies.{length-figures, length-line}
+use Rattle.texts.specs.document.Numerals.{figures, decimal}
+use Rattle.texts.specs.Numerals.{length-figures}
+use Rattle.lines.specs.document.Line.{body, line}
+use Rattle.lines.specs.Plain.{length-line}
 
 decimal-short : (n : ℕ) → n < 10 → decimal n ≡ (48 + n) ∷ []
 unfolding decimal figures

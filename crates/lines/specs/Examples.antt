@@ -4,7 +4,8 @@ use mathlib.Core.List.{[], _∷_}
 use Prim.Native.Nat.{ℕ, _+_}
 use native.Mathlib.Decide.{decLt}
 use native.Mathlib.Omega.{arith}
-use Rattle.lines.specs.document.Line.{figures, decimal, body, line, IsCount, one-digit, two-digits}
+use Rattle.texts.specs.document.Numerals.{figures, decimal, IsCount, one-digit, two-digits}
+use Rattle.lines.specs.document.Line.{body, line}
 
 -- 8 32100100
 written-line :

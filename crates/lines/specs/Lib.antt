@@ -1,22 +1,13 @@
--- Lines. First what is to be believed: what a line is and what is refused of it, its form as the code finds it, reading, and what damage
--- can do; then the theorems, the examples, and the laws behind them. Assumes nothing.
+-- Plain lines. First what is to be believed: what a line is and what is refused of it, which rows judge its digits, reading, and the marks that no
+-- line holds; then the form of a line as the code finds it, that plain lines are a sound format, the examples, and the laws behind them.
+-- What holds of a text of lines is in the crate `texts`. Assumes nothing.
 pub mod Form
 pub mod Judged
-pub mod Damage
-pub mod Theorems
+pub mod Plain
 pub mod Examples
-pub mod Each
-pub mod Cuts
-pub mod Edits
-pub mod Bodies
-pub mod Answered
-pub mod Texts
-pub mod Records
-pub mod Robustness
 pub mod Lawful
 pub mod Taking
-pub mod FirstLines
-pub mod Turns
+pub mod OfEdition
+pub mod Editions
 pub mod Marks
-pub mod Judging
 pub mod document

@@ -1,24 +1,25 @@
 -- "No line may ever hold a decimal mark: the text carries digits only." The bytes of a line, and the marks, are in `document.Marks`.
 --
 -- In order: the bytes of every line that is written; a line that holds a mark is refused 2. Assumes nothing.
-use mathlib.Core.Path.{_≡_, refl}
+use mathlib.Core.Path.{_≡_, refl, ap, _∙_}
 use mathlib.Core.Logic.{inl, inr}
 use mathlib.Core.List.{List, [], _∷_, _++_, append-assoc}
 use Prim.Native.Nat.{ℕ}
 use native.Mathlib.Omega.{arith}
 use lib.ListN.{length}
-use Rattle.refusal.specs.document.Table.{Row, FirstRefusal, Outcome, refuses, left}
-use Rattle.refusal.specs.Laws.{clear-one, first-place, refusal-front, refusal-back}
+use Rattle.refusal.specs.document.Table.{Outcome, refuses, left}
 use Rattle.limits.specs.document.Limits.{size}
-use Rattle.lines.specs.document.Line.{figures, decimal, body, line, Each, Cut, Digits, IsCount, one-digit, two-digits, Formed, row1, row2, LineAnswers, Reply}
+use Rattle.texts.specs.document.Bytes.{Each, Cut}
+use Rattle.texts.specs.document.Numerals.{figures, Digits, IsCount, one-digit, two-digits}
+use Rattle.texts.specs.document.Text.{LineAnswers}
+use Rattle.texts.specs.Each.{each-join, each-right, each-follows}
+use Rattle.texts.specs.Answered.{unformed-2, answered-once}
+use Rattle.texts.specs.Taking.{read-once}
+use Rattle.lines.specs.document.Line.{body, line, Front, front, Formed, plainLines, Reply}
 use Rattle.lines.specs.document.Marks.{WrittenDigits, Allowed, DigitsOnly, Mark}
 use Rattle.lines.specs.document.Judged.{digitTable}
-use Rattle.lines.specs.document.Reading.{LineRead}
-use Rattle.lines.specs.Cuts.{not-free, cut-once}
-use Rattle.lines.specs.Each.{each-join, each-right, each-follows}
-use Rattle.lines.specs.Bodies.{Fits, decimal-counts}
-use Rattle.lines.specs.Answered.{answered-once}
-use Rattle.lines.specs.Taking.{read-once}
+use Rattle.lines.specs.document.Reading.{digitsLent, LineRead}
+use Rattle.lines.specs.Plain.{plain-once}
 
 -- ---- what is written
 
@@ -31,15 +32,15 @@ count-figured : {b : List ℕ} {n : ℕ} → IsCount b n → WrittenDigits b
 count-figured {n = n} (one-digit h e) = rw e (figured (n ∷ []) (h, tt))
 count-figured (two-digits d f p q r e s) = rw e (figured (d ∷ f ∷ []) (q, (r, tt)))
 
-pub line-digits : (c : List ℕ) → Fits c → DigitsOnly (line c)
-unfolding line body
+pub line-digits : (c : List ℕ) → Formed (body c) (front (length c) c) → DigitsOnly (line c)
+unfolding line
 line-digits c f =
     record {
-      count = decimal (length c);
+      count = f .count;
       digits = figures c;
-      parts = append-assoc (decimal (length c)) (32 ∷ figures c) (10 ∷ []);
-      count-figures = count-figured (decimal-counts (length c) (f .few));
-      digit-figures = figured c (f .code .digits);
+      parts = ap (λ (b : List ℕ). b ++ (10 ∷ [])) (f .parts) ∙ append-assoc (f .count) (32 ∷ figures c) (10 ∷ []);
+      count-figures = count-figured (f .counts);
+      digit-figures = figured c (f .digits);
     }
 
 pub each-allowed : {t : List ℕ} → DigitsOnly t → Each Allowed t
@@ -51,30 +52,23 @@ each-allowed d =
 -- ---- what is refused
 
 -- what has a line's form holds no mark
-formed-unmarked : {b : List ℕ} {n : ℕ} {ds : List ℕ} → Formed b n ds → Each (λ m. Mark m → ⊥) b
-formed-unmarked {ds = ds} f =
+formed-unmarked : {b : List ℕ} {q : Front} → Formed b q → Each (λ m. Mark m → ⊥) b
+formed-unmarked {q = q} f =
     rw (f .parts)
-    (each-join (λ m. Mark m → ⊥) (f .count) (32 ∷ figures ds) (each-follows (λ a g k. k .0 g) (f .count) (count-figured (f .counts)))
-    ((λ k. k .1 refl), each-follows (λ a g k. k .0 g) (figures ds) (figured ds (f .digits))))
-
--- a line that has not the form is refused 2, whatever rows stand behind row 2
-pub unformed-2 :
-    {t b rest : List ℕ} → Cut 10 t b rest → ((n : ℕ) (ds : List ℕ) → Formed b n ds → ⊥) → (rows : List Row)
-    → FirstRefusal (row1 t ∷ row2 t ∷ rows) 2 0
-unformed-2 {t} {b} {rest} c h rows =
-    refusal-back {xs = row1 t ∷ []} (clear-one {r = row1 t} (λ p f. not-free 10 b rest (rw (c .parts) at (f .1))))
-    (refusal-front {xs = row2 t ∷ []} rows
-    (first-place {r = row2 t} (refl, λ n ds s. h n ds (rw (cut-once 10 t (s .text) (s .rest) b rest (s .feed) c .0) at (s .formed))) (λ q l a. absurd (omega arith))))
+    (each-join (λ m. Mark m → ⊥) (f .count) (32 ∷ figures (q .digits)) (each-follows (λ a g k. k .0 g) (f .count) (count-figured (f .counts)))
+    ((λ k. k .1 refl), each-follows (λ a g k. k .0 g) (figures (q .digits)) (figured (q .digits) (f .digits))))
 
 -- the first line of t holds the mark m
 module _ {t b rest : List ℕ} (c : Cut 10 t b rest) (x y : List ℕ) (m : ℕ) (p : b ≡ x ++ (m ∷ y)) (k : Mark m) where
-  unformed : (n : ℕ) (ds : List ℕ) → Formed b n ds → ⊥
-  unformed n ds f = each-right (λ a. Mark a → ⊥) x (m ∷ y) (rw p at (formed-unmarked f)) .0 k
+  unformed : (q : Front) → Formed b q → ⊥
+  unformed q f = each-right (λ a. Mark a → ⊥) x (m ∷ y) (rw p at (formed-unmarked f)) .0 k
 
   -- it is refused 2 in a text
-  pub marked-answer : (R : ℕ) {o : Reply} → LineAnswers size (digitTable R) t o → o ≡ refuses 2 0
-  marked-answer R h = answered-once size (digitTable R) h (left (unformed-2 c unformed _) refl)
+  pub marked-answer : (R : ℕ) {o : Reply} → LineAnswers (plainLines size (digitTable R)) t o → o ≡ refuses 2 0
+  marked-answer R h = answered-once (plainLines size (digitTable R)) plain-once h (left (unformed-2 Formed c unformed _) refl)
 
   -- and by itself
-  pub marked-line : (R : ℕ) {old new : List ℕ} {o : Outcome ℕ} → LineRead size (digitTable R) t old new o → (o ≡ refuses 2 0) × (new ≡ old)
-  marked-line R h = read-once size (digitTable R) h (left (unformed-2 c unformed _) refl)
+  pub marked-line : (R : ℕ) {old new : List ℕ} {o : Outcome ℕ} → LineRead size (plainLines size (digitTable R)) t old new o → (o ≡ refuses 2 0) × (new ≡ old)
+  marked-line R h =
+      let r = read-once (plainLines size (digitTable R)) (digitsLent size) plain-once h (left (unformed-2 Formed c unformed _) refl) in
+      (r .0, cc)

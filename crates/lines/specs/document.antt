@@ -2,5 +2,4 @@
 pub mod Line
 pub mod Reading
 pub mod Judged
-pub mod Damage
 pub mod Marks

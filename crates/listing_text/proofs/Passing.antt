@@ -7,13 +7,14 @@ use lib.ListN.{length, take, drop, length-append, length-drop, drop-of-length-le
 use lib.Seq.{take-all}
 use Rattle.limits.specs.document.Limits.{size}
 use Rattle.refusal.specs.document.Table.{Outcome, gives, refuses}
-use Rattle.lines.specs.document.Line.{Reply}
-use Rattle.lines.specs.document.Damage.{records, refusals}
+use Rattle.texts.specs.document.Damage.{records, refusals}
+use Rattle.texts.specs.document.Lent.{counted, Taken, none}
+use Rattle.texts.specs.Ending.{Behind}
+use Rattle.texts.specs.FirstLines.{taken-all, taken-join}
+use Rattle.texts.specs.Turns.{line-taken}
+use Rattle.texts.specs.Records.{records-refusals}
+use Rattle.lines.specs.document.Line.{plainLines, Reply}
 use Rattle.lines.specs.document.Judged.{digitTable}
-use Rattle.lines.specs.document.Reading.{counted, Taken, none}
-use Rattle.lines.specs.Form.{Behind}
-use Rattle.lines.specs.FirstLines.{taken-all, taken-join}
-use Rattle.lines.specs.Turns.{line-taken}
 use Rattle.listing_text.specs.document.Listing.{longest, answerLine, answerLines, totals, listed, lines, Lists}
 use Rattle.listing_text.specs.Window.{Shown, Puts, shown-none}
 use Rattle.listing_text.specs.Steps.{Replied, isRecord}
@@ -21,7 +22,7 @@ use Rattle.listing_text.specs.Steps.{Replied, isRecord}
 -- before line `line` + 1, which begins at `at`: the lines before it are answered and the answers put, and `read` of them are records
 pub record Going (R : ℕ) (text : List ℕ) (from : ℕ) (old out : List ℕ) (skip done at line read : ℕ) : Type 0 where
   pub answers : List Reply
-  pub taken : Taken size (digitTable R) text answers (drop at text)
+  pub taken : Taken (plainLines size (digitTable R)) text answers (drop at text)
   pub within : at ≤ length text
   pub lines : line ≡ length answers
   pub fewer : line ≤ at
@@ -43,24 +44,17 @@ lines-more i (q ∷ os) o =
     rw (lines-more (suc i) os o, e) (sym (append-assoc (answerLine i q) (answerLines (suc i) os) (answerLine (i + suc (length os)) o)))
 
 -- a line is written of an answer as a call tells it
-line-counted : (i : ℕ) (o : Reply) → answerLine i (counted o) ≡ answerLine i o
+line-counted : (i : ℕ) (o : Reply) → answerLine i (counted length o) ≡ answerLine i o
 unfolding answerLine counted
 line-counted i (gives ds) = refl
 line-counted i (refuses k p) = refl
 
-records-more : (os : List Reply) (o : Reply) → length (records (os ++ (o ∷ []))) ≡ length (records os) + isRecord (counted o)
+records-more : (os : List Reply) (o : Reply) → length (records (os ++ (o ∷ []))) ≡ length (records os) + isRecord (counted length o)
 unfolding records counted
 records-more [] (gives ds) = refl
 records-more [] (refuses k p) = refl
 records-more (gives c ∷ os) o = omega (arith, records-more os o)
 records-more (refuses k p ∷ os) o = records-more os o
-
--- each answer is a record or a refusal
-all-told : (os : List Reply) → length (records os) + refusals os ≡ length os
-unfolding records refusals
-all-told [] = refl
-all-told (gives c ∷ os) = omega (arith, all-told os)
-all-told (refuses k p ∷ os) = omega (arith, all-told os)
 
 pub behind-falls : {t : List ℕ} {at to : ℕ} → Behind t at to → at < length t → at < to
 behind-falls {t} {at} {to} b h = let e = simp length-drop at (ap length (b .rest)) in omega (arith, b .within)
@@ -81,7 +75,7 @@ module _ {R : ℕ} {text : List ℕ} {from : ℕ} {old out : List ℕ} {skip don
       let s : Shown (answerLines 1 (g .answers) ++ answerLine (1 + length (g .answers)) q) from old out′ skip′ done′ = rw l at (p _ old from (g .shown)) in
       record {
         answers = g .answers ++ (q ∷ []);
-        taken = taken-join size (digitTable R) (g .taken) (rw (b .rest) (line-taken size (digitTable R) (rw length-drop (omega arith)) (b .feed) a));
+        taken = taken-join (plainLines size (digitTable R)) (g .taken) (rw (b .rest) (line-taken (plainLines size (digitTable R)) (rw length-drop (omega arith)) (b .feed) a));
         within = b .within;
         lines = simp length-append (omega arith);
         fewer = omega (arith, g .fewer);
@@ -90,7 +84,7 @@ module _ {R : ℕ} {text : List ℕ} {from : ℕ} {old out : List ℕ} {skip don
       }
 
   pub not-more : read ≤ line
-  not-more = omega (arith, all-told (g .answers), g .lines, g .read-of)
+  not-more = omega (arith, records-refusals (g .answers), g .lines, g .read-of)
 
   -- and no more with one answer more
   pub one-more : at < length text → (o : Outcome ℕ) → read + isRecord o ≤ length text
@@ -103,11 +97,11 @@ module _ {R : ℕ} {text : List ℕ} {from : ℕ} {old out : List ℕ} {skip don
       → Lists size (digitTable R) text old out′ from done′
   unfolding listed
   going-all h e p =
-      let n : line - read ≡ refusals (g .answers) = omega (arith, all-told (g .answers), g .lines, g .read-of) in
+      let n : line - read ≡ refusals (g .answers) = omega (arith, records-refusals (g .answers), g .lines, g .read-of) in
       let d : drop at text ≡ [] = drop-of-length-le text e in
       let s = p _ old from (g .shown) in
       record {
         listing = listed (g .answers);
-        right = lines (g .answers) h (taken-all size (digitTable R) (g .taken) d) refl;
+        right = lines (g .answers) h (taken-all (plainLines size (digitTable R)) (g .taken) d) refl;
         piece = rw (n, g .read-of) at (s .laid);
       }

@@ -4,7 +4,7 @@ use mathlib.Core.List.{List, [], _∷_, _++_}
 use Prim.Native.Nat.{ℕ}
 use native.Mathlib.Decide.{decLt}
 use Rattle.refusal.specs.document.Table.{gives, refuses}
-use Rattle.lines.specs.document.Damage.{records, refusals}
+use Rattle.texts.specs.document.Damage.{records, refusals}
 use Rattle.listing_text.specs.document.Listing.{numeralIn, numeral, answerLine, answerLines, totals, listed}
 
 -- 65536

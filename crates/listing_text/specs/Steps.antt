@@ -5,15 +5,16 @@ use Prim.Native.Nat.{ℕ, _≤_}
 use lib.ListN.{length, drop}
 use Rattle.limits.specs.document.Limits.{size}
 use Rattle.refusal.specs.document.Table.{Outcome, gives, refuses}
-use Rattle.lines.specs.document.Line.{LineAnswers, Reply}
+use Rattle.texts.specs.document.Text.{LineAnswers}
+use Rattle.texts.specs.document.Lent.{counted}
+use Rattle.lines.specs.document.Line.{plainLines, Reply}
 use Rattle.lines.specs.document.Judged.{digitTable}
-use Rattle.lines.specs.document.Reading.{counted}
 
 -- o tells an answer to the first line of t, where a vertex may have R neighbours
 pub record Replied (R : ℕ) (t : List ℕ) (o : Outcome ℕ) : Type 0 where
   pub answer : Reply
-  pub line : LineAnswers size (digitTable R) t answer
-  pub tells : o ≡ counted answer
+  pub line : LineAnswers (plainLines size (digitTable R)) t answer
+  pub tells : o ≡ counted length answer
 
 -- 1 for a record, and 0 for a refusal
 abbrev pub isRecord : Outcome ℕ → ℕ

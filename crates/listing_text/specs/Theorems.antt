@@ -8,8 +8,9 @@ use lib.ListN.{length, take, drop, length-take, take-append-drop}
 use lib.Seq.{take-all, drop-drop}
 use Rattle.laws.specs.document.Laid.{Laid}
 use Rattle.laws.specs.Laying.{laid-front}
-use Rattle.lines.specs.document.Line.{DigitRow}
-use Rattle.lines.specs.Theorems.{one-reading}
+use Rattle.texts.specs.Theorems.{one-reading}
+use Rattle.lines.specs.document.Line.{DigitRow, plainLines}
+use Rattle.lines.specs.Plain.{plain-once}
 use Rattle.listing_text.specs.document.Listing.{listed, Listing, longer, lines, Lists}
 use Rattle.listing_text.specs.Window.{take-least}
 
@@ -18,7 +19,7 @@ module _ (most : ℕ) (rows : List DigitRow) where
   one-listing t l m (longer h e) (longer k f) = e ∙ sym f
   one-listing t l m (longer h e) (lines ps k b f) = absurd (omega arith)
   one-listing t l m (lines os h a e) (longer k f) = absurd (omega arith)
-  one-listing t l m (lines os h a e) (lines ps k b f) = e ∙ ap listed (one-reading most rows t os ps a b) ∙ sym f
+  one-listing t l m (lines os h a e) (lines ps k b f) = e ∙ ap listed (one-reading (plainLines most rows) plain-once t os ps a b) ∙ sym f
 
   -- a piece, of the one listing that there is
   piece-of : {t l old new : List ℕ} {from n : ℕ} → Listing most rows t l → Lists most rows t old new from n → Laid (take (length old) (drop from l)) old new n

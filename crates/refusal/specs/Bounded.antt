@@ -1,6 +1,6 @@
 -- Tables whose refusals are small: a number of 1 to 255, and a place below 256.
 --
--- In order: what such a table is; how it is put together of rows and of other tables; two lists; what a call with such a table tells.
+-- In order: what such a table is; how it is put together of rows and of other tables; what a call with such a table tells.
 -- Assumes nothing.
 use mathlib.Core.Path.{_≡_, refl}
 use mathlib.Core.Logic.{inl, inr, ⊎-elim}
@@ -11,10 +11,10 @@ use native.Mathlib.Omega.{arith}
 use lib.Dec.{ltb}
 use lib.ListN.{length}
 use borrow.Author.Tests.{ltb-true}
-use Rattle.refusal.specs.document.Table.{RowOf, Row, ofList, Clear, First, FirstRefusal, OutcomeOf, Outcome, Promise, kept, left, Answered, short, Gives}
+use Rattle.refusal.specs.document.Table.{RowOf, Row, Clear, First, FirstRefusal, OutcomeOf, Outcome, Promise, kept, left, Answered, short, Gives}
 use Rattle.refusal.specs.document.Lowest.{both}
-use Rattle.refusal.specs.document.Small.{byteValues, SmallNumber, SmallOfList, Small, SmallAnswer, SmallRefusal}
-use Rattle.refusal.specs.Laws.{clear-left, refusal-either, list-clear, list-told}
+use Rattle.refusal.specs.document.Small.{byteValues, SmallNumber, Small, SmallAnswer, SmallRefusal}
+use Rattle.refusal.specs.Laws.{clear-left, refusal-either}
 use Rattle.refusal.specs.Lowest.{both-left, both-right}
 
 -- whatever refuses, Number holds of its number, and its place is below 256
@@ -57,20 +57,6 @@ at-0 p (e, a) = omega arith
 pub bounded-both :
     {K : Type 0} {Number : K → Type 0} (xs ys : List (RowOf K)) → BoundedBy Number xs → (Clear xs → BoundedBy Number ys) → BoundedBy Number (xs ++ ys)
 bounded-both xs ys b d = record { refusal = λ k p l. ⊎-elim (λ f. b .refusal k p f) (λ (c, f). d c .refusal k p f) (refusal-either xs ys l) }
-
--- ---- two lists
-
-pub bounded-lists : (rs ss : List Row) → Bounded rs → (Clear rs → Bounded ss) → BoundedBy SmallOfList (ofList 1 rs ++ ofList 2 ss)
-bounded-lists rs ss b d =
-    bounded-both (ofList 1 rs) (ofList 2 ss) (record { refusal = λ (i, k) p l. let (e, f) = list-told 1 rs l in let (n, s) = b .refusal k p f in ((inl e, n), s) })
-    (λ c.
-    record {
-      refusal =
-          λ (i, k) p l.
-          let (e, f) = list-told 2 ss l in
-          let (n, s) = d (list-clear 1 rs .1 c) .refusal k p f in
-          ((inr e, n), s);
-    })
 
 -- ---- what is told
 

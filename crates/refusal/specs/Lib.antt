@@ -1,6 +1,7 @@
 -- Refusals, once, for every call of every crate. Assumes nothing.
 pub mod Apart
 pub mod Laws
+pub mod Stricter
 pub mod Lowest
 pub mod Bounded
 pub mod Giving

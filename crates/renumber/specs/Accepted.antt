@@ -1,18 +1,18 @@
 -- Maps that are renumberings: no row refuses them. Assumes nothing.
 use mathlib.Core.Path.{_≡_, refl, sym, ap₂, _∙_, subst}
 use mathlib.Core.Logic.{⊎-elim}
-use mathlib.Core.List.{List, [], _∷_, List·Memᴰ, List·Memᴰ·head, List·Memᴰ·tail, Memᴰ·map, Memᴰ·cast}
+use mathlib.Core.List.{List, [], _∷_, List·Memᴰ, List·Memᴰ·head, List·Memᴰ·tail, Memᴰ·map}
 use Prim.Native.Nat.{ℕ, zero, suc, _+_, _-_, _*_, _≤_, _<_}
 use native.Mathlib.Omega.{arith}
 use lib.ListN.{length, getD}
 use Rattle.laws.specs.Perms.{perm-in}
 use Rattle.refusal.specs.document.Table.{Clear}
 use Rattle.refusal.specs.Laws.{clear-one, clear-both}
-use Rattle.skeleton.specs.document.Skeleton.{Arc, arcs, IsTree, Renumbering}
+use Rattle.skeleton.specs.document.Skeleton.{arcs, IsTree, Renumbering}
 use Rattle.skeleton.specs.Renumber.{carry, one-to-one}
 use Rattle.edge_list.specs.document.Edges.{Edge, firstEnd, secondEnd}
 use Rattle.edge_list.specs.Prefix.{one-in, other-in}
-use Rattle.renumber.specs.document.Map.{Entry, image, EdgeSent, row5-map, row18, row19, mapRows}
+use Rattle.renumber.specs.document.Map.{image, EdgeSent, row5-map, row18, row19, mapRows}
 
 -- an edge is an arc from either of its ends
 abbrev BothWays : List ℕ → ℕ → ℕ → Type 0

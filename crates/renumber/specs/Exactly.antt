@@ -2,17 +2,17 @@
 --
 -- In order: lists in which nothing stands twice; the edges of an arc, and the arcs of a tree, none twice; the map, one-to-one and onto; the renumbering that it
 -- is. Assumes nothing.
-use mathlib.Core.Path.{_≡_, refl, sym, ap, ap₂, _∙_, subst}
-use mathlib.Core.Logic.{_⊎_, inl, inr, ⊎-elim, _↔_}
+use mathlib.Core.Path.{_≡_, refl, sym, ap, ap₂, _∙_}
+use mathlib.Core.Logic.{_⊎_, inl, inr, ⊎-elim}
 use mathlib.Core.List.{List, [], _∷_, map, List·Memᴰ, List·Memᴰ·head, List·Memᴰ·tail, List·Memᴰ·cases-cons, List·Memᴰ·not-nil, Memᴰ·cast, Memᴰ·of-map, List·Permᴰ, List·Permᴰ·nil, List·Permᴰ·cons, List·Permᴰ·trans, Permᴰ·symm}
-use Prim.Native.Nat.{ℕ, zero, suc, _+_, _-_, _*_, _≤_, _<_}
+use Prim.Native.Nat.{ℕ, suc, _+_, _-_, _*_, _≤_, _<_}
 use native.Mathlib.Decide.{ℕ-discrete}
 use native.Mathlib.Omega.{arith}
 use lib.ListN.{length, getD, length-map}
 use Rattle.laws.specs.document.Once.{Once}
-use Rattle.laws.specs.Once.{pick, fits, upTo, upTo-length, in-upTo, upTo-in}
+use Rattle.laws.specs.Once.{pick, fits, upTo, upTo-length, upTo-in}
 use Rattle.laws.specs.Perms.{perm-in, perm-length, decIn}
-use Rattle.laws.specs.Places.{once-map, place, place-at, at-place, at-in}
+use Rattle.laws.specs.Places.{once-map, place, place-at, at-place}
 use Rattle.refusal.specs.document.Table.{Row, Clear}
 use Rattle.refusal.specs.Laws.{never, others}
 use Rattle.skeleton.specs.document.Skeleton.{Arc, arcs, neighbours, IsTree, Renumbering}

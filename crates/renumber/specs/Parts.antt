@@ -4,7 +4,7 @@
 -- digits looked at for both. Assumes nothing.
 use mathlib.Core.Path.{_≡_}
 use mathlib.Core.List.{List, List·Memᴰ}
-use Prim.Native.Nat.{ℕ, _+_, _-_, _≤_, _<_}
+use Prim.Native.Nat.{ℕ, _+_, _≤_, _<_}
 use lib.ListN.{length, getD, drop}
 use Rattle.refusal.specs.document.Table.{Outcome, gives, refuses, Writes}
 use Rattle.form.specs.document.Form.{centred}

@@ -2,14 +2,14 @@
 -- that meets the parent, the part of a child where it is written (`Written`: by the recursion and then arranged, or a leaf's), and the turn
 -- that takes it in. Assumes nothing.
 use mathlib.Core.Path.{_≡_, refl, sym, ap, ap₂, subst, _∙_}
-use mathlib.Core.Logic.{_⊎_, ⊎-elim}
+use mathlib.Core.Logic.{⊎-elim}
 use mathlib.Core.Bool.{false}
 use mathlib.Core.List.{List, [], _∷_, _++_, append-assoc, append-nil, flatten, map, map-append}
 use Prim.Native.Nat.{ℕ, _+_, _*_, _≤_, _<_}
 use native.Mathlib.Numerals.{add-one}
 use native.Mathlib.Omega.{arith}
-use lib.ListN.{length, getD, set, take, drop, length-append, length-set, take-append-drop, List·getD-append}
-use lib.Seq.{take-at, take-suc-set, length-take-le, getD-take, getD-set-same, getD-set-other}
+use lib.ListN.{length, getD, set, take, drop, length-append, length-set, take-append-drop}
+use lib.Seq.{take-at, take-suc-set, length-take-le, getD-set-same, getD-set-other}
 use Rattle.digit_code.specs.document.Code.{sum}
 use Rattle.digit_code.specs.Counting.{sum-append}
 use Rattle.limits.specs.document.Limits.{size}
@@ -26,7 +26,6 @@ pub record Call (m : List ℕ) (t : List (List ℕ)) (out lens : List ℕ) (p v 
   pub rows : Rows t v
   pub outs : length out ≡ size
   pub long : length lens ≡ size
-  pub stands : getD out at 0 ≡ v
   pub one : getD lens at 0 ≡ 1
   pub room : at + length (ordered m t p v) ≤ size
 
@@ -68,12 +67,6 @@ module _ {m : List ℕ} {t : List (List ℕ)} {out₀ lens₀ : List ℕ} {p v a
   }
 
   module _ {out lens : List ℕ} {j n : ℕ} (s : Sofar m t p out₀ lens₀ out lens v at j n) where
-    -- v stands where it stood
-    pub still : getD out at 0 ≡ v
-    still =
-        let l : at < length (take (at + 1) out₀) = rw (length-take-le (at + 1) out₀ (omega (arith, below, c .outs))) (omega arith) in
-        ap (λ l. getD l at 0) (s .hangs .whole) ∙ List·getD-append (take (at + 1) out₀) _ 0 at l ∙ getD-take (at + 1) out₀ at 0 (omega arith) ∙ c .stands
-
     -- the row ends
     finish : rest p (row t v) j ≡ [] → Hangs m t out₀ lens₀ out lens v at (kids t p v) n
     finish e = subst (λ ws. Hangs m t out₀ lens₀ out lens v at ws n) (sym (s .split ∙ ap (λ l. s .done ++ l) e ∙ append-nil (s .done))) (s .hangs)
@@ -220,7 +213,6 @@ module _ {m : List ℕ} {t : List (List ℕ)} {out lens : List ℕ} {v w at : �
       rows = subst (Rows t) (sym at-w) (c .rows);
       outs = ap length eo ∙ length-set out at w ∙ c .outs;
       long = ap length el ∙ length-set lens at 1 ∙ c .long;
-      stands = refl;
       one = ap (λ l. getD l at 0) el ∙ one;
       room = subst (λ u. at + length (ordered m t v u) ≤ size) (sym at-w) (c .room);
     }

@@ -246,10 +246,10 @@ fn order(
     ensures { λ r. ⌜ Hangs (now (marks .entry)) (now (rows .entry)) (now (out .entry)) (now (lens .entry)) (now (out .exit)) (now (lens .exit))
         (getD (now (out .entry)) at 0) at (kids (now (rows .entry)) parent (getD (now (out .entry)) at 0)) r ⌝ }
 {
+    let v = vertex(out, at);
     let mut looked = 0;
     let mut j = 0;
     while j < WIDTH {
-        let v = vertex(out, at);
         let w = neighbour(rows, v, j);
         if w == 0 {
             return looked;

@@ -6,10 +6,6 @@ use lib.ListN.{length}
 use Rattle.refusal.specs.document.Table.{Row, Clear, Outcome, Promise, kept, left, Writes, short, Gives}
 use Rattle.refusal.specs.Laws.{clear-both, refusal-back, Alike, alike-clear, alike-refusal}
 
--- a table of no rows
-pub none : Clear {K = ℕ} []
-none = record { nowhere = λ k p a. a }
-
 -- P and Q are the same results
 module _ {P Q : List ℕ → Type 0} (to : (c : List ℕ) → P c → Q c) (back : (c : List ℕ) → Q c → P c) where
   short-alike : (n : ℕ) → Alike (short P n ∷ []) (short Q n ∷ [])

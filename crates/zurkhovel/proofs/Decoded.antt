@@ -6,24 +6,33 @@ use native.Mathlib.Omega.{arith}
 use lib.ListN.{length}
 use Rattle.laws.specs.document.Laid.{Laid}
 use Rattle.refusal.specs.document.Table.{Clear, gives, refuses}
-use Rattle.refusal.specs.Laws.{clear-left}
+use Rattle.refusal.specs.Laws.{clear-left, others}
 use Rattle.refusal.specs.Giving.{refused-short, given-laid}
-use Rattle.limits.specs.document.Limits.{size, valence}
-use Rattle.digit_code.specs.document.Code.{codeRows, decode}
+use Rattle.limits.specs.document.Limits.{size}
+use Rattle.digit_code.specs.document.Code.{decode}
+use Rattle.digit_code.specs.Ends.{ends-sum}
 use Rattle.digit_code.specs.Right.{clear-right}
-use Rattle.form.specs.document.Form.{formRows}
-use Rattle.zurkhovel.specs.Rooting.{LaysEdges}
+use Rattle.zurkhovel.specs.Rooting.{EndsWhole, LaysEdges}
 use Rattle.zurkhovel.specs.Places.{edges-of}
-use Rattle.zurkhovel.proofs.Behind.{none}
+use Rattle.texts.specs.Judging.{none}
+use Rattle.edition.specs.document.Edition.{neighboursIn}
+use Rattle.zurkhovel.specs.document.InEdition.{codeTable, formTable}
 
--- a code of a form is a right rooted code
-pub right-of : (form : ℕ → List ℕ → List ℕ → Type 0) (c : List ℕ) → Clear (formRows form size valence c) → Clear (codeRows size valence c)
-right-of form c k = clear-left (codeRows size valence c) _ k
+-- a right code, and one of a form, ends as a code does
+pub whole-of : {e : ℕ} (c : List ℕ) → Clear (codeTable e c) → EndsWhole c
+whole-of {e} c k = let r = clear-right size (neighboursIn e) c (others k) in (r .ends, r .few)
 
-module _ (c : List ℕ) (k : Clear (codeRows size valence c)) where
+pub right-of : {e : ℕ} (form : ℕ → List ℕ → List ℕ → Type 0) (c : List ℕ) → Clear (formTable e form c) → EndsWhole c
+right-of {e} form c k = whole-of c (clear-left (codeTable e c) _ k)
+
+-- so it has a digit
+pub whole-some : (c : List ℕ) → EndsWhole c → 1 ≤ length c
+whole-some c k = omega (arith, ends-sum 1 c (k .0))
+
+module _ (c : List ℕ) (k : EndsWhole c) where
   -- two for each vertex but the root
   edges-length : length (decode c) ≡ 2 * (length c - 1)
-  edges-length = edges-of c (clear-right size valence c k .ends)
+  edges-length = edges-of c (k .0)
 
   edges-sized : (E : List ℕ) → E ≡ decode c → length E ≡ 2 * (length c - 1)
   edges-sized E e = ap length e ∙ edges-length

@@ -6,14 +6,16 @@ use native.Mathlib.Omega.{arith}
 use lib.ListN.{length}
 use Rattle.laws.specs.document.Laid.{laidOver}
 use Rattle.refusal.specs.document.Table.{Row, Clear, gives, refuses, Gives}
-use Rattle.refusal.specs.Laws.{clear-left}
+use Rattle.refusal.specs.Laws.{clear-left, others}
 use Rattle.refusal.specs.Giving.{refused-short, given-laid}
-use Rattle.limits.specs.document.Limits.{valence, aSize}
-use Rattle.adjacency.specs.document.Adjacency.{aEdges, aRows, madeRows}
+use Rattle.limits.specs.document.Limits.{aSize}
+use Rattle.adjacency.specs.document.Adjacency.{aEdges, madeRows}
 use Rattle.adjacency.specs.Accepted.{aFront, a-long}
+use Rattle.edition.specs.document.Edition.{neighboursIn}
+use Rattle.zurkhovel.specs.document.InEdition.{aTable}
 
-pub a-bytes : (N x : ℕ) → Clear (aRows aSize valence N x) → length (aEdges N x) ≡ 2 * (N - 1)
-a-bytes N x k = a-long aSize N x (clear-left (aFront aSize N x) (madeRows valence (aEdges N x)) k)
+pub a-bytes : {e : ℕ} (N x : ℕ) → Clear (aTable e N x) → length (aEdges N x) ≡ 2 * (N - 1)
+a-bytes {e} N x k = a-long aSize N x (clear-left (aFront aSize N x) (madeRows (neighboursIn e) (aEdges N x)) (others k))
 
 -- n: the length of the one right result
 module _ {rs : List Row} {c : List ℕ} {n : ℕ} (clear : Clear rs) (sized : length c ≡ n) {old new : List ℕ} where

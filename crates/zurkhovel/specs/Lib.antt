@@ -1,6 +1,7 @@
 -- The promises of the public calls. Assumes nothing.
 pub mod Tables
 pub mod Bounds
+pub mod Listed
 pub mod Places
 pub mod PlacesBits
 pub mod PlacesMatrix
@@ -8,6 +9,7 @@ pub mod PlacesText
 pub mod PlacesMaps
 pub mod Accepted
 pub mod Theorems
+pub mod Both
 pub mod Threes
 pub mod Meaning
 pub mod One
@@ -27,4 +29,5 @@ pub mod Round
 pub mod RoundBits
 pub mod RoundMatrix
 pub mod RoundText
+pub mod Editions
 pub mod document

@@ -1,6 +1,6 @@
 -- Document 02, wish 6: the total "is at most 3 times N times the whole part of log2 N", and the sums "at most that bound for each" root. Of every
--- accepted skeleton, and then of what each call that orders children reports, read from its promise alone. 3 is one less than `valence`
--- (`three-times`).
+-- accepted skeleton, and then of what each call that orders children reports, read from its promise alone. 3 is one less than the neighbours that
+-- edition 1 allows, and in edition 2 it is 8 (`three-times`, `eight-times`).
 --
 -- In order: of an accepted skeleton; the law for a report; the calls. n: the number reported with the answer o; k: at how many roots the code is
 -- looked for, one or two for the centred code (`few-middles` of the crate `form_coder`). Assumes nothing.
@@ -11,41 +11,36 @@ use native.Mathlib.Omega.{arith}
 use lib.Ieee.{Float}
 use Rattle.refusal.specs.document.Table.{Clear, OutcomeOf, Outcome, gives, refuses, Answered, Gives}
 use Rattle.refusal.specs.Giving.{gave, gave-value}
-use Rattle.limits.specs.document.Limits.{valence}
-use Rattle.edge_list.specs.document.Edges.{edgeRows}
 use Rattle.numbering.specs.document.Pairs.{rootedPairs, log2}
 use Rattle.numbering.specs.Bound.{pairs-bound}
 use Rattle.form.specs.document.Form.{nTuple, centred}
 use Rattle.form_coder.specs.document.Pairs.{centredPairs, nTuplePairs, centredRoots, nTupleRoots}
 use Rattle.form_coder.specs.Sums.{centred-bound, n-tuple-bound}
 use Rattle.zurkhovel.specs.document.Codes.{RootedCode, FormCode}
-use Rattle.zurkhovel.specs.document.Same.{listRows, Finding, SameSkeleton}
+use Rattle.zurkhovel.specs.document.Same.{Finding, SameSkeleton}
 use Rattle.zurkhovel.specs.document.Maps.{MapOutcome, HandOut}
 use Rattle.zurkhovel.specs.document.Bits.{Pack, Whole, InFraction}
 use Rattle.zurkhovel.specs.document.Matrix.{CamByCode, ZeroAByCode, AZeroByCode}
 use Rattle.zurkhovel.specs.document.Lines.{WriteLine}
 use Rattle.zurkhovel.specs.document.Alike.{EqualVertices}
-use Rattle.zurkhovel.specs.document.Reported.{Reports, Reporting, atRoot, OfBoth, coded, not-coded, mostPairs}
+use Rattle.zurkhovel.specs.document.Reported.{Reporting, atRoot, OfBoth, coded, not-coded, mostPairs}
 use Rattle.zurkhovel.specs.Accepted.{skeleton-of, root-of}
 use Rattle.zurkhovel.specs.Theorems.{verdict-lists}
 use Rattle.zurkhovel.specs.Threes.{handed-lists}
+use Rattle.limits.specs.document.Limits.{size}
+use Rattle.edition.specs.document.Edition.{neighboursIn}
+use Rattle.zurkhovel.specs.document.InEdition.{edgeTable}
 
--- ---- of an accepted skeleton
-
-pub three-times : (N : ℕ) → mostPairs valence N ≡ 3 * N * log2 N
+pub three-times : (N : ℕ) → mostPairs (neighboursIn 1) N ≡ 3 * N * log2 N
+unfolding neighboursIn
 three-times N = refl
 
-module _ {most : ℕ} (N : ℕ) (E : List ℕ) where
-  pub accepted-rooted : (r : ℕ) → Clear (edgeRows most valence N E r) → rootedPairs N E r ≤ mostPairs valence N
-  accepted-rooted r c = let (h, k) = root-of E c in pairs-bound most valence N E r (skeleton-of c) h k
+-- "In edition 2 the factor 3 in the count of digit pairs is 8."
+pub eight-times : (N : ℕ) → mostPairs (neighboursIn 2) N ≡ 8 * N * log2 N
+unfolding neighboursIn
+eight-times N = refl
 
-  pub accepted-centred : Clear (edgeRows most valence N E 1) → (n k : ℕ) → centredPairs N E n → centredRoots N E k → n ≤ k * mostPairs valence N
-  accepted-centred c n k x y = centred-bound most valence N E (skeleton-of c) n k x y
-
-  pub accepted-n-tuple : Clear (edgeRows most valence N E 1) → (n k : ℕ) → nTuplePairs N E n → nTupleRoots N E k → n ≤ k * mostPairs valence N
-  accepted-n-tuple c n k x y = n-tuple-bound most valence N E (skeleton-of c) n k x y
-
--- ---- the law
+-- ---- the law for a report
 
 -- where B bounds what is counted for what is given, it bounds what is reported
 reported-most :
@@ -54,95 +49,110 @@ reported-most :
 reported-most B n f (gives a) g = f a (g .promised) (g .reported)
 reported-most B n f (refuses k j) g = omega (arith, g .reported)
 
--- at a root
-root-most :
-    {most N r : ℕ} (E : List ℕ) {old new : List ℕ} {Right : List ℕ → Type 0} (o : Outcome ℕ) (n : ℕ)
-    → Reporting (Gives (edgeRows most valence N E r) Right old new) (atRoot N E r) o n → n ≤ mostPairs valence N
-root-most {N = N} {r} E o n = reported-most (mostPairs valence N) n (λ a p x. rw x (accepted-rooted N E r (gave p .0))) o
+module _ (e : ℕ) where
+  -- ---- of an accepted skeleton
 
-root-value-most :
-    {A : Type 0} {most N r : ℕ} (E : List ℕ) {Right : A → Type 0} (o : Outcome A) (n : ℕ)
-    → Reporting (Answered (edgeRows most valence N E r) Right) (atRoot N E r) o n → n ≤ mostPairs valence N
-root-value-most {N = N} {r} E o n = reported-most (mostPairs valence N) n (λ a p x. rw x (accepted-rooted N E r (gave-value p .0))) o
+  module _ {most : ℕ} (N : ℕ) (E : List ℕ) where
+    pub accepted-rooted : (r : ℕ) → Clear (edgeTable e most N E r) → rootedPairs N E r ≤ mostPairs (neighboursIn e) N
+    accepted-rooted r c = let (h, k) = root-of E c in pairs-bound most (neighboursIn e) N E r (skeleton-of c) h k
 
--- over the middles
-middles-most :
-    {most N : ℕ} (E : List ℕ) {old new : List ℕ} {Right : List ℕ → Type 0} (o : Outcome ℕ) (n k : ℕ)
-    → Reporting (Gives (edgeRows most valence N E 1) Right old new) (centredPairs N E) o n → centredRoots N E k → n ≤ k * mostPairs valence N
-middles-most {N = N} E o n k g y = reported-most (k * mostPairs valence N) n (λ a p x. accepted-centred N E (gave p .0) n k x y) o g
+    pub accepted-centred : Clear (edgeTable e most N E 1) → (n k : ℕ) → centredPairs N E n → centredRoots N E k → n ≤ k * mostPairs (neighboursIn e) N
+    accepted-centred c n k x y = centred-bound most (neighboursIn e) N E (skeleton-of c) n k x y
 
-middles-value-most :
-    {A : Type 0} {most N : ℕ} (E : List ℕ) {Right : A → Type 0} (o : Outcome A) (n k : ℕ)
-    → Reporting (Answered (edgeRows most valence N E 1) Right) (centredPairs N E) o n → centredRoots N E k → n ≤ k * mostPairs valence N
-middles-value-most {N = N} E o n k g y = reported-most (k * mostPairs valence N) n (λ a p x. accepted-centred N E (gave-value p .0) n k x y) o g
+    pub accepted-n-tuple : Clear (edgeTable e most N E 1) → (n k : ℕ) → nTuplePairs N E n → nTupleRoots N E k → n ≤ k * mostPairs (neighboursIn e) N
+    accepted-n-tuple c n k x y = n-tuple-bound most (neighboursIn e) N E (skeleton-of c) n k x y
 
--- over the middles of both lists
-both-most :
-    {K A : Type 0} {Q : OutcomeOf K A → Type 0} (N : ℕ) (E : List ℕ) (P : ℕ) (F : List ℕ) (o : OutcomeOf K A) (n j k : ℕ)
-    → ((a : A) → Q (gives a) → Clear (listRows N E) × Clear (listRows P F)) → Reporting Q (OfBoth N E P F) o n → centredRoots N E j → centredRoots P F k
-    → n ≤ j * mostPairs valence N + k * mostPairs valence P
-both-most N E P F o n j k lists g y z = reported-most (j * mostPairs valence N + k * mostPairs valence P) n (λ a p x. by (lists a p) x) o g
-  where
-    by : {n : ℕ} → Clear (listRows N E) × Clear (listRows P F) → OfBoth N E P F n → n ≤ j * mostPairs valence N + k * mostPairs valence P
-    by (c, d) (coded e u v) = omega (arith, accepted-centred N E c _ j u y, accepted-centred P F d _ k v z)
-    by c (not-coded e) = omega arith
+  -- ---- the law
 
--- ---- the calls
+  -- at a root
+  root-most :
+      {most N r : ℕ} (E : List ℕ) {old new : List ℕ} {Right : List ℕ → Type 0} (o : Outcome ℕ) (n : ℕ)
+      → Reporting (Gives (edgeTable e most N E r) Right old new) (atRoot N E r) o n → n ≤ mostPairs (neighboursIn e) N
+  root-most {N = N} {r} E o n = reported-most (mostPairs (neighboursIn e) N) n (λ a p x. rw x (accepted-rooted N E r (gave p .0))) o
 
-pub looked-rooted-code :
-    (N : ℕ) (E : List ℕ) (r : ℕ) (old new : List ℕ) (o : Outcome ℕ) (n : ℕ) → Reporting (RootedCode N E r old new) (atRoot N E r) o n → n ≤ mostPairs valence N
-looked-rooted-code N E r old new = root-most E
+  root-value-most :
+      {A : Type 0} {most N r : ℕ} (E : List ℕ) {Right : A → Type 0} (o : Outcome A) (n : ℕ)
+      → Reporting (Answered (edgeTable e most N E r) Right) (atRoot N E r) o n → n ≤ mostPairs (neighboursIn e) N
+  root-value-most {N = N} {r} E o n = reported-most (mostPairs (neighboursIn e) N) n (λ a p x. rw x (accepted-rooted N E r (gave-value p .0))) o
 
-pub looked-n-tuple-code :
-    (N : ℕ) (E old new : List ℕ) (o : Outcome ℕ) (n k : ℕ) → Reporting (FormCode nTuple N E old new) (nTuplePairs N E) o n → nTupleRoots N E k
-    → n ≤ k * mostPairs valence N
-looked-n-tuple-code N E old new o n k g y = reported-most (k * mostPairs valence N) n (λ a p x. accepted-n-tuple N E (gave p .0) n k x y) o g
+  -- over the middles
+  middles-most :
+      {most N : ℕ} (E : List ℕ) {old new : List ℕ} {Right : List ℕ → Type 0} (o : Outcome ℕ) (n k : ℕ)
+      → Reporting (Gives (edgeTable e most N E 1) Right old new) (centredPairs N E) o n → centredRoots N E k → n ≤ k * mostPairs (neighboursIn e) N
+  middles-most {N = N} E o n k g y = reported-most (k * mostPairs (neighboursIn e) N) n (λ a p x. accepted-centred N E (gave p .0) n k x y) o g
 
-pub looked-centred-code :
-    (N : ℕ) (E old new : List ℕ) (o : Outcome ℕ) (n k : ℕ) → Reporting (FormCode centred N E old new) (centredPairs N E) o n → centredRoots N E k
-    → n ≤ k * mostPairs valence N
-looked-centred-code N E old new = middles-most E
+  middles-value-most :
+      {A : Type 0} {most N : ℕ} (E : List ℕ) {Right : A → Type 0} (o : Outcome A) (n k : ℕ)
+      → Reporting (Answered (edgeTable e most N E 1) Right) (centredPairs N E) o n → centredRoots N E k → n ≤ k * mostPairs (neighboursIn e) N
+  middles-value-most {N = N} E o n k g y = reported-most (k * mostPairs (neighboursIn e) N) n (λ a p x. accepted-centred N E (gave-value p .0) n k x y) o g
 
--- both lists' sum, at most the bound for each root of each
-pub looked-same-skeleton :
-    (N : ℕ) (E : List ℕ) (P : ℕ) (F : List ℕ) (o : Finding) (n j k : ℕ) → Reporting (SameSkeleton N E P F) (OfBoth N E P F) o n
-    → centredRoots N E j → centredRoots P F k → n ≤ j * mostPairs valence N + k * mostPairs valence P
-looked-same-skeleton N E P F o n j k = both-most N E P F o n j k (λ a. verdict-lists)
+  -- over the middles of both lists
+  both-most :
+      {K A : Type 0} {Q : OutcomeOf K A → Type 0} (N : ℕ) (E : List ℕ) (P : ℕ) (F : List ℕ) (o : OutcomeOf K A) (n j k : ℕ)
+      → ((a : A) → Q (gives a) → Clear (edgeTable e size N E 1) × Clear (edgeTable e size P F 1)) → Reporting Q (OfBoth N E P F) o n → centredRoots N E j → centredRoots P F k
+      → n ≤ j * mostPairs (neighboursIn e) N + k * mostPairs (neighboursIn e) P
+  both-most N E P F o n j k lists g y z = reported-most (j * mostPairs (neighboursIn e) N + k * mostPairs (neighboursIn e) P) n (λ a p x. by (lists a p) x) o g
+    where
+      by : {n : ℕ} → Clear (edgeTable e size N E 1) × Clear (edgeTable e size P F 1) → OfBoth N E P F n → n ≤ j * mostPairs (neighboursIn e) N + k * mostPairs (neighboursIn e) P
+      by (c, d) (coded q u v) = omega (arith, accepted-centred N E c _ j u y, accepted-centred P F d _ k v z)
+      by c (not-coded q) = omega arith
 
-pub looked-renumbering :
-    (N : ℕ) (E : List ℕ) (P : ℕ) (F old new : List ℕ) (o : MapOutcome) (n j k : ℕ) → Reporting (HandOut N E P F old new) (OfBoth N E P F) o n
-    → centredRoots N E j → centredRoots P F k → n ≤ j * mostPairs valence N + k * mostPairs valence P
-looked-renumbering N E P F old new o n j k = both-most N E P F o n j k (λ a. handed-lists)
+  -- ---- the calls
 
-pub looked-pack :
-    (N : ℕ) (E : List ℕ) (r : ℕ) (old new : List ℕ) (o : Outcome ℕ) (n : ℕ) → Reporting (Pack N E r old new) (atRoot N E r) o n → n ≤ mostPairs valence N
-looked-pack N E r old new = root-most E
+  pub looked-rooted-code :
+      (N : ℕ) (E : List ℕ) (r : ℕ) (old new : List ℕ) (o : Outcome ℕ) (n : ℕ) → Reporting (RootedCode e N E r old new) (atRoot N E r) o n → n ≤ mostPairs (neighboursIn e) N
+  looked-rooted-code N E r old new = root-most E
 
-pub looked-whole : (N : ℕ) (E : List ℕ) (r : ℕ) (o : Outcome ℕ) (n : ℕ) → Reporting (Whole N E r) (atRoot N E r) o n → n ≤ mostPairs valence N
-looked-whole N E r = root-value-most E
+  pub looked-n-tuple-code :
+      (N : ℕ) (E old new : List ℕ) (o : Outcome ℕ) (n k : ℕ) → Reporting (FormCode e nTuple N E old new) (nTuplePairs N E) o n → nTupleRoots N E k
+      → n ≤ k * mostPairs (neighboursIn e) N
+  looked-n-tuple-code N E old new o n k g y = reported-most (k * mostPairs (neighboursIn e) N) n (λ a p x. accepted-n-tuple N E (gave p .0) n k x y) o g
 
-pub looked-fraction : (N : ℕ) (E : List ℕ) (r : ℕ) (o : Outcome Float) (n : ℕ) → Reporting (InFraction N E r) (atRoot N E r) o n → n ≤ mostPairs valence N
-looked-fraction N E r = root-value-most E
+  pub looked-centred-code :
+      (N : ℕ) (E old new : List ℕ) (o : Outcome ℕ) (n k : ℕ) → Reporting (FormCode e centred N E old new) (centredPairs N E) o n → centredRoots N E k
+      → n ≤ k * mostPairs (neighboursIn e) N
+  looked-centred-code N E old new = middles-most E
 
-pub looked-cam-by-code :
-    (N : ℕ) (E old new : List ℕ) (o : Outcome ℕ) (n k : ℕ) → Reporting (CamByCode N E old new) (centredPairs N E) o n → centredRoots N E k
-    → n ≤ k * mostPairs valence N
-looked-cam-by-code N E old new = middles-most E
+  -- both lists' sum, at most the bound for each root of each
+  pub looked-same-skeleton :
+      (N : ℕ) (E : List ℕ) (P : ℕ) (F : List ℕ) (o : Finding) (n j k : ℕ) → Reporting (SameSkeleton e N E P F) (OfBoth N E P F) o n
+      → centredRoots N E j → centredRoots P F k → n ≤ j * mostPairs (neighboursIn e) N + k * mostPairs (neighboursIn e) P
+  looked-same-skeleton N E P F o n j k = both-most N E P F o n j k (λ a. verdict-lists)
 
-pub looked-zero-a-by-code :
-    (N : ℕ) (E : List ℕ) (o : Outcome ℕ) (n k : ℕ) → Reporting (ZeroAByCode N E) (centredPairs N E) o n → centredRoots N E k → n ≤ k * mostPairs valence N
-looked-zero-a-by-code N E = middles-value-most E
+  pub looked-renumbering :
+      (N : ℕ) (E : List ℕ) (P : ℕ) (F old new : List ℕ) (o : MapOutcome) (n j k : ℕ) → Reporting (HandOut e N E P F old new) (OfBoth N E P F) o n
+      → centredRoots N E j → centredRoots P F k → n ≤ j * mostPairs (neighboursIn e) N + k * mostPairs (neighboursIn e) P
+  looked-renumbering N E P F old new o n j k = both-most N E P F o n j k (λ a. handed-lists)
 
-pub looked-a-zero-by-code :
-    (N : ℕ) (E : List ℕ) (o : Outcome ℕ) (n k : ℕ) → Reporting (AZeroByCode N E) (centredPairs N E) o n → centredRoots N E k → n ≤ k * mostPairs valence N
-looked-a-zero-by-code N E = middles-value-most E
+  pub looked-pack :
+      (N : ℕ) (E : List ℕ) (r : ℕ) (old new : List ℕ) (o : Outcome ℕ) (n : ℕ) → Reporting (Pack e N E r old new) (atRoot N E r) o n → n ≤ mostPairs (neighboursIn e) N
+  looked-pack N E r old new = root-most E
 
-pub looked-write-line :
-    (N : ℕ) (E old new : List ℕ) (o : Outcome ℕ) (n k : ℕ) → Reporting (WriteLine N E old new) (centredPairs N E) o n → centredRoots N E k
-    → n ≤ k * mostPairs valence N
-looked-write-line N E old new = middles-most E
+  pub looked-whole : (N : ℕ) (E : List ℕ) (r : ℕ) (o : Outcome ℕ) (n : ℕ) → Reporting (Whole e N E r) (atRoot N E r) o n → n ≤ mostPairs (neighboursIn e) N
+  looked-whole N E r = root-value-most E
 
-pub looked-equal-vertices :
-    (N : ℕ) (E old new : List ℕ) (o : Outcome ℕ) (n k : ℕ) → Reporting (EqualVertices N E old new) (centredPairs N E) o n → centredRoots N E k
-    → n ≤ k * mostPairs valence N
-looked-equal-vertices N E old new = middles-most E
+  pub looked-fraction : (N : ℕ) (E : List ℕ) (r : ℕ) (o : Outcome Float) (n : ℕ) → Reporting (InFraction e N E r) (atRoot N E r) o n → n ≤ mostPairs (neighboursIn e) N
+  looked-fraction N E r = root-value-most E
+
+  pub looked-cam-by-code :
+      (N : ℕ) (E old new : List ℕ) (o : Outcome ℕ) (n k : ℕ) → Reporting (CamByCode e N E old new) (centredPairs N E) o n → centredRoots N E k
+      → n ≤ k * mostPairs (neighboursIn e) N
+  looked-cam-by-code N E old new = middles-most E
+
+  pub looked-zero-a-by-code :
+      (N : ℕ) (E : List ℕ) (o : Outcome ℕ) (n k : ℕ) → Reporting (ZeroAByCode e N E) (centredPairs N E) o n → centredRoots N E k → n ≤ k * mostPairs (neighboursIn e) N
+  looked-zero-a-by-code N E = middles-value-most E
+
+  pub looked-a-zero-by-code :
+      (N : ℕ) (E : List ℕ) (o : Outcome ℕ) (n k : ℕ) → Reporting (AZeroByCode e N E) (centredPairs N E) o n → centredRoots N E k → n ≤ k * mostPairs (neighboursIn e) N
+  looked-a-zero-by-code N E = middles-value-most E
+
+  pub looked-write-line :
+      (N : ℕ) (E old new : List ℕ) (o : Outcome ℕ) (n k : ℕ) → Reporting (WriteLine e N E old new) (centredPairs N E) o n → centredRoots N E k
+      → n ≤ k * mostPairs (neighboursIn e) N
+  looked-write-line N E old new = middles-most E
+
+  pub looked-equal-vertices :
+      (N : ℕ) (E old new : List ℕ) (o : Outcome ℕ) (n k : ℕ) → Reporting (EqualVertices e N E old new) (centredPairs N E) o n → centredRoots N E k
+      → n ≤ k * mostPairs (neighboursIn e) N
+  looked-equal-vertices N E old new = middles-most E

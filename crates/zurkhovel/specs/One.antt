@@ -28,52 +28,6 @@ equal x c d p q = p ∙ sym q
 one-check : {rs : List Row} (r s : Answer) → Answered rs (λ n. n ≡ 0) (told r) → Answered rs (λ n. n ≡ 0) (told s) → r ≡ s
 one-check r s a b = told-apart r s (one-result (λ n m p q. (p ∙ sym q, refl)) a b .0)
 
-pub one-check-code : (c : List ℕ) (r s : Answer) → CheckCode c (told r) → CheckCode c (told s) → r ≡ s
-one-check-code c = one-check
-
-pub one-decode-code :
-    (c old new new′ : List ℕ) (r s : Answer) → DecodeCode c old new (told r) → DecodeCode c old new′ (told s) → (r ≡ s) × (new ≡ new′)
-one-decode-code c old new new′ r s a b = told-both r s (one-given (equal _) a b)
-
-pub one-check-edges : (N : ℕ) (E : List ℕ) (root : ℕ) (r s : Answer) → CheckEdges N E root (told r) → CheckEdges N E root (told s) → r ≡ s
-one-check-edges N E root = one-check
-
-pub one-rooted-code :
-    (N : ℕ) (E : List ℕ) (root : ℕ) (old new new′ : List ℕ) (r s : Answer) → RootedCode N E root old new (told r) → RootedCode N E root old new′ (told s)
-    → (r ≡ s) × (new ≡ new′)
-one-rooted-code N E root old new new′ r s a b = told-both r s (one-given (equal _) a b)
-
--- of either form
-one-form-code :
-    (form : ℕ → List ℕ → List ℕ → Type 0) (f : IsForm form) (N : ℕ) (E old new new′ : List ℕ) (r s : Answer)
-    → FormCode form N E old new (told r) → FormCode form N E old new′ (told s) → (r ≡ s) × (new ≡ new′)
-one-form-code form f N E old new new′ r s a b = told-both r s (one-clear (λ k c d x y. f .one (tree-of N E 1 k) x y) a b)
-
-one-decode-form :
-    (form : ℕ → List ℕ → List ℕ → Type 0) (c old new new′ : List ℕ) (r s : Answer)
-    → DecodeForm form c old new (told r) → DecodeForm form c old new′ (told s) → (r ≡ s) × (new ≡ new′)
-one-decode-form form c old new new′ r s a b = told-both r s (one-given (equal _) a b)
-
-pub one-n-tuple-code :
-    (N : ℕ) (E old new new′ : List ℕ) (r s : Answer) → FormCode nTuple N E old new (told r) → FormCode nTuple N E old new′ (told s)
-    → (r ≡ s) × (new ≡ new′)
-one-n-tuple-code = one-form-code nTuple n-tuple-form
-
-pub one-centred-code :
-    (N : ℕ) (E old new new′ : List ℕ) (r s : Answer) → FormCode centred N E old new (told r) → FormCode centred N E old new′ (told s)
-    → (r ≡ s) × (new ≡ new′)
-one-centred-code = one-form-code centred centred-form
-
-pub one-decode-n-tuple :
-    (c old new new′ : List ℕ) (r s : Answer) → DecodeForm nTuple c old new (told r) → DecodeForm nTuple c old new′ (told s)
-    → (r ≡ s) × (new ≡ new′)
-one-decode-n-tuple = one-decode-form nTuple
-
-pub one-decode-centred :
-    (c old new new′ : List ℕ) (r s : Answer) → DecodeForm centred c old new (told r) → DecodeForm centred c old new′ (told s)
-    → (r ≡ s) × (new ≡ new′)
-one-decode-centred = one-decode-form centred
-
 -- codes are equal or not
 one-found : (N : ℕ) (E : List ℕ) (P : ℕ) (F : List ℕ) (a b : Bool) → EqualCodes N E P F a → EqualCodes N E P F b → a ≡ b
 one-found N E P F true true x y = refl
@@ -98,6 +52,55 @@ said-apart (Refused i k p) (Refused j l q) e =
     let place : p ≡ q = cc in
     cc
 
-pub one-same-skeleton :
-    (N : ℕ) (E : List ℕ) (P : ℕ) (F : List ℕ) (r s : Verdict) → SameSkeleton N E P F (said r) → SameSkeleton N E P F (said s) → r ≡ s
-one-same-skeleton N E P F r s x y = said-apart r s (one-result (λ a b v w. (one-found N E P F a b v w, refl)) x y .0)
+-- ---- the calls, in the edition e
+
+module _ (e : ℕ) where
+  pub one-check-code : (c : List ℕ) (r s : Answer) → CheckCode e c (told r) → CheckCode e c (told s) → r ≡ s
+  one-check-code c = one-check
+
+  pub one-decode-code :
+      (c old new new′ : List ℕ) (r s : Answer) → DecodeCode e c old new (told r) → DecodeCode e c old new′ (told s) → (r ≡ s) × (new ≡ new′)
+  one-decode-code c old new new′ r s a b = told-both r s (one-given (equal _) a b)
+
+  pub one-check-edges : (N : ℕ) (E : List ℕ) (root : ℕ) (r s : Answer) → CheckEdges e N E root (told r) → CheckEdges e N E root (told s) → r ≡ s
+  one-check-edges N E root = one-check
+
+  pub one-rooted-code :
+      (N : ℕ) (E : List ℕ) (root : ℕ) (old new new′ : List ℕ) (r s : Answer) → RootedCode e N E root old new (told r) → RootedCode e N E root old new′ (told s)
+      → (r ≡ s) × (new ≡ new′)
+  one-rooted-code N E root old new new′ r s a b = told-both r s (one-given (equal _) a b)
+
+  -- of either form
+  one-form-code :
+      (form : ℕ → List ℕ → List ℕ → Type 0) (f : IsForm form) (N : ℕ) (E old new new′ : List ℕ) (r s : Answer)
+      → FormCode e form N E old new (told r) → FormCode e form N E old new′ (told s) → (r ≡ s) × (new ≡ new′)
+  one-form-code form f N E old new new′ r s a b = told-both r s (one-clear (λ k c d x y. f .one (tree-of N E 1 k) x y) a b)
+
+  one-decode-form :
+      (form : ℕ → List ℕ → List ℕ → Type 0) (c old new new′ : List ℕ) (r s : Answer)
+      → DecodeForm e form c old new (told r) → DecodeForm e form c old new′ (told s) → (r ≡ s) × (new ≡ new′)
+  one-decode-form form c old new new′ r s a b = told-both r s (one-given (equal _) a b)
+
+  pub one-n-tuple-code :
+      (N : ℕ) (E old new new′ : List ℕ) (r s : Answer) → FormCode e nTuple N E old new (told r) → FormCode e nTuple N E old new′ (told s)
+      → (r ≡ s) × (new ≡ new′)
+  one-n-tuple-code = one-form-code nTuple n-tuple-form
+
+  pub one-centred-code :
+      (N : ℕ) (E old new new′ : List ℕ) (r s : Answer) → FormCode e centred N E old new (told r) → FormCode e centred N E old new′ (told s)
+      → (r ≡ s) × (new ≡ new′)
+  one-centred-code = one-form-code centred centred-form
+
+  pub one-decode-n-tuple :
+      (c old new new′ : List ℕ) (r s : Answer) → DecodeForm e nTuple c old new (told r) → DecodeForm e nTuple c old new′ (told s)
+      → (r ≡ s) × (new ≡ new′)
+  one-decode-n-tuple = one-decode-form nTuple
+
+  pub one-decode-centred :
+      (c old new new′ : List ℕ) (r s : Answer) → DecodeForm e centred c old new (told r) → DecodeForm e centred c old new′ (told s)
+      → (r ≡ s) × (new ≡ new′)
+  one-decode-centred = one-decode-form centred
+
+  pub one-same-skeleton :
+      (N : ℕ) (E : List ℕ) (P : ℕ) (F : List ℕ) (r s : Verdict) → SameSkeleton e N E P F (said r) → SameSkeleton e N E P F (said s) → r ≡ s
+  one-same-skeleton N E P F r s x y = said-apart r s (one-result (λ a b v w. (one-found N E P F a b v w, refl)) x y .0)

@@ -27,28 +27,31 @@ one-value :
     → o ≡ q
 one-value one a b = one-result (λ x y p q. (one x y p q, refl)) a b .0
 
-pub one-pack :
-    (N : ℕ) (E : List ℕ) (root : ℕ) (old new new′ : List ℕ) (r s : Answer) → Pack N E root old new (told r) → Pack N E root old new′ (told s)
-    → (r ≡ s) × (new ≡ new′)
-one-pack N E root old new new′ r s a b = told-both r s (one-given (λ c d p q. packed-again p q) a b)
-
-pub one-whole : (N : ℕ) (E : List ℕ) (root : ℕ) (r s : Number) → Whole N E root (numbered r) → Whole N E root (numbered s) → r ≡ s
-one-whole N E root r s a b = numbered-apart r s (one-value (λ x y p q. number-again p q) a b)
-
-pub one-fraction :
-    (N : ℕ) (E : List ℕ) (root : ℕ) (r s : Fraction) → InFraction N E root (fraction.toldFraction r) → InFraction N E root (fraction.toldFraction s) → r ≡ s
-one-fraction N E root r s a b = apart.told-apart r s (one-value (λ x y p q. fraction-again p q) a b)
-
 -- bits carry one code, and so have one list of edges
-pub one-decoded : {May : List Bool → Type 0} {bs : List Bool} (E F : List ℕ) → Decodes May bs E → Decodes May bs F → E ≡ F
+pub one-decoded : {R : ℕ} {May : List Bool → Type 0} {bs : List Bool} (E F : List ℕ) → Decodes R May bs E → Decodes R May bs F → E ≡ F
 one-decoded E F d e = d .edges ∙ ap decode (one-reading (d .reads) (e .reads)) ∙ sym (e .edges)
 
-pub one-unpack : (b old new new′ : List ℕ) (r s : Answer) → Unpack b old new (told r) → Unpack b old new′ (told s) → (r ≡ s) × (new ≡ new′)
-one-unpack b old new new′ r s g h = told-both r s (one-given one-decoded g h)
+-- ---- the calls, in the edition e
 
-pub one-unwhole : (N x : ℕ) (old new new′ : List ℕ) (r s : Answer) → Unwhole N x old new (told r) → Unwhole N x old new′ (told s) → (r ≡ s) × (new ≡ new′)
-one-unwhole N x old new new′ r s a b = told-both r s (one-given one-decoded a b)
+module _ (e : ℕ) where
+  pub one-pack :
+      (N : ℕ) (E : List ℕ) (root : ℕ) (old new new′ : List ℕ) (r s : Answer) → Pack e N E root old new (told r) → Pack e N E root old new′ (told s)
+      → (r ≡ s) × (new ≡ new′)
+  one-pack N E root old new new′ r s a b = told-both r s (one-given (λ c d p q. packed-again p q) a b)
 
-pub one-unfraction :
-    (x : Float) (old new new′ : List ℕ) (r s : Answer) → Unfraction x old new (told r) → Unfraction x old new′ (told s) → (r ≡ s) × (new ≡ new′)
-one-unfraction x old new new′ r s a b = told-both r s (one-given one-decoded a b)
+  pub one-whole : (N : ℕ) (E : List ℕ) (root : ℕ) (r s : Number) → Whole e N E root (numbered r) → Whole e N E root (numbered s) → r ≡ s
+  one-whole N E root r s a b = numbered-apart r s (one-value (λ x y p q. number-again p q) a b)
+
+  pub one-fraction :
+      (N : ℕ) (E : List ℕ) (root : ℕ) (r s : Fraction) → InFraction e N E root (fraction.toldFraction r) → InFraction e N E root (fraction.toldFraction s) → r ≡ s
+  one-fraction N E root r s a b = apart.told-apart r s (one-value (λ x y p q. fraction-again p q) a b)
+
+  pub one-unpack : (b old new new′ : List ℕ) (r s : Answer) → Unpack e b old new (told r) → Unpack e b old new′ (told s) → (r ≡ s) × (new ≡ new′)
+  one-unpack b old new new′ r s g h = told-both r s (one-given one-decoded g h)
+
+  pub one-unwhole : (N x : ℕ) (old new new′ : List ℕ) (r s : Answer) → Unwhole e N x old new (told r) → Unwhole e N x old new′ (told s) → (r ≡ s) × (new ≡ new′)
+  one-unwhole N x old new new′ r s a b = told-both r s (one-given one-decoded a b)
+
+  pub one-unfraction :
+      (x : Float) (old new new′ : List ℕ) (r s : Answer) → Unfraction e x old new (told r) → Unfraction e x old new′ (told s) → (r ≡ s) × (new ≡ new′)
+  one-unfraction x old new new′ r s a b = told-both r s (one-given one-decoded a b)

@@ -13,8 +13,6 @@ use Rattle.refusal.specs.declared.Number.{Number}
 use Rattle.refusal.specs.Giving.{gave, gave-value}
 use Rattle.fraction.specs.document.Outcome.{toldFraction}
 use Rattle.fraction.specs.declared.Fraction.{Fraction}
-use Rattle.limits.specs.document.Limits.{valence}
-use Rattle.edge_list.specs.document.Edges.{edgeRows}
 use Rattle.form.specs.document.Form.{nTuple, centred}
 use Rattle.form_coder.specs.document.Pairs.{centredPairs, nTuplePairs}
 use Rattle.form_coder.specs.Sums.{one-over-middles, one-over-widest}
@@ -26,7 +24,7 @@ use Rattle.zurkhovel.specs.declared.reported.ReportedFraction.{ReportedF
 use Rattle.zurkhovel.specs.declared.reported.ReportedVerdict.{ReportedVerdict}
 use Rattle.zurkhovel.specs.declared.reported.ReportedMapping.{ReportedMapping}
 use Rattle.zurkhovel.specs.document.Codes.{RootedCode, FormCode}
-use Rattle.zurkhovel.specs.document.Same.{said, listRows, SameSkeleton}
+use Rattle.zurkhovel.specs.document.Same.{said, SameSkeleton}
 use Rattle.zurkhovel.specs.document.Maps.{mapped, HandOut}
 use Rattle.zurkhovel.specs.document.Bits.{Pack, Whole, InFraction}
 use Rattle.zurkhovel.specs.document.Matrix.{CamByCode, ZeroAByCode, AZeroByCode}
@@ -41,6 +39,8 @@ use Rattle.zurkhovel.specs.OneMaps as maps
 use Rattle.zurkhovel.specs.OneBits as bits
 use Rattle.zurkhovel.specs.OneMatrix as matrix
 use Rattle.zurkhovel.specs.OneText as text
+use Rattle.limits.specs.document.Limits.{size}
+use Rattle.zurkhovel.specs.document.InEdition.{edgeTable}
 
 -- ---- the law
 
@@ -64,116 +64,117 @@ one-written :
     → OneCount P Count → (r s : Reported) → Reporting P Count (told (r .answer)) (r .pairs) → Reporting Q Count (told (s .answer)) (s .pairs)
     → (r ≡ s) × (new ≡ new′)
 one-written f one r s x y =
-    let (e, l) = f (r .answer) (s .answer) (x .promised) (y .promised) in
-    (ap₂ (λ (a : Answer) (n : ℕ). record { answer = a; pairs = n }) e (one-number told one (r .answer) (s .answer) (r .pairs) (s .pairs) e x y), l)
+    let (q, l) = f (r .answer) (s .answer) (x .promised) (y .promised) in
+    (ap₂ (λ (a : Answer) (n : ℕ). record { answer = a; pairs = n }) q (one-number told one (r .answer) (s .answer) (r .pairs) (s .pairs) q x y), l)
 
 -- of a call that is asked for a whole number
 one-valued :
     {P : Outcome ℕ → Type 0} {Count : ℕ → Type 0} → ((r s : Number) → P (numbered r) → P (numbered s) → r ≡ s) → OneCount P Count → (r s : ReportedNumber)
     → Reporting P Count (numbered (r .answer)) (r .pairs) → Reporting P Count (numbered (s .answer)) (s .pairs) → r ≡ s
 one-valued f one r s x y =
-    let e = f (r .answer) (s .answer) (x .promised) (y .promised) in
-    ap₂ (λ (a : Number) (n : ℕ). record { answer = a; pairs = n }) e (one-number numbered one (r .answer) (s .answer) (r .pairs) (s .pairs) e x y)
+    let q = f (r .answer) (s .answer) (x .promised) (y .promised) in
+    ap₂ (λ (a : Number) (n : ℕ). record { answer = a; pairs = n }) q (one-number numbered one (r .answer) (s .answer) (r .pairs) (s .pairs) q x y)
 
 -- ---- what is counted
 
 one-root : (N : ℕ) (E : List ℕ) (root n m : ℕ) → atRoot N E root n → atRoot N E root m → n ≡ m
 one-root N E root n m x y = x ∙ sym y
 
--- of an accepted list
-one-centred : {most : ℕ} (N : ℕ) (E : List ℕ) → Clear (edgeRows most valence N E 1) → (n m : ℕ) → centredPairs N E n → centredPairs N E m → n ≡ m
-one-centred N E k n m x y = one-over-middles (tree-of N E 1 k) x y
+module _ (e : ℕ) where
+  -- of an accepted list
+  one-centred : {most : ℕ} (N : ℕ) (E : List ℕ) → Clear (edgeTable e most N E 1) → (n m : ℕ) → centredPairs N E n → centredPairs N E m → n ≡ m
+  one-centred N E k n m x y = one-over-middles (tree-of N E 1 k) x y
 
-one-middles :
-    {most N : ℕ} {E old new : List ℕ} {Right : List ℕ → Type 0} → OneCount (Gives (edgeRows most valence N E 1) Right old new) (centredPairs N E)
-one-middles {N = N} {E} a p = one-centred N E (gave p .0)
+  one-middles :
+      {most N : ℕ} {E old new : List ℕ} {Right : List ℕ → Type 0} → OneCount (Gives (edgeTable e most N E 1) Right old new) (centredPairs N E)
+  one-middles {N = N} {E} a p = one-centred N E (gave p .0)
 
-one-middles-value : {most N : ℕ} {E : List ℕ} {A : Type 0} {Right : A → Type 0} → OneCount (Answered (edgeRows most valence N E 1) Right) (centredPairs N E)
-one-middles-value {N = N} {E} a p = one-centred N E (gave-value p .0)
+  one-middles-value : {most N : ℕ} {E : List ℕ} {A : Type 0} {Right : A → Type 0} → OneCount (Answered (edgeTable e most N E 1) Right) (centredPairs N E)
+  one-middles-value {N = N} {E} a p = one-centred N E (gave-value p .0)
 
--- of two
-one-both :
-    {N P : ℕ} {E F : List ℕ} → Clear (listRows N E) × Clear (listRows P F) → {n m : ℕ} → OfBoth N E P F n → OfBoth N E P F m → n ≡ m
-one-both {N} {P} {E} {F} (k, l) (coded e u v) (coded f w z) = ap₂ _+_ (one-centred N E k _ _ u w) (one-centred P F l _ _ v z)
-one-both c (coded e u v) (not-coded f) = absurd (f e)
-one-both c (not-coded e) (coded f w z) = absurd (e f)
-one-both c (not-coded e) (not-coded f) = refl
+  -- of two
+  one-both :
+      {N P : ℕ} {E F : List ℕ} → Clear (edgeTable e size N E 1) × Clear (edgeTable e size P F 1) → {n m : ℕ} → OfBoth N E P F n → OfBoth N E P F m → n ≡ m
+  one-both {N} {P} {E} {F} (k, l) (coded q u v) (coded f w z) = ap₂ _+_ (one-centred N E k _ _ u w) (one-centred P F l _ _ v z)
+  one-both c (coded q u v) (not-coded f) = absurd (f q)
+  one-both c (not-coded q) (coded f w z) = absurd (q f)
+  one-both c (not-coded q) (not-coded f) = refl
 
--- ---- the calls
+  -- ---- the calls
 
-pub one-rooted-code-reported :
-    (N : ℕ) (E : List ℕ) (root : ℕ) (old new new′ : List ℕ) (r s : Reported)
-    → Reporting (RootedCode N E root old new) (atRoot N E root) (told (r .answer)) (r .pairs)
-    → Reporting (RootedCode N E root old new′) (atRoot N E root) (told (s .answer)) (s .pairs) → (r ≡ s) × (new ≡ new′)
-one-rooted-code-reported N E root old new new′ = one-written (codes.one-rooted-code N E root old new new′) (λ a p. one-root N E root)
+  pub one-rooted-code-reported :
+      (N : ℕ) (E : List ℕ) (root : ℕ) (old new new′ : List ℕ) (r s : Reported)
+      → Reporting (RootedCode e N E root old new) (atRoot N E root) (told (r .answer)) (r .pairs)
+      → Reporting (RootedCode e N E root old new′) (atRoot N E root) (told (s .answer)) (s .pairs) → (r ≡ s) × (new ≡ new′)
+  one-rooted-code-reported N E root old new new′ = one-written (codes.one-rooted-code e N E root old new new′) (λ a p. one-root N E root)
 
-pub one-n-tuple-code-reported :
-    (N : ℕ) (E old new new′ : List ℕ) (r s : Reported)
-    → Reporting (FormCode nTuple N E old new) (nTuplePairs N E) (told (r .answer)) (r .pairs)
-    → Reporting (FormCode nTuple N E old new′) (nTuplePairs N E) (told (s .answer)) (s .pairs) → (r ≡ s) × (new ≡ new′)
-one-n-tuple-code-reported N E old new new′ = one-written (codes.one-n-tuple-code N E old new new′) (λ a p n m. one-over-widest)
+  pub one-n-tuple-code-reported :
+      (N : ℕ) (E old new new′ : List ℕ) (r s : Reported)
+      → Reporting (FormCode e nTuple N E old new) (nTuplePairs N E) (told (r .answer)) (r .pairs)
+      → Reporting (FormCode e nTuple N E old new′) (nTuplePairs N E) (told (s .answer)) (s .pairs) → (r ≡ s) × (new ≡ new′)
+  one-n-tuple-code-reported N E old new new′ = one-written (codes.one-n-tuple-code e N E old new new′) (λ a p n m. one-over-widest)
 
-pub one-centred-code-reported :
-    (N : ℕ) (E old new new′ : List ℕ) (r s : Reported)
-    → Reporting (FormCode centred N E old new) (centredPairs N E) (told (r .answer)) (r .pairs)
-    → Reporting (FormCode centred N E old new′) (centredPairs N E) (told (s .answer)) (s .pairs) → (r ≡ s) × (new ≡ new′)
-one-centred-code-reported N E old new new′ = one-written (codes.one-centred-code N E old new new′) one-middles
+  pub one-centred-code-reported :
+      (N : ℕ) (E old new new′ : List ℕ) (r s : Reported)
+      → Reporting (FormCode e centred N E old new) (centredPairs N E) (told (r .answer)) (r .pairs)
+      → Reporting (FormCode e centred N E old new′) (centredPairs N E) (told (s .answer)) (s .pairs) → (r ≡ s) × (new ≡ new′)
+  one-centred-code-reported N E old new new′ = one-written (codes.one-centred-code e N E old new new′) one-middles
 
-pub one-same-skeleton-reported :
-    (N : ℕ) (E : List ℕ) (P : ℕ) (F : List ℕ) (r s : ReportedVerdict)
-    → Reporting (SameSkeleton N E P F) (OfBoth N E P F) (said (r .answer)) (r .pairs)
-    → Reporting (SameSkeleton N E P F) (OfBoth N E P F) (said (s .answer)) (s .pairs) → r ≡ s
-one-same-skeleton-reported N E P F r s x y =
-    let e = codes.one-same-skeleton N E P F (r .answer) (s .answer) (x .promised) (y .promised) in
-    ap₂ (λ (a : Verdict) (n : ℕ). record { answer = a; pairs = n }) e (one-number said (λ a p n m. one-both (verdict-lists p)) (r .answer) (s .answer) (r .pairs) (s .pairs) e x y)
+  pub one-same-skeleton-reported :
+      (N : ℕ) (E : List ℕ) (P : ℕ) (F : List ℕ) (r s : ReportedVerdict)
+      → Reporting (SameSkeleton e N E P F) (OfBoth N E P F) (said (r .answer)) (r .pairs)
+      → Reporting (SameSkeleton e N E P F) (OfBoth N E P F) (said (s .answer)) (s .pairs) → r ≡ s
+  one-same-skeleton-reported N E P F r s x y =
+      let q = codes.one-same-skeleton e N E P F (r .answer) (s .answer) (x .promised) (y .promised) in
+      ap₂ (λ (a : Verdict) (n : ℕ). record { answer = a; pairs = n }) q (one-number said (λ a p n m. one-both (verdict-lists p)) (r .answer) (s .answer) (r .pairs) (s .pairs) q x y)
 
-pub one-renumbering-reported :
-    (N : ℕ) (E : List ℕ) (P : ℕ) (F old new new′ : List ℕ) (r s : ReportedMapping)
-    → Reporting (HandOut N E P F old new) (OfBoth N E P F) (mapped (r .answer)) (r .pairs)
-    → Reporting (HandOut N E P F old new′) (OfBoth N E P F) (mapped (s .answer)) (s .pairs) → (r ≡ s) × (new ≡ new′)
-one-renumbering-reported N E P F old new new′ r s x y =
-    let (e, l) = maps.one-renumbering N E P F old new new′ (r .answer) (s .answer) (x .promised) (y .promised) in
-    (ap₂ (λ (a : Mapping) (n : ℕ). record { answer = a; pairs = n }) e (one-number mapped (λ a p n m. one-both (handed-lists p)) (r .answer) (s .answer) (r .pairs) (s .pairs) e x y), l)
+  pub one-renumbering-reported :
+      (N : ℕ) (E : List ℕ) (P : ℕ) (F old new new′ : List ℕ) (r s : ReportedMapping)
+      → Reporting (HandOut e N E P F old new) (OfBoth N E P F) (mapped (r .answer)) (r .pairs)
+      → Reporting (HandOut e N E P F old new′) (OfBoth N E P F) (mapped (s .answer)) (s .pairs) → (r ≡ s) × (new ≡ new′)
+  one-renumbering-reported N E P F old new new′ r s x y =
+      let (q, l) = maps.one-renumbering e N E P F old new new′ (r .answer) (s .answer) (x .promised) (y .promised) in
+      (ap₂ (λ (a : Mapping) (n : ℕ). record { answer = a; pairs = n }) q (one-number mapped (λ a p n m. one-both (handed-lists p)) (r .answer) (s .answer) (r .pairs) (s .pairs) q x y), l)
 
-pub one-pack-reported :
-    (N : ℕ) (E : List ℕ) (root : ℕ) (old new new′ : List ℕ) (r s : Reported)
-    → Reporting (Pack N E root old new) (atRoot N E root) (told (r .answer)) (r .pairs)
-    → Reporting (Pack N E root old new′) (atRoot N E root) (told (s .answer)) (s .pairs) → (r ≡ s) × (new ≡ new′)
-one-pack-reported N E root old new new′ = one-written (bits.one-pack N E root old new new′) (λ a p. one-root N E root)
+  pub one-pack-reported :
+      (N : ℕ) (E : List ℕ) (root : ℕ) (old new new′ : List ℕ) (r s : Reported)
+      → Reporting (Pack e N E root old new) (atRoot N E root) (told (r .answer)) (r .pairs)
+      → Reporting (Pack e N E root old new′) (atRoot N E root) (told (s .answer)) (s .pairs) → (r ≡ s) × (new ≡ new′)
+  one-pack-reported N E root old new new′ = one-written (bits.one-pack e N E root old new new′) (λ a p. one-root N E root)
 
-pub one-whole-reported :
-    (N : ℕ) (E : List ℕ) (root : ℕ) (r s : ReportedNumber) → Reporting (Whole N E root) (atRoot N E root) (numbered (r .answer)) (r .pairs)
-    → Reporting (Whole N E root) (atRoot N E root) (numbered (s .answer)) (s .pairs) → r ≡ s
-one-whole-reported N E root = one-valued (bits.one-whole N E root) (λ a p. one-root N E root)
+  pub one-whole-reported :
+      (N : ℕ) (E : List ℕ) (root : ℕ) (r s : ReportedNumber) → Reporting (Whole e N E root) (atRoot N E root) (numbered (r .answer)) (r .pairs)
+      → Reporting (Whole e N E root) (atRoot N E root) (numbered (s .answer)) (s .pairs) → r ≡ s
+  one-whole-reported N E root = one-valued (bits.one-whole e N E root) (λ a p. one-root N E root)
 
-pub one-fraction-reported :
-    (N : ℕ) (E : List ℕ) (root : ℕ) (r s : ReportedFraction) → Reporting (InFraction N E root) (atRoot N E root) (toldFraction (r .answer)) (r .pairs)
-    → Reporting (InFraction N E root) (atRoot N E root) (toldFraction (s .answer)) (s .pairs) → r ≡ s
-one-fraction-reported N E root r s x y =
-    let e = bits.one-fraction N E root (r .answer) (s .answer) (x .promised) (y .promised) in
-    ap₂ (λ (a : Fraction) (n : ℕ). record { answer = a; pairs = n }) e (one-number toldFraction (λ a p. one-root N E root) (r .answer) (s .answer) (r .pairs) (s .pairs) e x y)
+  pub one-fraction-reported :
+      (N : ℕ) (E : List ℕ) (root : ℕ) (r s : ReportedFraction) → Reporting (InFraction e N E root) (atRoot N E root) (toldFraction (r .answer)) (r .pairs)
+      → Reporting (InFraction e N E root) (atRoot N E root) (toldFraction (s .answer)) (s .pairs) → r ≡ s
+  one-fraction-reported N E root r s x y =
+      let q = bits.one-fraction e N E root (r .answer) (s .answer) (x .promised) (y .promised) in
+      ap₂ (λ (a : Fraction) (n : ℕ). record { answer = a; pairs = n }) q (one-number toldFraction (λ a p. one-root N E root) (r .answer) (s .answer) (r .pairs) (s .pairs) q x y)
 
-pub one-cam-by-code-reported :
-    (N : ℕ) (E old new new′ : List ℕ) (r s : Reported) → Reporting (CamByCode N E old new) (centredPairs N E) (told (r .answer)) (r .pairs)
-    → Reporting (CamByCode N E old new′) (centredPairs N E) (told (s .answer)) (s .pairs) → (r ≡ s) × (new ≡ new′)
-one-cam-by-code-reported N E old new new′ = one-written (matrix.one-cam-by-code N E old new new′) one-middles
+  pub one-cam-by-code-reported :
+      (N : ℕ) (E old new new′ : List ℕ) (r s : Reported) → Reporting (CamByCode e N E old new) (centredPairs N E) (told (r .answer)) (r .pairs)
+      → Reporting (CamByCode e N E old new′) (centredPairs N E) (told (s .answer)) (s .pairs) → (r ≡ s) × (new ≡ new′)
+  one-cam-by-code-reported N E old new new′ = one-written (matrix.one-cam-by-code e N E old new new′) one-middles
 
-pub one-zero-a-by-code-reported :
-    (N : ℕ) (E : List ℕ) (r s : ReportedNumber) → Reporting (ZeroAByCode N E) (centredPairs N E) (numbered (r .answer)) (r .pairs)
-    → Reporting (ZeroAByCode N E) (centredPairs N E) (numbered (s .answer)) (s .pairs) → r ≡ s
-one-zero-a-by-code-reported N E = one-valued (matrix.one-zero-a-by-code N E) one-middles-value
+  pub one-zero-a-by-code-reported :
+      (N : ℕ) (E : List ℕ) (r s : ReportedNumber) → Reporting (ZeroAByCode e N E) (centredPairs N E) (numbered (r .answer)) (r .pairs)
+      → Reporting (ZeroAByCode e N E) (centredPairs N E) (numbered (s .answer)) (s .pairs) → r ≡ s
+  one-zero-a-by-code-reported N E = one-valued (matrix.one-zero-a-by-code e N E) one-middles-value
 
-pub one-a-zero-by-code-reported :
-    (N : ℕ) (E : List ℕ) (r s : ReportedNumber) → Reporting (AZeroByCode N E) (centredPairs N E) (numbered (r .answer)) (r .pairs)
-    → Reporting (AZeroByCode N E) (centredPairs N E) (numbered (s .answer)) (s .pairs) → r ≡ s
-one-a-zero-by-code-reported N E = one-valued (matrix.one-a-zero-by-code N E) one-middles-value
+  pub one-a-zero-by-code-reported :
+      (N : ℕ) (E : List ℕ) (r s : ReportedNumber) → Reporting (AZeroByCode e N E) (centredPairs N E) (numbered (r .answer)) (r .pairs)
+      → Reporting (AZeroByCode e N E) (centredPairs N E) (numbered (s .answer)) (s .pairs) → r ≡ s
+  one-a-zero-by-code-reported N E = one-valued (matrix.one-a-zero-by-code e N E) one-middles-value
 
-pub one-write-line-reported :
-    (N : ℕ) (E old new new′ : List ℕ) (r s : Reported) → Reporting (WriteLine N E old new) (centredPairs N E) (told (r .answer)) (r .pairs)
-    → Reporting (WriteLine N E old new′) (centredPairs N E) (told (s .answer)) (s .pairs) → (r ≡ s) × (new ≡ new′)
-one-write-line-reported N E old new new′ = one-written (text.one-write-line N E old new new′) one-middles
+  pub one-write-line-reported :
+      (N : ℕ) (E old new new′ : List ℕ) (r s : Reported) → Reporting (WriteLine e N E old new) (centredPairs N E) (told (r .answer)) (r .pairs)
+      → Reporting (WriteLine e N E old new′) (centredPairs N E) (told (s .answer)) (s .pairs) → (r ≡ s) × (new ≡ new′)
+  one-write-line-reported N E old new new′ = one-written (text.one-write-line e N E old new new′) one-middles
 
-pub one-equal-vertices-reported :
-    (N : ℕ) (E old new new′ : List ℕ) (r s : Reported) → Reporting (EqualVertices N E old new) (centredPairs N E) (told (r .answer)) (r .pairs)
-    → Reporting (EqualVertices N E old new′) (centredPairs N E) (told (s .answer)) (s .pairs) → (r ≡ s) × (new ≡ new′)
-one-equal-vertices-reported N E old new new′ = one-written (text.one-equal-vertices N E old new new′) one-middles
+  pub one-equal-vertices-reported :
+      (N : ℕ) (E old new new′ : List ℕ) (r s : Reported) → Reporting (EqualVertices e N E old new) (centredPairs N E) (told (r .answer)) (r .pairs)
+      → Reporting (EqualVertices e N E old new′) (centredPairs N E) (told (s .answer)) (s .pairs) → (r ≡ s) × (new ≡ new′)
+  one-equal-vertices-reported N E old new new′ = one-written (text.one-equal-vertices e N E old new new′) one-middles

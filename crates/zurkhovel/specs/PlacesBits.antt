@@ -10,13 +10,12 @@ use lib.Ieee.{Float}
 use lib.ListN.{length, length-append}
 use Rattle.refusal.specs.document.Table.{Clear, Outcome}
 use Rattle.refusal.specs.document.Small.{SmallAnswer, SmallRefusal}
-use Rattle.refusal.specs.Laws.{at-most}
+use Rattle.refusal.specs.Laws.{others, at-most}
 use Rattle.refusal.specs.Bounded.{small-value, small-written}
-use Rattle.limits.specs.document.Limits.{size, valence, packedBytes}
+use Rattle.limits.specs.document.Limits.{size, packedBytes}
 use Rattle.digit_code.specs.Ends.{ends-iff, ends-sum}
 use Rattle.skeleton.specs.document.Skeleton.{rooted}
 use Rattle.skeleton.specs.Theorems.{digit-sum}
-use Rattle.edge_list.specs.document.Edges.{edgeRows}
 use Rattle.bits.specs.document.Written.{Packs}
 use Rattle.bits.specs.Ends.{right-ends}
 use Rattle.bits.specs.Laws.{length-bits}
@@ -25,44 +24,47 @@ use Rattle.zurkhovel.specs.document.Bits.{Pack, Whole, InFraction, Decod
 use Rattle.zurkhovel.specs.Accepted.{tree-of, root-of, rooted-size}
 use Rattle.zurkhovel.specs.Bounds.{edges-bounded, packed-bounded, whole-bounded, fraction-bounded, fraction-long}
 use Rattle.zurkhovel.specs.Places.{edges-of}
+use Rattle.edition.specs.document.Edition.{neighboursIn}
+use Rattle.zurkhovel.specs.document.InEdition.{edgeTable}
 
--- ---- how long
+module _ (e : ℕ) where
+  -- ---- how long
 
--- the packed form of an accepted edge list's code
-packed-few : (N : ℕ) (E : List ℕ) (r : ℕ) (s : List ℕ) → Clear (edgeRows size valence N E r) → Packs (rooted N E r) s → length s ≤ packedBytes
-packed-few N E r s k p =
-    let a = p .carries in
-    let (h, l) = root-of E k in
-    let n = simp (length-bytes, length-append, length-bits) at (ap length (a .same)) in
-    omega (arith, n, a .may .1, rooted-size E k, digit-sum N E r (tree-of N E r k) h l, at-most k)
+  -- the packed form of an accepted edge list's code
+  packed-few : (N : ℕ) (E : List ℕ) (r : ℕ) (s : List ℕ) → Clear (edgeTable e size N E r) → Packs (rooted N E r) s → length s ≤ packedBytes
+  packed-few N E r s k p =
+      let a = p .carries in
+      let (h, l) = root-of E k in
+      let n = simp (length-bytes, length-append, length-bits) at (ap length (a .same)) in
+      omega (arith, n, a .may .1, rooted-size E k, digit-sum N E r (tree-of N E r k) h l, at-most (others k))
 
--- the edges of the code that bits carry: a code of N digits takes 2N - 1 bits, and has 2(N - 1) ends
-edges-few : {May : List Bool → Type 0} {bs : List Bool} (E : List ℕ) → Decodes May bs E → length E ≤ length bs
-edges-few {bs = bs} E d =
-    let c = d .code in
-    let a = d .reads .carries in
-    let e = ends-iff c .1 (right-ends c (d .reads .right)) in
-    let n = simp (length-append, length-bits) at (ap length (a .same)) in
-    omega (arith, n, ap length (d .edges), edges-of c e, ends-sum 1 c e)
+  -- the edges of the code that bits carry: a code of N digits takes 2N - 1 bits, and has 2(N - 1) ends
+  edges-few : {May : List Bool → Type 0} {bs : List Bool} (E : List ℕ) → Decodes (neighboursIn e) May bs E → length E ≤ length bs
+  edges-few {bs = bs} E d =
+      let c = d .code in
+      let a = d .reads .carries in
+      let e = ends-iff c .1 (right-ends c (d .reads .right)) in
+      let n = simp (length-append, length-bits) at (ap length (a .same)) in
+      omega (arith, n, ap length (d .edges), edges-of c e, ends-sum 1 c e)
 
--- ---- the rooted code in each form
+  -- ---- the rooted code in each form
 
-pub places-pack : (N : ℕ) (E : List ℕ) (r : ℕ) (old new : List ℕ) (o : Outcome ℕ) → Pack N E r old new o → SmallAnswer o
-places-pack N E r old new o g = small-written (edges-bounded (omega arith) valence N E r) (λ k s p. omega (arith, packed-few N E r s k p)) g
+  pub places-pack : (N : ℕ) (E : List ℕ) (r : ℕ) (old new : List ℕ) (o : Outcome ℕ) → Pack e N E r old new o → SmallAnswer o
+  places-pack N E r old new o g = small-written (edges-bounded e (omega arith) N E r) (λ k s p. omega (arith, packed-few N E r s k p)) g
 
-pub places-whole : (N : ℕ) (E : List ℕ) (r : ℕ) (o : Outcome ℕ) → Whole N E r o → SmallRefusal o
-places-whole N E r o g = small-value (edges-bounded (omega arith) valence N E r) g
+  pub places-whole : (N : ℕ) (E : List ℕ) (r : ℕ) (o : Outcome ℕ) → Whole e N E r o → SmallRefusal o
+  places-whole N E r o g = small-value (edges-bounded e (omega arith) N E r) g
 
-pub places-fraction : (N : ℕ) (E : List ℕ) (r : ℕ) (o : Outcome Float) → InFraction N E r o → SmallRefusal o
-places-fraction N E r o g = small-value (edges-bounded (omega arith) valence N E r) g
+  pub places-fraction : (N : ℕ) (E : List ℕ) (r : ℕ) (o : Outcome Float) → InFraction e N E r o → SmallRefusal o
+  places-fraction N E r o g = small-value (edges-bounded e (omega arith) N E r) g
 
--- ---- each form read into edges
+  -- ---- each form read into edges
 
-pub places-unpack : (s old new : List ℕ) (o : Outcome ℕ) → Unpack s old new o → SmallAnswer o
-places-unpack s old new o g = small-written (packed-bounded valence s) (λ k E d. omega (arith, edges-few E d, length-bytes s, at-most k)) g
+  pub places-unpack : (s old new : List ℕ) (o : Outcome ℕ) → Unpack e s old new o → SmallAnswer o
+  places-unpack s old new o g = small-written (packed-bounded e s) (λ k E d. omega (arith, edges-few E d, length-bytes s, at-most (others k))) g
 
-pub places-unwhole : (n v : ℕ) (old new : List ℕ) (o : Outcome ℕ) → Unwhole n v old new o → SmallAnswer o
-places-unwhole n v old new o g = small-written (whole-bounded valence n v) (λ k E d. omega (arith, edges-few E d, length-word (2 * n - 1) v, at-most k)) g
+  pub places-unwhole : (n v : ℕ) (old new : List ℕ) (o : Outcome ℕ) → Unwhole e n v old new o → SmallAnswer o
+  places-unwhole n v old new o g = small-written (whole-bounded e n v) (λ k E d. omega (arith, edges-few E d, length-word (2 * n - 1) v, at-most (others k))) g
 
-pub places-unfraction : (x : Float) (old new : List ℕ) (o : Outcome ℕ) → Unfraction x old new o → SmallAnswer o
-places-unfraction x old new o g = small-written (fraction-bounded valence x) (λ k E d. omega (arith, edges-few E d, fraction-long x)) g
+  pub places-unfraction : (x : Float) (old new : List ℕ) (o : Outcome ℕ) → Unfraction e x old new o → SmallAnswer o
+  places-unfraction x old new o g = small-written (fraction-bounded e x) (λ k E d. omega (arith, edges-few E d, fraction-long x)) g

@@ -13,41 +13,30 @@ use Rattle.laws.specs.Laying.{laid-front}
 use Rattle.refusal.specs.document.Table.{Row, Clear, Outcome, gives, Gives}
 use Rattle.refusal.specs.Giving.{gave, must-give}
 use Rattle.refusal.specs.document.Given.{Given}
-use Rattle.limits.specs.document.Limits.{size, valence}
+use Rattle.limits.specs.document.Limits.{size}
 use Rattle.digit_code.specs.document.Code.{codeRows, decode}
 use Rattle.digit_code.specs.Right.{clear-right, right-clear}
 use Rattle.skeleton.specs.document.Skeleton.{IsTree, IsSkeleton, Renumbering, rooted}
 use Rattle.skeleton.specs.Theorems as Tree
+use Rattle.refusal.specs.Laws.{others}
 use Rattle.skeleton.specs.Accepted.{code-passes}
-use Rattle.edge_list.specs.document.Edges.{edgeRows}
 use Rattle.edge_list.specs.Theorems.{accepted}
 use Rattle.form.specs.document.Form.{nTuple, centred}
 use Rattle.form.specs.Forms.{IsForm, form-decoded, form-ends, form-size, n-tuple-form, centred-form}
 use Rattle.form.specs.Accepted.{right-decoded, form-accepted, form-passes}
 use Rattle.zurkhovel.specs.document.Codes.{DecodeCode, RootedCode, FormCode, DecodeForm}
 use Rattle.zurkhovel.specs.document.Round.{Renumbered}
+use Rattle.edition.specs.document.Edition.{neighboursIn}
+use Rattle.zurkhovel.specs.Accepted.{same-edition}
+use Rattle.zurkhovel.specs.document.InEdition.{codeTable, edgeTable}
 
--- ---- a right code decoded, and edges read back
-
--- a right rooted code makes a skeleton that no row refuses, whose code at vertex 1 it is
-module _ (c : List ℕ) (k : Clear (codeRows size valence c)) where
-  pub its-skeleton : IsSkeleton size valence (length c) (decode c)
-  its-skeleton = right-decoded size valence c (clear-right size valence c k)
-
-  pub its-rows : (most : ℕ) → length c ≤ most → Clear (edgeRows most valence (length c) (decode c) 1)
-  its-rows most h =
-      let s = its-skeleton in
-      accepted most valence (length c) (decode c) 1 .1
-      (record { tree = s .tree; few = h; degrees = s .degrees }, (omega arith, clear-right size valence c k .some))
-
-  pub its-code : rooted (length c) (decode c) 1 ≡ c
-  its-code = Tree.decode-code c .0 (code-passes size valence c .0 k .0) .1
+-- ---- edges read back
 
 -- the rooted code at a vertex of a skeleton is right, and decodes to the skeleton under other numbers
-module _ {most N : ℕ} {E : List ℕ} (s : IsSkeleton most valence N E) {r : ℕ} (a : 1 ≤ r) (b : r ≤ N) where
-  pub code-clear : Clear (codeRows most valence (rooted N E r))
+module _ {most R N : ℕ} {E : List ℕ} (s : IsSkeleton most R N E) {r : ℕ} (a : 1 ≤ r) (b : r ≤ N) where
+  pub code-clear : Clear (codeRows most R (rooted N E r))
   code-clear =
-      code-passes most valence (rooted N E r) .1
+      code-passes most R (rooted N E r) .1
       (record { number = N; edges = E; root = r; tree = s .tree; inside = (a, b); is = refl }, s)
 
   pub code-tree : IsTree N (decode (rooted N E r))
@@ -74,66 +63,86 @@ pub edges-back :
     → Renumbered N E new o
 edges-back {N} {E} t u ρ k r one h g = let (a, b) = edges-given t u k r one h g in (a, subst (Renumbering N E) (sym b) ρ)
 
--- ---- rooted codes
+-- ---- in the edition e
 
--- decoded and coded at vertex 1, an accepted code is itself
-pub rooted-again :
-    (c old new : List ℕ) (m : ℕ) (old′ new′ : List ℕ) (o : Outcome ℕ) → DecodeCode c old new (gives m) → length c ≤ length old′
-    → RootedCode (length c) (take m new) 1 old′ new′ o → Given c old′ new′ o
-rooted-again c old new m old′ new′ o d h g =
-    let (k, e, _) = gave d in
-    must-give (its-rows c k size (clear-right size valence c k .few)) c (sym (its-code c k)) (λ b x. x ∙ its-code c k) h
-    (subst (λ F. RootedCode (length c) F 1 old′ new′ o) e g)
+module _ (e : ℕ) where
+  -- ---- a right code decoded
 
--- coded at a vertex and decoded, a skeleton is the same under other numbers
-pub rooted-back :
-    (N : ℕ) (E : List ℕ) (r : ℕ) (old new : List ℕ) (n : ℕ) (old′ new′ : List ℕ) (o : Outcome ℕ) → RootedCode N E r old new (gives n)
-    → length E ≤ length old′ → DecodeCode (take n new) old′ new′ o → Renumbered N E new′ o
-rooted-back N E r old new n old′ new′ o c h g =
-    let (k, e, _) = gave c in
-    let (s, (a, b)) = accepted size valence N E r .0 k in
-    edges-back (s .tree) (code-tree s a b) (code-numbers s a b) (code-clear s a b) refl (λ F z. z) h (subst (λ d. DecodeCode d old′ new′ o) e g)
+  -- a right rooted code makes a skeleton that no row refuses, whose code at vertex 1 it is
+  module _ (c : List ℕ) (k : Clear (codeTable e c)) where
+    pub its-skeleton : IsSkeleton size (neighboursIn e) (length c) (decode c)
+    its-skeleton = right-decoded size (neighboursIn e) c (clear-right size (neighboursIn e) c (others k))
 
--- ---- N-tuple and centred codes
+    pub its-rows : (most : ℕ) → length c ≤ most → Clear (edgeTable e most (length c) (decode c) 1)
+    its-rows most h =
+        let s = its-skeleton in
+        same-edition k
+        (accepted most (neighboursIn e) (length c) (decode c) 1 .1
+        (record { tree = s .tree; few = h; degrees = s .degrees }, (omega arith, clear-right size (neighboursIn e) c (others k) .some)))
 
-module _ (form : ℕ → List ℕ → List ℕ → Type 0) (f : IsForm form) where
-  form-again :
-      (c old new : List ℕ) (m : ℕ) (old′ new′ : List ℕ) (o : Outcome ℕ) → DecodeForm form c old new (gives m) → length c ≤ length old′
-      → FormCode form (length c) (take m new) old′ new′ o → Given c old′ new′ o
-  form-again c old new m old′ new′ o d h g =
-      let (k, e, _) = gave d in
-      let (r, x) = form-passes form f size valence c .0 k in
-      let l = right-clear size valence c r in
-      must-give (its-rows c l size (r .few)) c x (λ b y. f .one (its-skeleton c l .tree) y x) h
-      (subst (λ F. FormCode form (length c) F old′ new′ o) e g)
+    pub its-code : rooted (length c) (decode c) 1 ≡ c
+    its-code = Tree.decode-code c .0 (code-passes size (neighboursIn e) c .0 (others k) .0) .1
 
-  form-back :
-      (N : ℕ) (E old new : List ℕ) (n : ℕ) (old′ new′ : List ℕ) (o : Outcome ℕ) → FormCode form N E old new (gives n) → length E ≤ length old′
-      → DecodeForm form (take n new) old′ new′ o → Renumbered N E new′ o
-  form-back N E old new n old′ new′ o c h g =
-      let (k, x, _) = gave c in
-      let (s, i) = accepted size valence N E 1 .0 k in
-      let d = take n new in
-      let a = form-accepted form f size valence d N E s x in
-      let u = subst (λ m. IsTree m (decode d)) (form-size form f N E d (s .tree) x) (Tree.decoded-tree d (form-ends form f N E d (s .tree) x)) in
-      edges-back (s .tree) u (form-decoded form f N E d (s .tree) x) a refl (λ F z. z) h g
+  -- ---- rooted codes
 
-pub n-tuple-again :
-    (c old new : List ℕ) (m : ℕ) (old′ new′ : List ℕ) (o : Outcome ℕ) → DecodeForm nTuple c old new (gives m) → length c ≤ length old′
-    → FormCode nTuple (length c) (take m new) old′ new′ o → Given c old′ new′ o
-n-tuple-again = form-again nTuple n-tuple-form
+  -- decoded and coded at vertex 1, an accepted code is itself
+  pub rooted-again :
+      (c old new : List ℕ) (m : ℕ) (old′ new′ : List ℕ) (o : Outcome ℕ) → DecodeCode e c old new (gives m) → length c ≤ length old′
+      → RootedCode e (length c) (take m new) 1 old′ new′ o → Given c old′ new′ o
+  rooted-again c old new m old′ new′ o d h g =
+      let (k, q, _) = gave d in
+      must-give (its-rows c k size (clear-right size (neighboursIn e) c (others k) .few)) c (sym (its-code c k)) (λ b x. x ∙ its-code c k) h
+      (subst (λ F. RootedCode e (length c) F 1 old′ new′ o) q g)
 
-pub n-tuple-back :
-    (N : ℕ) (E old new : List ℕ) (n : ℕ) (old′ new′ : List ℕ) (o : Outcome ℕ) → FormCode nTuple N E old new (gives n) → length E ≤ length old′
-    → DecodeForm nTuple (take n new) old′ new′ o → Renumbered N E new′ o
-n-tuple-back = form-back nTuple n-tuple-form
+  -- coded at a vertex and decoded, a skeleton is the same under other numbers
+  pub rooted-back :
+      (N : ℕ) (E : List ℕ) (r : ℕ) (old new : List ℕ) (n : ℕ) (old′ new′ : List ℕ) (o : Outcome ℕ) → RootedCode e N E r old new (gives n)
+      → length E ≤ length old′ → DecodeCode e (take n new) old′ new′ o → Renumbered N E new′ o
+  rooted-back N E r old new n old′ new′ o c h g =
+      let (k, q, _) = gave c in
+      let (s, (a, b)) = accepted size (neighboursIn e) N E r .0 (others k) in
+      edges-back (s .tree) (code-tree s a b) (code-numbers s a b) (same-edition k (code-clear s a b)) refl (λ F z. z) h (subst (λ d. DecodeCode e d old′ new′ o) q g)
 
-pub centred-again :
-    (c old new : List ℕ) (m : ℕ) (old′ new′ : List ℕ) (o : Outcome ℕ) → DecodeForm centred c old new (gives m) → length c ≤ length old′
-    → FormCode centred (length c) (take m new) old′ new′ o → Given c old′ new′ o
-centred-again = form-again centred centred-form
+  -- ---- N-tuple and centred codes
 
-pub centred-back :
-    (N : ℕ) (E old new : List ℕ) (n : ℕ) (old′ new′ : List ℕ) (o : Outcome ℕ) → FormCode centred N E old new (gives n) → length E ≤ length old′
-    → DecodeForm centred (take n new) old′ new′ o → Renumbered N E new′ o
-centred-back = form-back centred centred-form
+  module _ (form : ℕ → List ℕ → List ℕ → Type 0) (f : IsForm form) where
+    form-again :
+        (c old new : List ℕ) (m : ℕ) (old′ new′ : List ℕ) (o : Outcome ℕ) → DecodeForm e form c old new (gives m) → length c ≤ length old′
+        → FormCode e form (length c) (take m new) old′ new′ o → Given c old′ new′ o
+    form-again c old new m old′ new′ o d h g =
+        let (k, q, _) = gave d in
+        let (r, x) = form-passes form f size (neighboursIn e) c .0 (others k) in
+        let l = same-edition k (right-clear size (neighboursIn e) c r) in
+        must-give (its-rows c l size (r .few)) c x (λ b y. f .one (its-skeleton c l .tree) y x) h
+        (subst (λ F. FormCode e form (length c) F old′ new′ o) q g)
+
+    form-back :
+        (N : ℕ) (E old new : List ℕ) (n : ℕ) (old′ new′ : List ℕ) (o : Outcome ℕ) → FormCode e form N E old new (gives n) → length E ≤ length old′
+        → DecodeForm e form (take n new) old′ new′ o → Renumbered N E new′ o
+    form-back N E old new n old′ new′ o c h g =
+        let (k, x, _) = gave c in
+        let (s, i) = accepted size (neighboursIn e) N E 1 .0 (others k) in
+        let d = take n new in
+        let a = same-edition k (form-accepted form f size (neighboursIn e) d N E s x) in
+        let u = subst (λ m. IsTree m (decode d)) (form-size form f N E d (s .tree) x) (Tree.decoded-tree d (form-ends form f N E d (s .tree) x)) in
+        edges-back (s .tree) u (form-decoded form f N E d (s .tree) x) a refl (λ F z. z) h g
+
+  pub n-tuple-again :
+      (c old new : List ℕ) (m : ℕ) (old′ new′ : List ℕ) (o : Outcome ℕ) → DecodeForm e nTuple c old new (gives m) → length c ≤ length old′
+      → FormCode e nTuple (length c) (take m new) old′ new′ o → Given c old′ new′ o
+  n-tuple-again = form-again nTuple n-tuple-form
+
+  pub n-tuple-back :
+      (N : ℕ) (E old new : List ℕ) (n : ℕ) (old′ new′ : List ℕ) (o : Outcome ℕ) → FormCode e nTuple N E old new (gives n) → length E ≤ length old′
+      → DecodeForm e nTuple (take n new) old′ new′ o → Renumbered N E new′ o
+  n-tuple-back = form-back nTuple n-tuple-form
+
+  pub centred-again :
+      (c old new : List ℕ) (m : ℕ) (old′ new′ : List ℕ) (o : Outcome ℕ) → DecodeForm e centred c old new (gives m) → length c ≤ length old′
+      → FormCode e centred (length c) (take m new) old′ new′ o → Given c old′ new′ o
+  centred-again = form-again centred centred-form
+
+  pub centred-back :
+      (N : ℕ) (E old new : List ℕ) (n : ℕ) (old′ new′ : List ℕ) (o : Outcome ℕ) → FormCode e centred N E old new (gives n) → length E ≤ length old′
+      → DecodeForm e centred (take n new) old′ new′ o → Renumbered N E new′ o
+  centred-back = form-back centred centred-form

@@ -14,23 +14,28 @@ use Rattle.laws.specs.document.Laid.{laidOver}
 use Rattle.laws.specs.Laying.{laid-front}
 use Rattle.refusal.specs.document.Table.{Row, Applies, gives, refuses, kept, left}
 use Rattle.refusal.specs.Laws.{applied}
-use Rattle.limits.specs.document.Limits.{size, valence}
-use Rattle.lines.specs.document.Line.{Free, lineRows, LineAnswers, TextAnswers, Reply}
+use Rattle.limits.specs.document.Limits.{size}
+use Rattle.edition.specs.document.Edition.{neighboursIn}
+use Rattle.texts.specs.document.Bytes.{Free}
+use Rattle.texts.specs.document.Text.{lineRows, LineAnswers, TextAnswers}
+use Rattle.texts.specs.document.Damage.{records, refusals}
+use Rattle.texts.specs.document.Lent.{block, blocks, counted, numberOf, placeOf, Taken, none, unfinished, next}
+use Rattle.texts.specs.Records.{records-join}
+use Rattle.texts.specs.FirstLines.{AllFit, taken-all, all-taken, taken-join, taken-fit}
+use Rattle.texts.specs.Turns.{read-lengths}
+use Rattle.lines.specs.document.Line.{Reply}
 use Rattle.lines.specs.document.Judged.{digitTable}
-use Rattle.lines.specs.document.Damage.{records, refusals}
-use Rattle.lines.specs.Records.{records-join}
-use Rattle.lines.specs.document.Reading.{block, blocks, counted, numberOf, placeOf, Taken, none, unfinished, next}
-use Rattle.lines.specs.FirstLines.{AllFit, taken-all, all-taken, taken-join, taken-fit}
-use Rattle.lines.specs.Turns.{read-lengths}
+use Rattle.lines.specs.document.Reading.{linesOf, digitsLent}
+use Rattle.lines.specs.Plain.{plain-once, plain-few}
 use Rattle.zurkhovel.specs.document.Lines.{ReadText, zeros}
 use Rattle.zurkhovel.specs.document.Demand.{InTurns, ended, turn, handedOut, linesIn}
 
 -- the answers' numbers, and their places
 abbrev pub numbersOf : List Reply → List ℕ
-numbersOf os = map (λ o. numberOf (counted o)) os
+numbersOf os = map (λ o. numberOf (counted length o)) os
 
 abbrev pub placesOf : List Reply → List ℕ
-placesOf os = map (λ o. placeOf (counted o)) os
+placesOf os = map (λ o. placeOf (counted length o)) os
 
 -- ---- records handed out
 
@@ -62,23 +67,23 @@ first-bytes x more n e = let q : 64 * suc n ≡ length x + 64 * n = omega arith 
 
 -- of one turn
 handed-blocks :
-    (os : List Reply) (old : List ℕ) → AllFit 64 os → NoneZero os → 64 * length os ≤ length old
-    → handedOut (numbersOf os) (placesOf os) (take (64 * length os) (blocks 64 os old)) ≡ records os
+    (os : List Reply) (old : List ℕ) → AllFit 64 (λ c. c) os → NoneZero os → 64 * length os ≤ length old
+    → handedOut (numbersOf os) (placesOf os) (take (64 * length os) (blocks 64 (λ c. c) os old)) ≡ records os
 unfolding handedOut counted block blocks records
 handed-blocks [] old f n l = refl
 handed-blocks (gives c ∷ os) old f n l =
     let x = laidOver c (take 64 old) in
-    let r = take (64 * length os) (blocks 64 os (drop 64 old)) in
+    let r = take (64 * length os) (blocks 64 (λ c. c) os (drop 64 old)) in
     let h : length (take 64 old) ≡ 64 = length-take-le 64 old (omega arith) in
     let w : length x ≡ 64 = laid-length c (take 64 old) (omega (arith, f .0)) ∙ h in
-    rw (first-bytes x (blocks 64 os (drop 64 old)) (length os) w, take-at x r 64 w, drop-at x r 64 w)
+    rw (first-bytes x (blocks 64 (λ c. c) os (drop 64 old)) (length os) w, take-at x r 64 w, drop-at x r 64 w)
     (ap₂ _∷_ (laid-front c (take 64 old) x (length c) refl refl) (handed-blocks os (drop 64 old) (f .1) n (simp length-drop (omega arith))))
 handed-blocks (refuses zero p ∷ os) old f n l = absurd (omega arith)
 handed-blocks (refuses (suc k) p ∷ os) old f n l =
     let x = take 64 old in
-    let r = take (64 * length os) (blocks 64 os (drop 64 old)) in
+    let r = take (64 * length os) (blocks 64 (λ c. c) os (drop 64 old)) in
     let w : length x ≡ 64 = length-take-le 64 old (omega arith) in
-    rw (first-bytes x (blocks 64 os (drop 64 old)) (length os) w, drop-at x r 64 w)
+    rw (first-bytes x (blocks 64 (λ c. c) os (drop 64 old)) (length os) w, drop-at x r 64 w)
     (handed-blocks os (drop 64 old) (f .1) (n .1) (simp length-drop (omega arith)))
 
 -- ---- the counts
@@ -109,11 +114,11 @@ above-zero : (rs : List Row) (k p : ℕ) → AboveZero rs → Applies rs k p →
 above-zero (r ∷ rs) k p h (inl a) = omega (arith, a .0, h .0)
 above-zero (r ∷ rs) k p h (inr a) = above-zero rs k p (h .1) a
 
-line-none-zero : (os : List Reply) {t : List ℕ} {o : Reply} → LineAnswers size (digitTable valence) t o → NoneZero os → NoneZero (o ∷ os)
+line-none-zero : {e : ℕ} (os : List Reply) {t : List ℕ} {o : Reply} → LineAnswers (linesOf e) t o → NoneZero os → NoneZero (o ∷ os)
 line-none-zero os (kept c r) n = n
-line-none-zero os {t} (left {k} {p} l e) n = (above-zero (lineRows size (digitTable valence) t) k p (search needs) (applied l), n)
+line-none-zero {e} os {t} (left {k} {p} l q) n = (above-zero (lineRows (linesOf e) t) k p (search needs) (applied l), n)
 
-pub taken-none-zero : {t rest : List ℕ} {os : List Reply} → Taken size (digitTable valence) t os rest → NoneZero os
+pub taken-none-zero : {e : ℕ} {t rest : List ℕ} {os : List Reply} → Taken (linesOf e) t os rest → NoneZero os
 taken-none-zero none = tt
 taken-none-zero (unfinished l f a) = line-none-zero [] a tt
 taken-none-zero (next {os = os} c a h) = line-none-zero os a (taken-none-zero h)
@@ -128,9 +133,9 @@ pub record Shows (os : List Reply) (ns ps bs : List ℕ) : Type 0 where
   pub handed : handedOut ns ps bs ≡ records os
 
 -- what is seen of the text u, to its end
-pub record Seen (u ns ps bs : List ℕ) : Type 0 where
+pub record Seen (e : ℕ) (u ns ps bs : List ℕ) : Type 0 where
   pub answers : List Reply
-  pub taken : Taken size (digitTable valence) u answers []
+  pub taken : Taken (linesOf e) u answers []
   pub shows : Shows answers ns ps bs
 
 shows-join :
@@ -150,36 +155,36 @@ shows-join {os} {qs} {ns} {ps} {bs} {ms} {ls} {ds} a b =
 
 -- one turn
 turn-shows :
-    {u rec num pla rec′ num′ pla′ : List ℕ} {k at : ℕ} (g : ReadText u rec num pla rec′ num′ pla′ k at)
+    {e : ℕ} {u rec num pla rec′ num′ pla′ : List ℕ} {k at : ℕ} (g : ReadText e u rec num pla rec′ num′ pla′ k at)
     → Shows (g .read .answers) (take k num′) (take k pla′) (take (64 * k) rec′)
-turn-shows {rec = rec} {num} {pla} {rec′} {num′} {pla′} {k} g =
+turn-shows {e} {rec = rec} {num} {pla} {rec′} {num′} {pla′} {k} g =
     let n = g .read .count in
     let x = g .read .room in
     let t = g .read .taken in
     let os = g .read .answers in
-    let e = laid-front (numbersOf os) num num′ k (g .read .numbers) (length-map os _ ∙ sym n) in
+    let q = laid-front (numbersOf os) num num′ k (g .read .numbers) (length-map os _ ∙ sym n) in
     let f = laid-front (placesOf os) pla pla′ k (g .read .places) (length-map os _ ∙ sym n) in
-    let fit : AllFit 64 os = taken-fit size (digitTable valence) (omega arith) t in
+    let fit : AllFit 64 (λ c. c) os = taken-fit (linesOf e) plain-once 64 (λ c. c) (plain-few size (digitTable (neighboursIn e))) t in
     record {
-      numbers = e;
+      numbers = q;
       places = f;
-      bytes = length-take-le (64 * k) rec′ (omega (arith, x .0, read-lengths {rec = rec} (omega arith) (g .read) .0)) ∙ ap (λ (i : ℕ). 64 * i) n;
-      handed = rw (e, f, g .read .records, n) (handed-blocks os rec fit (taken-none-zero t) (omega (arith, x .0)));
+      bytes = length-take-le (64 * k) rec′ (omega (arith, x .0 .0, read-lengths (linesOf e) (digitsLent size) plain-once (plain-few size (digitTable (neighboursIn e)), tt) (g .read) .0 .0)) ∙ ap (λ (i : ℕ). 64 * i) n;
+      handed = rw (q, f, g .read .records .0, n) (handed-blocks os rec fit (taken-none-zero t) (omega (arith, x .0 .0)));
     }
 
-pub seen : {u ns ps bs : List ℕ} → InTurns u ns ps bs → Seen u ns ps bs
+pub seen : {e : ℕ} {u ns ps bs : List ℕ} → InTurns e u ns ps bs → Seen e u ns ps bs
 unfolding handedOut records
 seen ended = record { answers = []; taken = none; shows = record { numbers = refl; places = refl; bytes = refl; handed = refl } }
-seen (turn g r) =
+seen {e} (turn g r) =
     let s = seen r in
     record {
       answers = g .read .answers ++ s .answers;
-      taken = taken-join size (digitTable valence) (g .read .taken) (s .taken);
+      taken = taken-join (linesOf e) (g .read .taken) (s .taken);
       shows = shows-join (turn-shows g) (s .shows);
     }
 
-pub answered : {u ns ps bs : List ℕ} (s : Seen u ns ps bs) → TextAnswers size (digitTable valence) u (s .answers)
-answered s = taken-all size (digitTable valence) (s .taken) refl
+pub answered : {e : ℕ} {u ns ps bs : List ℕ} (s : Seen e u ns ps bs) → TextAnswers (linesOf e) u (s .answers)
+answered {e} s = taken-all (linesOf e) (s .taken) refl
 
 -- ---- how many lines a text has
 
@@ -201,16 +206,16 @@ lines-cut [] [] f = refl
 lines-cut [] (c ∷ rest) f = omega (arith, if-pos {C = ℕ} (ℕ-discrete 10 10) refl 1 0)
 lines-cut (a ∷ b) rest f = lines-on a (b ++ (10 ∷ rest)) (f .0) (simp length-append (omega arith)) ∙ lines-cut b rest (f .1)
 
-pub lines-taken : {t rest : List ℕ} {os : List Reply} → Taken size (digitTable valence) t os rest → linesIn t ≡ length os + linesIn rest
+pub lines-taken : {e : ℕ} {t rest : List ℕ} {os : List Reply} → Taken (linesOf e) t os rest → linesIn t ≡ length os + linesIn rest
 unfolding linesIn
 lines-taken none = omega arith
 lines-taken (unfinished {t} l f a) = lines-free t l f
 lines-taken (next {b = b} {rest = rest} c a h) = rw (c .parts) (omega (arith, lines-cut b rest (c .free), lines-taken h))
 
 -- as many as there are answers
-pub lines-answered : {t : List ℕ} {os : List Reply} → TextAnswers size (digitTable valence) t os → length os ≡ linesIn t
+pub lines-answered : {e : ℕ} {t : List ℕ} {os : List Reply} → TextAnswers (linesOf e) t os → length os ≡ linesIn t
 unfolding linesIn
-lines-answered h = omega (arith, lines-taken (all-taken size (digitTable valence) h))
+lines-answered {e} h = omega (arith, lines-taken (all-taken (linesOf e) h))
 
 pub lines-some : (t : List ℕ) → 1 ≤ length t → 1 ≤ linesIn t
 unfolding linesIn

@@ -2,43 +2,68 @@
 use mathlib.Core.Path.{_≡_, refl, subst}
 use mathlib.Core.Logic.{_↔_}
 use mathlib.Core.Bool.{Bool, true}
-use mathlib.Core.List.{List}
+use mathlib.Core.List.{List, [], _∷_, _++_}
 use Prim.Native.Nat.{ℕ}
-use Rattle.refusal.specs.document.Table.{ofList, Clear, gives, kept}
-use Rattle.refusal.specs.Laws.{clear-both, clear-left, clear-right, list-clear}
+use Rattle.refusal.specs.document.Table.{ofList, Clear, FirstRefusal, gives, kept}
+use Rattle.refusal.specs.Laws.{clear-both, clear-left, clear-right, others, refusal-front, refusal-back, list-clear, list-refused}
 use Rattle.skeleton.specs.document.Skeleton.{Renumbering}
 use Rattle.form.specs.document.Form.{centred}
 use Rattle.form.specs.Forms.{centred-form, form-verdict}
 use Rattle.zurkhovel.specs.Accepted.{tree-of}
 use Rattle.zurkhovel.specs.document.Same.{listRows, bothRows, SameSkeleton}
+use Rattle.limits.specs.document.Limits.{size}
+use Rattle.edition.specs.document.Edition.{IsEdition, neighboursIn, row22}
+use Rattle.edition.specs.Laws.{edition-clear, refused-22}
+use Rattle.zurkhovel.specs.document.InEdition.{edgeTable}
 
--- no row applies to two lists where none applies to the first and none to the second
-pub both-clear : (N P : ℕ) (E F : List ℕ) → Clear (bothRows N E P F) ↔ (Clear (listRows N E) × Clear (listRows P F))
-both-clear N P E F =
-    let one = list-clear 1 (listRows N E) in
-    let two = list-clear 2 (listRows P F) in (
-      (λ c. (one .1 (clear-left (ofList 1 (listRows N E)) (ofList 2 (listRows P F)) c), two .1 (clear-right (ofList 1 (listRows N E)) (ofList 2 (listRows P F)) c))),
-      (λ c. clear-both (one .0 (c .0)) (two .0 (c .1))),
-    )
+module _ {e : ℕ} where
+  -- no row applies to two lists where none applies to the first and none to the second
+  pub both-clear : (N P : ℕ) (E F : List ℕ) → Clear (bothRows e N E P F) ↔ (Clear (edgeTable e size N E 1) × Clear (edgeTable e size P F 1))
+  both-clear N P E F =
+      let none = list-clear 0 (row22 e ∷ []) in
+      let one = list-clear 1 (listRows e N E) in
+      let two = list-clear 2 (listRows e P F) in (
+        (λ c.
+            let z = none .1 (clear-left (ofList 0 (row22 e ∷ [])) (ofList 1 (listRows e N E) ++ ofList 2 (listRows e P F)) c) in
+            let d = clear-right (ofList 0 (row22 e ∷ [])) (ofList 1 (listRows e N E) ++ ofList 2 (listRows e P F)) c in (
+              clear-both z (one .1 (clear-left (ofList 1 (listRows e N E)) (ofList 2 (listRows e P F)) d)),
+              clear-both z (two .1 (clear-right (ofList 1 (listRows e N E)) (ofList 2 (listRows e P F)) d)),
+            )),
+        (λ (k, l). clear-both (none .0 (clear-left (row22 e ∷ []) (listRows e N E) k)) (clear-both (one .0 (others k)) (two .0 (others l)))),
+      )
 
--- where there is a verdict, both are accepted
-pub verdict-lists : {N P : ℕ} {E F : List ℕ} {b : Bool} → SameSkeleton N E P F (gives b) → Clear (listRows N E) × Clear (listRows P F)
-verdict-lists {N} {P} {E} {F} (kept c r) = both-clear N P E F .0 c
+  -- there is no such edition; the first list is refused, or the second
+  module _ (N P : ℕ) (E F : List ℕ) where
+    pub both-none : neighboursIn e ≡ 0 → FirstRefusal (bothRows e N E P F) (0, 22) 0
+    both-none z = refusal-front (ofList 1 (listRows e N E) ++ ofList 2 (listRows e P F)) (list-refused 0 (row22 e ∷ []) (refused-22 [] z))
 
--- "the same" is said of two accepted lists exactly when they have equally many vertices and the numbers of one can be changed to make it
--- the other
-pub same-exactly :
-    (N P : ℕ) (E F : List ℕ) → SameSkeleton N E P F (gives true) ↔ (Clear (listRows N E) × Clear (listRows P F) × (N ≡ P) × Renumbering N E F)
-same-exactly N P E F = (forth, λ (k, l, n, r). back k l (n, r))
-  where
-    forth : SameSkeleton N E P F (gives true) → Clear (listRows N E) × Clear (listRows P F) × (N ≡ P) × Renumbering N E F
-    forth (kept m (c, x, y)) =
-        let (k, l) = both-clear N P E F .0 m in
-        let (n, r) = form-verdict centred centred-form N P E F c c (tree-of N E 1 k) (tree-of P F 1 l) x y .0 refl in
-        (k, l, n, r)
+    pub both-first : {k p : ℕ} → IsEdition e → FirstRefusal (listRows e N E) k p → FirstRefusal (bothRows e N E P F) (1, k) p
+    both-first i l =
+        refusal-back (list-clear 0 (row22 e ∷ []) .0 (edition-clear i)) (refusal-front (ofList 2 (listRows e P F)) (list-refused 1 (listRows e N E) l))
 
-    back : Clear (listRows N E) → Clear (listRows P F) → (N ≡ P) × Renumbering N E F → SameSkeleton N E P F (gives true)
-    back k l r =
-        let (c, x) = centred-form .some N E (tree-of N E 1 k) in
-        let (d, y) = centred-form .some P F (tree-of P F 1 l) in
-        kept {a = true} (both-clear N P E F .1 (k, l)) (d, subst (centred N E) (form-verdict centred centred-form N P E F c d (tree-of N E 1 k) (tree-of P F 1 l) x y .1 r) x, y)
+    pub both-second : {k p : ℕ} → Clear (edgeTable e size N E 1) → FirstRefusal (listRows e P F) k p → FirstRefusal (bothRows e N E P F) (2, k) p
+    both-second c l =
+        refusal-back (list-clear 0 (row22 e ∷ []) .0 (clear-left (row22 e ∷ []) (listRows e N E) c))
+        (refusal-back (list-clear 1 (listRows e N E) .0 (others c)) (list-refused 2 (listRows e P F) l))
+
+  -- where there is a verdict, both are accepted
+  pub verdict-lists : {N P : ℕ} {E F : List ℕ} {b : Bool} → SameSkeleton e N E P F (gives b) → Clear (edgeTable e size N E 1) × Clear (edgeTable e size P F 1)
+  verdict-lists {N} {P} {E} {F} (kept c r) = both-clear N P E F .0 c
+
+  -- "the same" is said of two accepted lists exactly when they have equally many vertices and the numbers of one can be changed to make it
+  -- the other
+  pub same-exactly :
+      (N P : ℕ) (E F : List ℕ) → SameSkeleton e N E P F (gives true) ↔ (Clear (edgeTable e size N E 1) × Clear (edgeTable e size P F 1) × (N ≡ P) × Renumbering N E F)
+  same-exactly N P E F = (forth, λ (k, l, n, r). back k l (n, r))
+    where
+      forth : SameSkeleton e N E P F (gives true) → Clear (edgeTable e size N E 1) × Clear (edgeTable e size P F 1) × (N ≡ P) × Renumbering N E F
+      forth (kept m (c, x, y)) =
+          let (k, l) = both-clear N P E F .0 m in
+          let (n, r) = form-verdict centred centred-form N P E F c c (tree-of N E 1 k) (tree-of P F 1 l) x y .0 refl in
+          (k, l, n, r)
+
+      back : Clear (edgeTable e size N E 1) → Clear (edgeTable e size P F 1) → (N ≡ P) × Renumbering N E F → SameSkeleton e N E P F (gives true)
+      back k l r =
+          let (c, x) = centred-form .some N E (tree-of N E 1 k) in
+          let (d, y) = centred-form .some P F (tree-of P F 1 l) in
+          kept {a = true} (both-clear N P E F .1 (k, l)) (d, subst (centred N E) (form-verdict centred centred-form N P E F c d (tree-of N E 1 k) (tree-of P F 1 l) x y .1 r) x, y)

@@ -1,4 +1,5 @@
 -- What must be believed: docs/READING.md lists it in the order of document 01. Assumes nothing.
+pub mod InEdition
 pub mod Codes
 pub mod Same
 pub mod Maps

@@ -1,7 +1,7 @@
 // Equal vertices.
+use super::editions;
 use super::reported::Reported;
 use limits::SIZE;
-use limits::VALENCE;
 use refusal::Answer;
 use refusal::Check;
 ghost use Rattle.refusal.specs.document.Outcome.{told};
@@ -11,10 +11,10 @@ ghost use Rattle.zurkhovel.specs.document.Reported.{Reporting};
 
 // The class of each vertex, in the centred code's numbering: one for two vertices that a renumbering of the skeleton onto itself carries to one
 // another.
-pub fn equal_vertices(n: usize, edges: &[u8], out: &mut [u8]) -> Reported
-    ensures { λ r. ⌜ Reporting (EqualVertices n (now (edges .entry)) (now (out .entry)) (now (out .exit))) (centredPairs n (now (edges .entry))) (told (r .answer)) (r .pairs) ⌝ }
+pub fn equal_vertices(edition: usize, n: usize, edges: &[u8], out: &mut [u8]) -> Reported
+    ensures { λ r. ⌜ Reporting (EqualVertices edition n (now (edges .entry)) (now (out .entry)) (now (out .exit))) (centredPairs n (now (edges .entry))) (told (r .answer)) (r .pairs) ⌝ }
 {
-    if let Check::Refuse(k, p) = edge_list::check(SIZE, VALENCE, n, edges, 1) {
+    if let Check::Refuse(k, p) = editions::edges(edition, SIZE, n, edges, 1) {
         return Reported {
             answer: Answer::Refused(k, p),
             pairs: 0,

@@ -1,4 +1,5 @@
 // The bit-tuple: packed bytes, a whole number, a fraction.
+use super::editions;
 use super::reported::Looked;
 use super::reported::Reported;
 use super::reported::ReportedFraction;
@@ -6,7 +7,6 @@ use super::reported::ReportedNumber;
 use super::reported::report;
 use fraction::Fraction;
 use limits::SIZE;
-use limits::VALENCE;
 use refusal::Answer;
 use refusal::Check;
 use refusal::Number;
@@ -23,11 +23,18 @@ ghost use Rattle.zurkhovel.specs.document.Reported.{Reporting, atRoot};
 ghost use Rattle.zurkhovel.specs.document.Bits.{Pack, Unpack, Whole, Unwhole, InFraction, Unfraction};
 
 // The rooted code at a vertex of a skeleton of at most `most` vertices.
-fn rooted(most: usize, n: usize, edges: &[u8], root: usize, code: &mut [u8]) -> Looked
+fn rooted(
+    edition: usize,
+    most: usize,
+    n: usize,
+    edges: &[u8],
+    root: usize,
+    code: &mut [u8],
+) -> Looked
     requires { ⌜ (most ≤ size) × (length (now code) ≡ size) ⌝ }
-    ensures { λ r. ⌜ Rooting most n (now (edges .entry)) root (now (code .exit)) r ⌝ }
+    ensures { λ r. ⌜ Rooting edition most n (now (edges .entry)) root (now (code .exit)) r ⌝ }
 {
-    if let Check::Refuse(k, p) = edge_list::check(most, VALENCE, n, edges, root) {
+    if let Check::Refuse(k, p) = editions::edges(edition, most, n, edges, root) {
         return Looked::Refused(k, p);
     }
     Looked::Pairs(form_coder::rooted(n, edges, root, code))
@@ -44,11 +51,11 @@ fn laid(result: &[u8], out: &mut [u8]) -> Answer
 }
 
 // The packed form of the rooted code at a vertex.
-pub fn pack(n: usize, edges: &[u8], root: usize, out: &mut [u8]) -> Reported
-    ensures { λ r. ⌜ Reporting (Pack n (now (edges .entry)) root (now (out .entry)) (now (out .exit))) (atRoot n (now (edges .entry)) root) (told (r .answer)) (r .pairs) ⌝ }
+pub fn pack(edition: usize, n: usize, edges: &[u8], root: usize, out: &mut [u8]) -> Reported
+    ensures { λ r. ⌜ Reporting (Pack edition n (now (edges .entry)) root (now (out .entry)) (now (out .exit))) (atRoot n (now (edges .entry)) root) (told (r .answer)) (r .pairs) ⌝ }
 {
     let mut code = [0u8; SIZE];
-    match rooted(SIZE, n, edges, root, &mut code) {
+    match rooted(edition, SIZE, n, edges, root, &mut code) {
         Looked::Refused(k, p) => Reported {
             answer: Answer::Refused(k, p),
             pairs: 0,
@@ -62,11 +69,11 @@ pub fn pack(n: usize, edges: &[u8], root: usize, out: &mut [u8]) -> Reported
 }
 
 // The whole number of the rooted code at a vertex.
-pub fn whole(n: usize, edges: &[u8], root: usize) -> ReportedNumber
-    ensures { λ r. ⌜ Reporting (Whole n (now (edges .entry)) root) (atRoot n (now (edges .entry)) root) (numbered (r .answer)) (r .pairs) ⌝ }
+pub fn whole(edition: usize, n: usize, edges: &[u8], root: usize) -> ReportedNumber
+    ensures { λ r. ⌜ Reporting (Whole edition n (now (edges .entry)) root) (atRoot n (now (edges .entry)) root) (numbered (r .answer)) (r .pairs) ⌝ }
 {
     let mut code = [0u8; SIZE];
-    match rooted(limits::WHOLE, n, edges, root, &mut code) {
+    match rooted(edition, limits::WHOLE, n, edges, root, &mut code) {
         Looked::Refused(k, p) => ReportedNumber {
             answer: Number::Refused(k, p),
             pairs: 0,
@@ -79,11 +86,11 @@ pub fn whole(n: usize, edges: &[u8], root: usize) -> ReportedNumber
 }
 
 // The fraction of the rooted code at a vertex.
-pub fn fraction(n: usize, edges: &[u8], root: usize) -> ReportedFraction
-    ensures { λ r. ⌜ Reporting (InFraction n (now (edges .entry)) root) (atRoot n (now (edges .entry)) root) (fraction.toldFraction (r .answer)) (r .pairs) ⌝ }
+pub fn fraction(edition: usize, n: usize, edges: &[u8], root: usize) -> ReportedFraction
+    ensures { λ r. ⌜ Reporting (InFraction edition n (now (edges .entry)) root) (atRoot n (now (edges .entry)) root) (fraction.toldFraction (r .answer)) (r .pairs) ⌝ }
 {
     let mut code = [0u8; SIZE];
-    match rooted(limits::FRACTION, n, edges, root, &mut code) {
+    match rooted(edition, limits::FRACTION, n, edges, root, &mut code) {
         Looked::Refused(k, p) => ReportedFraction {
             answer: Fraction::Refused(k, p),
             pairs: 0,
@@ -107,28 +114,28 @@ fn edges_of(read: Answer, digits: &[u8], out: &mut [u8]) -> Answer
 }
 
 // The edges of the code in a packed code.
-pub fn unpack(bytes: &[u8], out: &mut [u8]) -> Answer
-    ensures { λ r. ⌜ Unpack (now (bytes .entry)) (now (out .entry)) (now (out .exit)) (told r) ⌝ }
+pub fn unpack(edition: usize, bytes: &[u8], out: &mut [u8]) -> Answer
+    ensures { λ r. ⌜ Unpack edition (now (bytes .entry)) (now (out .entry)) (now (out .exit)) (told r) ⌝ }
 {
     let mut digits = [0u8; SIZE];
-    let read = bits::packed_code(VALENCE, bytes, &mut digits);
+    let read = editions::packed(edition, bytes, &mut digits);
     edges_of(read, &digits, out)
 }
 
 // The edges of the code in a whole number, with N beside it.
-pub fn unwhole(n: usize, value: u64, out: &mut [u8]) -> Answer
-    ensures { λ r. ⌜ Unwhole n value (now (out .entry)) (now (out .exit)) (told r) ⌝ }
+pub fn unwhole(edition: usize, n: usize, value: u64, out: &mut [u8]) -> Answer
+    ensures { λ r. ⌜ Unwhole edition n value (now (out .entry)) (now (out .exit)) (told r) ⌝ }
 {
     let mut digits = [0u8; SIZE];
-    let read = bits::number_code(VALENCE, n, value, &mut digits);
+    let read = editions::whole(edition, n, value, &mut digits);
     edges_of(read, &digits, out)
 }
 
 // The edges of the code in a fraction.
-pub fn unfraction(x: f64, out: &mut [u8]) -> Answer
-    ensures { λ r. ⌜ Unfraction x (now (out .entry)) (now (out .exit)) (told r) ⌝ }
+pub fn unfraction(edition: usize, x: f64, out: &mut [u8]) -> Answer
+    ensures { λ r. ⌜ Unfraction edition x (now (out .entry)) (now (out .exit)) (told r) ⌝ }
 {
     let mut digits = [0u8; SIZE];
-    let read = fraction::fraction_code(VALENCE, x, &mut digits);
+    let read = editions::fraction(edition, x, &mut digits);
     edges_of(read, &digits, out)
 }

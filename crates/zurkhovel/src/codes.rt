@@ -1,33 +1,33 @@
 // Digit codes and edge lists.
+use super::editions;
+use super::editions::Lists;
 use super::reported::Reported;
 use super::reported::ReportedVerdict;
 use digit_code::Order;
 use limits::SIZE;
-use limits::VALENCE;
 use refusal::Answer;
 use refusal::Check;
 ghost use Rattle.refusal.specs.document.Outcome.{told};
 ghost use Rattle.refusal.specs.document.Table.{Clear};
-ghost use Rattle.limits.specs.document.Limits.{size, valence};
-ghost use Rattle.digit_code.specs.document.Code.{codeRows};
-ghost use Rattle.edge_list.specs.document.Edges.{edgeRows};
+ghost use Rattle.limits.specs.document.Limits.{size};
+ghost use Rattle.zurkhovel.specs.document.InEdition.{edgeTable};
 ghost use Rattle.zurkhovel.specs.document.Codes.{CheckCode, DecodeCode, DecodeForm, CheckEdges, RootedCode, FormCode};
-ghost use Rattle.zurkhovel.specs.Rooting.{LaysEdges};
+ghost use Rattle.zurkhovel.specs.Rooting.{EndsWhole, LaysEdges};
 ghost use Rattle.zurkhovel.specs.document.Same.{SameSkeleton, said};
 ghost use Rattle.form.specs.document.Form.{nTuple, centred};
 ghost use Rattle.form_coder.specs.document.Pairs.{centredPairs, nTuplePairs};
 ghost use Rattle.zurkhovel.specs.document.Reported.{Reporting, atRoot, OfBoth};
 
 // Whether digits lent by themselves are a right rooted code.
-pub fn check_code(code: &[u8]) -> Answer
-    ensures { λ r. ⌜ CheckCode (now (code .entry)) (told r) ⌝ }
+pub fn check_code(edition: usize, code: &[u8]) -> Answer
+    ensures { λ r. ⌜ CheckCode edition (now (code .entry)) (told r) ⌝ }
 {
-    refusal::handed(digit_code::check(VALENCE, code))
+    refusal::handed(editions::code(edition, code))
 }
 
 // The edges of digits that are a right rooted code.
 pub(crate) fn lay_edges(code: &[u8], out: &mut [u8]) -> Answer
-    requires { ⌜ Clear (codeRows size valence (now code)) ⌝ }
+    requires { ⌜ EndsWhole (now code) ⌝ }
     ensures { λ r. ⌜ LaysEdges (now (code .entry)) (now (out .entry)) (now (out .exit)) (told r) ⌝ }
 {
     let need = 2 * (code.len() - 1);
@@ -38,27 +38,27 @@ pub(crate) fn lay_edges(code: &[u8], out: &mut [u8]) -> Answer
 }
 
 // The edges (parent, child), for child 2 to N, of a right rooted code.
-pub fn decode_code(code: &[u8], out: &mut [u8]) -> Answer
-    ensures { λ r. ⌜ DecodeCode (now (code .entry)) (now (out .entry)) (now (out .exit)) (told r) ⌝ }
+pub fn decode_code(edition: usize, code: &[u8], out: &mut [u8]) -> Answer
+    ensures { λ r. ⌜ DecodeCode edition (now (code .entry)) (now (out .entry)) (now (out .exit)) (told r) ⌝ }
 {
-    if let Check::Refuse(k, p) = digit_code::check(VALENCE, code) {
+    if let Check::Refuse(k, p) = editions::code(edition, code) {
         return Answer::Refused(k, p);
     }
     lay_edges(code, out)
 }
 
 // Whether N, an edge list and a root are a skeleton and one of its vertices.
-pub fn check_edges(n: usize, edges: &[u8], root: usize) -> Answer
-    ensures { λ r. ⌜ CheckEdges n (now (edges .entry)) root (told r) ⌝ }
+pub fn check_edges(edition: usize, n: usize, edges: &[u8], root: usize) -> Answer
+    ensures { λ r. ⌜ CheckEdges edition n (now (edges .entry)) root (told r) ⌝ }
 {
-    refusal::handed(edge_list::check(SIZE, VALENCE, n, edges, root))
+    refusal::handed(editions::edges(edition, SIZE, n, edges, root))
 }
 
 // The rooted code at a vertex.
-pub fn rooted_code(n: usize, edges: &[u8], root: usize, out: &mut [u8]) -> Reported
-    ensures { λ r. ⌜ Reporting (RootedCode n (now (edges .entry)) root (now (out .entry)) (now (out .exit))) (atRoot n (now (edges .entry)) root) (told (r .answer)) (r .pairs) ⌝ }
+pub fn rooted_code(edition: usize, n: usize, edges: &[u8], root: usize, out: &mut [u8]) -> Reported
+    ensures { λ r. ⌜ Reporting (RootedCode edition n (now (edges .entry)) root (now (out .entry)) (now (out .exit))) (atRoot n (now (edges .entry)) root) (told (r .answer)) (r .pairs) ⌝ }
 {
-    if let Check::Refuse(k, p) = edge_list::check(SIZE, VALENCE, n, edges, root) {
+    if let Check::Refuse(k, p) = editions::edges(edition, SIZE, n, edges, root) {
         return Reported {
             answer: Answer::Refused(k, p),
             pairs: 0,
@@ -78,10 +78,10 @@ pub fn rooted_code(n: usize, edges: &[u8], root: usize, out: &mut [u8]) -> Repor
 }
 
 // The N-tuple code.
-pub fn n_tuple_code(n: usize, edges: &[u8], out: &mut [u8]) -> Reported
-    ensures { λ r. ⌜ Reporting (FormCode nTuple n (now (edges .entry)) (now (out .entry)) (now (out .exit))) (nTuplePairs n (now (edges .entry))) (told (r .answer)) (r .pairs) ⌝ }
+pub fn n_tuple_code(edition: usize, n: usize, edges: &[u8], out: &mut [u8]) -> Reported
+    ensures { λ r. ⌜ Reporting (FormCode edition nTuple n (now (edges .entry)) (now (out .entry)) (now (out .exit))) (nTuplePairs n (now (edges .entry))) (told (r .answer)) (r .pairs) ⌝ }
 {
-    if let Check::Refuse(k, p) = edge_list::check(SIZE, VALENCE, n, edges, 1) {
+    if let Check::Refuse(k, p) = editions::edges(edition, SIZE, n, edges, 1) {
         return Reported {
             answer: Answer::Refused(k, p),
             pairs: 0,
@@ -101,10 +101,10 @@ pub fn n_tuple_code(n: usize, edges: &[u8], out: &mut [u8]) -> Reported
 }
 
 // The centred code.
-pub fn centred_code(n: usize, edges: &[u8], out: &mut [u8]) -> Reported
-    ensures { λ r. ⌜ Reporting (FormCode centred n (now (edges .entry)) (now (out .entry)) (now (out .exit))) (centredPairs n (now (edges .entry))) (told (r .answer)) (r .pairs) ⌝ }
+pub fn centred_code(edition: usize, n: usize, edges: &[u8], out: &mut [u8]) -> Reported
+    ensures { λ r. ⌜ Reporting (FormCode edition centred n (now (edges .entry)) (now (out .entry)) (now (out .exit))) (centredPairs n (now (edges .entry))) (told (r .answer)) (r .pairs) ⌝ }
 {
-    if let Check::Refuse(k, p) = edge_list::check(SIZE, VALENCE, n, edges, 1) {
+    if let Check::Refuse(k, p) = editions::edges(edition, SIZE, n, edges, 1) {
         return Reported {
             answer: Answer::Refused(k, p),
             pairs: 0,
@@ -124,20 +124,20 @@ pub fn centred_code(n: usize, edges: &[u8], out: &mut [u8]) -> Reported
 }
 
 // The edges (parent, child), for child 2 to N, of a centred code.
-pub fn decode_centred(code: &[u8], out: &mut [u8]) -> Answer
-    ensures { λ r. ⌜ DecodeForm centred (now (code .entry)) (now (out .entry)) (now (out .exit)) (told r) ⌝ }
+pub fn decode_centred(edition: usize, code: &[u8], out: &mut [u8]) -> Answer
+    ensures { λ r. ⌜ DecodeForm edition centred (now (code .entry)) (now (out .entry)) (now (out .exit)) (told r) ⌝ }
 {
-    if let Check::Refuse(k, p) = centred_check::check(VALENCE, code) {
+    if let Check::Refuse(k, p) = editions::centred(edition, code) {
         return Answer::Refused(k, p);
     }
     lay_edges(code, out)
 }
 
 // The edges (parent, child), for child 2 to N, of an N-tuple code.
-pub fn decode_n_tuple(code: &[u8], out: &mut [u8]) -> Answer
-    ensures { λ r. ⌜ DecodeForm nTuple (now (code .entry)) (now (out .entry)) (now (out .exit)) (told r) ⌝ }
+pub fn decode_n_tuple(edition: usize, code: &[u8], out: &mut [u8]) -> Answer
+    ensures { λ r. ⌜ DecodeForm edition nTuple (now (code .entry)) (now (out .entry)) (now (out .exit)) (told r) ⌝ }
 {
-    if let Check::Refuse(k, p) = form_coder::check_n_tuple(VALENCE, code) {
+    if let Check::Refuse(k, p) = editions::n_tuple(edition, code) {
         return Answer::Refused(k, p);
     }
     lay_edges(code, out)
@@ -149,15 +149,15 @@ pub enum Verdict {
     Same,
     // They are not.
     Different,
-    // Refused: which list, 1 or 2; the number of document 01's table; the place.
+    // Refused: which list, 1 or 2, or 0 for 22, which belongs to neither; the number of the table; the place.
     Refused(u8, u8, usize),
 }
 
-// Whether two accepted edge lists are the same skeleton. Lists of different sizes are not coded.
-fn judge(n1: usize, edges1: &[u8], n2: usize, edges2: &[u8]) -> ReportedVerdict
-    requires { ⌜ Clear (edgeRows size valence n1 (now edges1) 1) ⌝ }
-    requires { ⌜ Clear (edgeRows size valence n2 (now edges2) 1) ⌝ }
-    ensures { λ r. ⌜ Reporting (SameSkeleton n1 (now (edges1 .entry)) n2 (now (edges2 .entry))) (OfBoth n1 (now (edges1 .entry)) n2 (now (edges2 .entry))) (said (r .answer)) (r .pairs) ⌝ }
+// Whether two accepted edge lists of an edition are the same skeleton. Lists of different sizes are not coded.
+fn judge(edition: usize, n1: usize, edges1: &[u8], n2: usize, edges2: &[u8]) -> ReportedVerdict
+    requires { ⌜ Clear (edgeTable edition size n1 (now edges1) 1) ⌝ }
+    requires { ⌜ Clear (edgeTable edition size n2 (now edges2) 1) ⌝ }
+    ensures { λ r. ⌜ Reporting (SameSkeleton edition n1 (now (edges1 .entry)) n2 (now (edges2 .entry))) (OfBoth n1 (now (edges1 .entry)) n2 (now (edges2 .entry))) (said (r .answer)) (r .pairs) ⌝ }
 {
     if n1 != n2 {
         return ReportedVerdict {
@@ -187,20 +187,20 @@ fn judge(n1: usize, edges1: &[u8], n2: usize, edges2: &[u8]) -> ReportedVerdict
 }
 
 // Whether two edge lists are the same skeleton: whether their centred codes are equal.
-pub fn same_skeleton(n1: usize, edges1: &[u8], n2: usize, edges2: &[u8]) -> ReportedVerdict
-    ensures { λ r. ⌜ Reporting (SameSkeleton n1 (now (edges1 .entry)) n2 (now (edges2 .entry))) (OfBoth n1 (now (edges1 .entry)) n2 (now (edges2 .entry))) (said (r .answer)) (r .pairs) ⌝ }
+pub fn same_skeleton(
+    edition: usize,
+    n1: usize,
+    edges1: &[u8],
+    n2: usize,
+    edges2: &[u8],
+) -> ReportedVerdict
+    ensures { λ r. ⌜ Reporting (SameSkeleton edition n1 (now (edges1 .entry)) n2 (now (edges2 .entry))) (OfBoth n1 (now (edges1 .entry)) n2 (now (edges2 .entry))) (said (r .answer)) (r .pairs) ⌝ }
 {
-    if let Check::Refuse(k, p) = edge_list::check(SIZE, VALENCE, n1, edges1, 1) {
+    if let Lists::Refused(i, k, p) = editions::both(edition, n1, edges1, n2, edges2) {
         return ReportedVerdict {
-            answer: Verdict::Refused(1, k, p),
+            answer: Verdict::Refused(i, k, p),
             pairs: 0,
         };
     }
-    if let Check::Refuse(k, p) = edge_list::check(SIZE, VALENCE, n2, edges2, 1) {
-        return ReportedVerdict {
-            answer: Verdict::Refused(2, k, p),
-            pairs: 0,
-        };
-    }
-    judge(n1, edges1, n2, edges2)
+    judge(edition, n1, edges1, n2, edges2)
 }

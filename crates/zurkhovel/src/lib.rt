@@ -3,6 +3,7 @@
 pub mod alike;
 pub mod bit_tuple;
 pub mod codes;
+mod editions;
 pub mod maps;
 pub mod matrix;
 pub mod reported;

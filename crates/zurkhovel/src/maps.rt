@@ -1,12 +1,12 @@
 // Renumberings of one edge list onto another, as maps: one byte for each vertex of the first list, its number in the second.
+use super::editions;
+use super::editions::Lists;
 use super::reported::ReportedMapping;
-use limits::SIZE;
-use limits::VALENCE;
 use refusal::Answer;
 use refusal::Check;
 ghost use Rattle.refusal.specs.document.Table.{Clear};
-ghost use Rattle.limits.specs.document.Limits.{size, valence};
-ghost use Rattle.edge_list.specs.document.Edges.{edgeRows};
+ghost use Rattle.limits.specs.document.Limits.{size};
+ghost use Rattle.zurkhovel.specs.document.InEdition.{edgeTable};
 ghost use Rattle.zurkhovel.specs.document.Reported.{Reporting, OfBoth};
 ghost use Rattle.zurkhovel.specs.document.Maps.{HandOut, CheckRenumbering, mapped};
 
@@ -14,15 +14,22 @@ ghost use Rattle.zurkhovel.specs.document.Maps.{HandOut, CheckRenumberin
 pub enum Mapping {
     // Done: so many bytes are written at the start of the lent output (0 where none is lent, or where there is no map to write).
     Done(usize),
-    // Refused: list 1 or 2, or 3 for the map; the number of the table; the place.
+    // Refused: list 1 or 2, or 3 for the map, or 0 for 22, which belongs to none of them; the number of the table; the place.
     Refused(u8, u8, usize),
 }
 
 // The renumbering of two accepted edge lists. Lists of different sizes are not coded.
-fn hand_out(n1: usize, edges1: &[u8], n2: usize, edges2: &[u8], out: &mut [u8]) -> ReportedMapping
-    requires { ⌜ Clear (edgeRows size valence n1 (now edges1) 1) ⌝ }
-    requires { ⌜ Clear (edgeRows size valence n2 (now edges2) 1) ⌝ }
-    ensures { λ r. ⌜ Reporting (HandOut n1 (now (edges1 .entry)) n2 (now (edges2 .entry)) (now (out .entry)) (now (out .exit))) (OfBoth n1 (now (edges1 .entry)) n2 (now (edges2 .entry))) (mapped (r .answer)) (r .pairs) ⌝ }
+fn hand_out(
+    edition: usize,
+    n1: usize,
+    edges1: &[u8],
+    n2: usize,
+    edges2: &[u8],
+    out: &mut [u8],
+) -> ReportedMapping
+    requires { ⌜ Clear (edgeTable edition size n1 (now edges1) 1) ⌝ }
+    requires { ⌜ Clear (edgeTable edition size n2 (now edges2) 1) ⌝ }
+    ensures { λ r. ⌜ Reporting (HandOut edition n1 (now (edges1 .entry)) n2 (now (edges2 .entry)) (now (out .entry)) (now (out .exit))) (OfBoth n1 (now (edges1 .entry)) n2 (now (edges2 .entry))) (mapped (r .answer)) (r .pairs) ⌝ }
 {
     if n1 != n2 {
         return ReportedMapping {
@@ -47,34 +54,29 @@ fn hand_out(n1: usize, edges1: &[u8], n2: usize, edges2: &[u8], out: &mut [u8]) 
 
 // The renumbering of the first edge list onto the second, where they are the same skeleton; else nothing is written.
 pub fn renumbering(
+    edition: usize,
     n1: usize,
     edges1: &[u8],
     n2: usize,
     edges2: &[u8],
     out: &mut [u8],
 ) -> ReportedMapping
-    ensures { λ r. ⌜ Reporting (HandOut n1 (now (edges1 .entry)) n2 (now (edges2 .entry)) (now (out .entry)) (now (out .exit))) (OfBoth n1 (now (edges1 .entry)) n2 (now (edges2 .entry))) (mapped (r .answer)) (r .pairs) ⌝ }
+    ensures { λ r. ⌜ Reporting (HandOut edition n1 (now (edges1 .entry)) n2 (now (edges2 .entry)) (now (out .entry)) (now (out .exit))) (OfBoth n1 (now (edges1 .entry)) n2 (now (edges2 .entry))) (mapped (r .answer)) (r .pairs) ⌝ }
 {
-    if let Check::Refuse(k, p) = edge_list::check(SIZE, VALENCE, n1, edges1, 1) {
+    if let Lists::Refused(i, k, p) = editions::both(edition, n1, edges1, n2, edges2) {
         return ReportedMapping {
-            answer: Mapping::Refused(1, k, p),
+            answer: Mapping::Refused(i, k, p),
             pairs: 0,
         };
     }
-    if let Check::Refuse(k, p) = edge_list::check(SIZE, VALENCE, n2, edges2, 1) {
-        return ReportedMapping {
-            answer: Mapping::Refused(2, k, p),
-            pairs: 0,
-        };
-    }
-    hand_out(n1, edges1, n2, edges2, out)
+    hand_out(edition, n1, edges1, n2, edges2, out)
 }
 
 // Whether a map is a renumbering of one accepted edge list onto another.
-fn judge(n1: usize, edges1: &[u8], n2: usize, edges2: &[u8], map: &[u8]) -> Mapping
-    requires { ⌜ Clear (edgeRows size valence n1 (now edges1) 1) ⌝ }
-    requires { ⌜ Clear (edgeRows size valence n2 (now edges2) 1) ⌝ }
-    ensures { λ r. ⌜ CheckRenumbering n1 (now (edges1 .entry)) n2 (now (edges2 .entry)) (now (map .entry)) (mapped r) ⌝ }
+fn judge(edition: usize, n1: usize, edges1: &[u8], n2: usize, edges2: &[u8], map: &[u8]) -> Mapping
+    requires { ⌜ Clear (edgeTable edition size n1 (now edges1) 1) ⌝ }
+    requires { ⌜ Clear (edgeTable edition size n2 (now edges2) 1) ⌝ }
+    ensures { λ r. ⌜ CheckRenumbering edition n1 (now (edges1 .entry)) n2 (now (edges2 .entry)) (now (map .entry)) (mapped r) ⌝ }
 {
     match renumber::check(n1, edges1, n2, edges2, map) {
         Check::Passed => Mapping::Done(0),
@@ -83,14 +85,18 @@ fn judge(n1: usize, edges1: &[u8], n2: usize, edges2: &[u8], map: &[u8]) -> Mapp
 }
 
 // Whether a partner's map is a renumbering of the first edge list onto the second.
-pub fn check_renumbering(n1: usize, edges1: &[u8], n2: usize, edges2: &[u8], map: &[u8]) -> Mapping
-    ensures { λ r. ⌜ CheckRenumbering n1 (now (edges1 .entry)) n2 (now (edges2 .entry)) (now (map .entry)) (mapped r) ⌝ }
+pub fn check_renumbering(
+    edition: usize,
+    n1: usize,
+    edges1: &[u8],
+    n2: usize,
+    edges2: &[u8],
+    map: &[u8],
+) -> Mapping
+    ensures { λ r. ⌜ CheckRenumbering edition n1 (now (edges1 .entry)) n2 (now (edges2 .entry)) (now (map .entry)) (mapped r) ⌝ }
 {
-    if let Check::Refuse(k, p) = edge_list::check(SIZE, VALENCE, n1, edges1, 1) {
-        return Mapping::Refused(1, k, p);
+    if let Lists::Refused(i, k, p) = editions::both(edition, n1, edges1, n2, edges2) {
+        return Mapping::Refused(i, k, p);
     }
-    if let Check::Refuse(k, p) = edge_list::check(SIZE, VALENCE, n2, edges2, 1) {
-        return Mapping::Refused(2, k, p);
-    }
-    judge(n1, edges1, n2, edges2, map)
+    judge(edition, n1, edges1, n2, edges2, map)
 }

@@ -1,9 +1,9 @@
 // CAM, 0A and A0.
+use super::editions;
 use super::reported::Looked;
 use super::reported::Reported;
 use super::reported::ReportedNumber;
 use limits::SIZE;
-use limits::VALENCE;
 use refusal::Answer;
 use refusal::Check;
 use refusal::Number;
@@ -12,13 +12,15 @@ ghost use Prim.Native.Nat.{_-_, _*_, _≤_, _<_};
 ghost use lib.ListN.{length};
 ghost use Rattle.refusal.specs.Checks.{Answers};
 ghost use Rattle.refusal.specs.document.Outcome.{told, numbered};
-ghost use Rattle.limits.specs.document.Limits.{size, valence, zeroSize};
+ghost use Rattle.limits.specs.document.Limits.{size, zeroSize};
+ghost use Rattle.limits.specs.Width.{width};
 ghost use Rattle.skeleton.specs.document.Skeleton.{IsSkeleton};
 ghost use Rattle.adjacency.specs.document.Adjacency as adjacency;
 ghost use Rattle.form_coder.specs.document.Pairs.{centredPairs};
 ghost use Rattle.zurkhovel.specs.document.Reported.{Reporting};
 ghost use Rattle.zurkhovel.specs.Rooting.{LaysCam, ListingByCode};
-ghost use Rattle.zurkhovel.specs.document.Matrix.{DecodeCam, DecodeZeroA, DecodeAZero, physicalRows, Cam, ZeroA, AZero, CamByCode, ZeroAByCode, AZeroByCode};
+ghost use Rattle.zurkhovel.specs.document.InEdition.{physicalTable};
+ghost use Rattle.zurkhovel.specs.document.Matrix.{DecodeCam, DecodeZeroA, DecodeAZero, Cam, ZeroA, AZero, CamByCode, ZeroAByCode, AZeroByCode};
 
 // The edges of a CAM that is accepted, with row 15.
 fn lay_cam(cam: &[u8], out: &mut [u8]) -> Answer
@@ -34,20 +36,20 @@ fn lay_cam(cam: &[u8], out: &mut [u8]) -> Answer
 }
 
 // The edges (lower, higher) of a CAM, in order of the higher.
-pub fn decode_cam(n: usize, cam: &[u8], out: &mut [u8]) -> Answer
-    ensures { λ r. ⌜ DecodeCam n (now (cam .entry)) (now (out .entry)) (now (out .exit)) (told r) ⌝ }
+pub fn decode_cam(edition: usize, n: usize, cam: &[u8], out: &mut [u8]) -> Answer
+    ensures { λ r. ⌜ DecodeCam edition n (now (cam .entry)) (now (out .entry)) (now (out .exit)) (told r) ⌝ }
 {
-    if let Check::Refuse(k, p) = adjacency::cam_check(VALENCE, n, cam) {
+    if let Check::Refuse(k, p) = editions::cam(edition, n, cam) {
         return Answer::Refused(k, p);
     }
     lay_cam(cam, out)
 }
 
 // The edges of a 0A.
-pub fn decode_zero_a(n: usize, value: u64, out: &mut [u8]) -> Answer
-    ensures { λ r. ⌜ DecodeZeroA n value (now (out .entry)) (now (out .exit)) (told r) ⌝ }
+pub fn decode_zero_a(edition: usize, n: usize, value: u64, out: &mut [u8]) -> Answer
+    ensures { λ r. ⌜ DecodeZeroA edition n value (now (out .entry)) (now (out .exit)) (told r) ⌝ }
 {
-    if let Check::Refuse(k, p) = adjacency::zero_check(VALENCE, n, value) {
+    if let Check::Refuse(k, p) = editions::zero_a(edition, n, value) {
         return Answer::Refused(k, p);
     }
     let mut cam = [0u8; adjacency::ENTRIES];
@@ -56,10 +58,10 @@ pub fn decode_zero_a(n: usize, value: u64, out: &mut [u8]) -> Answer
 }
 
 // The edges of an A0, in order of the higher, then of the lower.
-pub fn decode_a_zero(n: usize, value: u64, out: &mut [u8]) -> Answer
-    ensures { λ r. ⌜ DecodeAZero n value (now (out .entry)) (now (out .exit)) (told r) ⌝ }
+pub fn decode_a_zero(edition: usize, n: usize, value: u64, out: &mut [u8]) -> Answer
+    ensures { λ r. ⌜ DecodeAZero edition n value (now (out .entry)) (now (out .exit)) (told r) ⌝ }
 {
-    if let Check::Refuse(k, p) = adjacency::a_check(VALENCE, n, value) {
+    if let Check::Refuse(k, p) = editions::a_zero(edition, n, value) {
         return Answer::Refused(k, p);
     }
     let need = 2 * (n - 1);
@@ -71,21 +73,21 @@ pub fn decode_a_zero(n: usize, value: u64, out: &mut [u8]) -> Answer
 }
 
 // Every refusal of an edge list whose numbering is to be physical, with the form's limit of N.
-fn check(most: usize, n: usize, edges: &[u8]) -> Check
+fn check(edition: usize, most: usize, n: usize, edges: &[u8]) -> Check
     requires { ⌜ most ≤ size ⌝ }
-    ensures { λ r. ⌜ Answers (physicalRows most n (now (edges .entry))) r ⌝ }
+    ensures { λ r. ⌜ Answers (physicalTable edition most n (now (edges .entry))) r ⌝ }
 {
-    if let Check::Refuse(k, p) = edge_list::check(most, VALENCE, n, edges, 1) {
+    if let Check::Refuse(k, p) = editions::edges(edition, most, n, edges, 1) {
         return Check::Refuse(k, p);
     }
     adjacency::physical(n, edges)
 }
 
 // The CAM, in the caller's numbering.
-pub fn cam(n: usize, edges: &[u8], out: &mut [u8]) -> Answer
-    ensures { λ r. ⌜ Cam n (now (edges .entry)) (now (out .entry)) (now (out .exit)) (told r) ⌝ }
+pub fn cam(edition: usize, n: usize, edges: &[u8], out: &mut [u8]) -> Answer
+    ensures { λ r. ⌜ Cam edition n (now (edges .entry)) (now (out .entry)) (now (out .exit)) (told r) ⌝ }
 {
-    if let Check::Refuse(k, p) = check(SIZE, n, edges) {
+    if let Check::Refuse(k, p) = check(edition, SIZE, n, edges) {
         return Answer::Refused(k, p);
     }
     let need = n - 1;
@@ -98,7 +100,7 @@ pub fn cam(n: usize, edges: &[u8], out: &mut [u8]) -> Answer
 
 // The 0A of a skeleton in a physical numbering.
 fn zero_of(n: usize, edges: &[u8]) -> u64
-    requires { ⌜ IsSkeleton zeroSize valence n (now edges) × adjacency.Physical n (now edges) ⌝ }
+    requires { ⌜ IsSkeleton zeroSize width n (now edges) × adjacency.Physical n (now edges) ⌝ }
     ensures { λ r. ⌜ r ≡ adjacency.zeroA (adjacency.cam n (now (edges .entry))) ⌝ }
 {
     let mut cam = [0u8; adjacency::ENTRIES];
@@ -107,43 +109,43 @@ fn zero_of(n: usize, edges: &[u8]) -> u64
 }
 
 // The 0A, in the caller's numbering.
-pub fn zero_a(n: usize, edges: &[u8]) -> Number
-    ensures { λ r. ⌜ ZeroA n (now (edges .entry)) (numbered r) ⌝ }
+pub fn zero_a(edition: usize, n: usize, edges: &[u8]) -> Number
+    ensures { λ r. ⌜ ZeroA edition n (now (edges .entry)) (numbered r) ⌝ }
 {
-    if let Check::Refuse(k, p) = check(limits::ZERO_A, n, edges) {
+    if let Check::Refuse(k, p) = check(edition, limits::ZERO_A, n, edges) {
         return Number::Refused(k, p);
     }
     Number::Value(zero_of(n, edges))
 }
 
 // The A0, in the caller's numbering.
-pub fn a_zero(n: usize, edges: &[u8]) -> Number
-    ensures { λ r. ⌜ AZero n (now (edges .entry)) (numbered r) ⌝ }
+pub fn a_zero(edition: usize, n: usize, edges: &[u8]) -> Number
+    ensures { λ r. ⌜ AZero edition n (now (edges .entry)) (numbered r) ⌝ }
 {
-    if let Check::Refuse(k, p) = edge_list::check(limits::A_ZERO, VALENCE, n, edges, 1) {
+    if let Check::Refuse(k, p) = editions::edges(edition, limits::A_ZERO, n, edges, 1) {
         return Number::Refused(k, p);
     }
     Number::Value(adjacency::a_zero(n, edges))
 }
 
 // The edges in the numbering by code of a skeleton of at most `most` vertices.
-fn by_code(most: usize, n: usize, edges: &[u8], ends: &mut [u8]) -> Looked
+fn by_code(edition: usize, most: usize, n: usize, edges: &[u8], ends: &mut [u8]) -> Looked
     requires { ⌜ (most ≤ size) × (length (now ends) ≡ 2 * (size - 1)) ⌝ }
-    ensures { λ r. ⌜ ListingByCode most n (now (edges .entry)) (now (ends .exit)) r ⌝ }
+    ensures { λ r. ⌜ ListingByCode edition most n (now (edges .entry)) (now (ends .exit)) r ⌝ }
 {
-    if let Check::Refuse(k, p) = edge_list::check(most, VALENCE, n, edges, 1) {
+    if let Check::Refuse(k, p) = editions::edges(edition, most, n, edges, 1) {
         return Looked::Refused(k, p);
     }
     Looked::Pairs(form_coder::by_code(n, edges, ends))
 }
 
 // The CAM by code.
-pub fn cam_by_code(n: usize, edges: &[u8], out: &mut [u8]) -> Reported
-    ensures { λ r. ⌜ Reporting (CamByCode n (now (edges .entry)) (now (out .entry)) (now (out .exit))) (centredPairs n (now (edges .entry))) (told (r .answer)) (r .pairs) ⌝ }
+pub fn cam_by_code(edition: usize, n: usize, edges: &[u8], out: &mut [u8]) -> Reported
+    ensures { λ r. ⌜ Reporting (CamByCode edition n (now (edges .entry)) (now (out .entry)) (now (out .exit))) (centredPairs n (now (edges .entry))) (told (r .answer)) (r .pairs) ⌝ }
 {
     let mut ends = [0u8; limits::ENDS];
     let m = edges.len();
-    match by_code(SIZE, n, edges, &mut ends) {
+    match by_code(edition, SIZE, n, edges, &mut ends) {
         Looked::Refused(k, p) => Reported {
             answer: Answer::Refused(k, p),
             pairs: 0,
@@ -166,12 +168,12 @@ pub fn cam_by_code(n: usize, edges: &[u8], out: &mut [u8]) -> Reported
 }
 
 // The 0A by code.
-pub fn zero_a_by_code(n: usize, edges: &[u8]) -> ReportedNumber
-    ensures { λ r. ⌜ Reporting (ZeroAByCode n (now (edges .entry))) (centredPairs n (now (edges .entry))) (numbered (r .answer)) (r .pairs) ⌝ }
+pub fn zero_a_by_code(edition: usize, n: usize, edges: &[u8]) -> ReportedNumber
+    ensures { λ r. ⌜ Reporting (ZeroAByCode edition n (now (edges .entry))) (centredPairs n (now (edges .entry))) (numbered (r .answer)) (r .pairs) ⌝ }
 {
     let mut ends = [0u8; limits::ENDS];
     let m = edges.len();
-    match by_code(limits::ZERO_A, n, edges, &mut ends) {
+    match by_code(edition, limits::ZERO_A, n, edges, &mut ends) {
         Looked::Refused(k, p) => ReportedNumber {
             answer: Number::Refused(k, p),
             pairs: 0,
@@ -184,12 +186,12 @@ pub fn zero_a_by_code(n: usize, edges: &[u8]) -> ReportedNumber
 }
 
 // The A0 by code.
-pub fn a_zero_by_code(n: usize, edges: &[u8]) -> ReportedNumber
-    ensures { λ r. ⌜ Reporting (AZeroByCode n (now (edges .entry))) (centredPairs n (now (edges .entry))) (numbered (r .answer)) (r .pairs) ⌝ }
+pub fn a_zero_by_code(edition: usize, n: usize, edges: &[u8]) -> ReportedNumber
+    ensures { λ r. ⌜ Reporting (AZeroByCode edition n (now (edges .entry))) (centredPairs n (now (edges .entry))) (numbered (r .answer)) (r .pairs) ⌝ }
 {
     let mut ends = [0u8; limits::ENDS];
     let m = edges.len();
-    match by_code(limits::A_ZERO, n, edges, &mut ends) {
+    match by_code(edition, limits::A_ZERO, n, edges, &mut ends) {
         Looked::Refused(k, p) => ReportedNumber {
             answer: Number::Refused(k, p),
             pairs: 0,

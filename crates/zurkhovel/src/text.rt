@@ -1,4 +1,5 @@
 // Lines: one, and a text of them.
+use super::editions;
 use super::reported::Reported;
 use limits::SIZE;
 use limits::VALENCE;
@@ -11,17 +12,17 @@ ghost use Rattle.zurkhovel.specs.document.Reported.{Reporting};
 ghost use Rattle.zurkhovel.specs.document.Lines.{ReadLine, WriteLine, ReadText, Counted, ListText};
 
 // The digits of a text's first line, as values.
-pub fn read_line(text: &[u8], out: &mut [u8]) -> Answer
-    ensures { λ r. ⌜ ReadLine (now (text .entry)) (now (out .entry)) (now (out .exit)) (told r) ⌝ }
+pub fn read_line(edition: usize, text: &[u8], out: &mut [u8]) -> Answer
+    ensures { λ r. ⌜ ReadLine edition (now (text .entry)) (now (out .entry)) (now (out .exit)) (told r) ⌝ }
 {
-    lines::read_line(VALENCE, text, out)
+    lines::read_line_of(edition, text, out)
 }
 
 // The line of a skeleton's centred code.
-pub fn write_line(n: usize, edges: &[u8], out: &mut [u8]) -> Reported
-    ensures { λ r. ⌜ Reporting (WriteLine n (now (edges .entry)) (now (out .entry)) (now (out .exit))) (centredPairs n (now (edges .entry))) (told (r .answer)) (r .pairs) ⌝ }
+pub fn write_line(edition: usize, n: usize, edges: &[u8], out: &mut [u8]) -> Reported
+    ensures { λ r. ⌜ Reporting (WriteLine edition n (now (edges .entry)) (now (out .entry)) (now (out .exit))) (centredPairs n (now (edges .entry))) (told (r .answer)) (r .pairs) ⌝ }
 {
-    if let Check::Refuse(k, p) = edge_list::check(SIZE, VALENCE, n, edges, 1) {
+    if let Check::Refuse(k, p) = editions::edges(edition, SIZE, n, edges, 1) {
         return Reported {
             answer: Answer::Refused(k, p),
             pairs: 0,
@@ -45,15 +46,16 @@ pub fn write_line(n: usize, edges: &[u8], out: &mut [u8]) -> Reported
 // A text, line after line: for each line 64 bytes of `records`, one number and one place. It stops where the text ends, or where one of the
 // three has no room for a line more; the caller goes on with the text from `at`.
 pub fn read_text(
+    edition: usize,
     text: &[u8],
     records: &mut [u8],
     numbers: &mut [u8],
     places: &mut [usize],
 ) -> Progress
-    ensures { λ r. ⌜ ReadText (now (text .entry)) (now (records .entry)) (now (numbers .entry)) (now (places .entry))
+    ensures { λ r. ⌜ ReadText edition (now (text .entry)) (now (records .entry)) (now (numbers .entry)) (now (places .entry))
         (now (records .exit)) (now (numbers .exit)) (now (places .exit)) (r .lines) (r .at) ⌝ }
 {
-    lines::read_text(VALENCE, text, records, numbers, places)
+    lines::read_text(edition, text, records, numbers, places)
 }
 
 // How many lines were read as records, and how many were refused.
@@ -83,7 +85,7 @@ pub fn count(numbers: &[u8]) -> Counts
     t
 }
 
-// The listing of a text: the bytes from number `from` on, counted from 0, as many as there is room for; how many that is. Where they are fewer
+// The listing of a text, in edition 1: the bytes from number `from` on, counted from 0, as many as there is room for; how many that is. Where they are fewer
 // than there is room for, the listing ends with them; else a caller goes on from `from` and as many more.
 pub fn list(text: &[u8], from: usize, out: &mut [u8]) -> usize
     ensures { λ r. ⌜ ListText (now (text .entry)) (now (out .entry)) (now (out .exit)) from r ⌝ }

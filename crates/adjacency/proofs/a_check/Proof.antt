@@ -1,5 +1,5 @@
 -- `adjacency::a_check` meets its contract: a check that refuses answers for the whole table, and behind it the edges that are made are checked as an edge list. Assumes nothing.
-use mathlib.Core.Path.{_≡_, refl, sym, ap, _∙_}
+use mathlib.Core.Path.{_≡_, sym, ap, _∙_}
 use Prim.Native.Nat.{ℕ, _-_, _*_, _≤_}
 use lib.ListN.{length}
 use Rattle.refusal.specs.document.Table.{Clear}

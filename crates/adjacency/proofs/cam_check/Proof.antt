@@ -1,5 +1,4 @@
 -- `adjacency::cam_check` meets its contract: a check that refuses answers for the whole table, and behind one that passes the rest does. Assumes nothing.
-use mathlib.Core.Path.{refl}
 use Rattle.refusal.specs.Laws.{stops, goes-on, was-clear, clear-both}
 use borrow.Author.Needs.{needs}
 use Rattle.adjacency.proofs.cam_check.Statement.{statement}

@@ -1,5 +1,5 @@
 -- `adjacency::zero_check` meets its contract: a check that refuses answers for the whole table, and behind it the CAM is written and its edges checked. Assumes nothing.
-use mathlib.Core.Path.{_≡_, refl, sym, ap, _∙_}
+use mathlib.Core.Path.{_≡_, sym, ap, _∙_}
 use Rattle.refusal.specs.Laws.{stops, goes-on, was-clear, clear-one, clear-both, at-least, at-most, size-clear}
 use mathlib.Core.List.{[], _∷_, _++_}
 use Prim.Native.Nat.{ℕ, _-_, _≤_}

@@ -29,7 +29,7 @@ turn : (c : tie.After-step Inv-loop μ-loop)
     → let l = c .before .before .before .before in let a = entered l .args in Turns (a .limit) (bytes (a .s .now)) (c .step .last .1 .1 .1 .1 .1 .0) (l .loop .n) (l .loop .b) (c .step .result)
 turn c =
     let s = entered (looped c) .args .s .now in
-    c .step .ensures (bytes s) (length-bytes s) (looped c .loop .inv) (near-fewer _ (entered (looped c) .pre .0 .1) (c .before .before .digit-at .ensures))
+    c .step .ensures (bytes s) (length-bytes s) (looped c .loop .inv) (near-fewer _ (omega (arith, entered (looped c) .pre .0 .1)) (c .before .before .digit-at .ensures))
 
 pub digits-spec : {M : Type 1} → statement M
 digits-spec =

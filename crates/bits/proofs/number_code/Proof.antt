@@ -1,5 +1,4 @@
 -- `bits::number_code` meets its contract: row 3, row 4, then rows 10 to 12, then 13. Assumes nothing.
-use mathlib.Core.Path.{refl}
 use mathlib.Core.List.{[], _∷_}
 use Prim.Native.Nat.{_-_, _*_}
 use Rattle.refusal.specs.document.Table.{Clear, row3}

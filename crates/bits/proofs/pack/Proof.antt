@@ -5,7 +5,8 @@ use lib.Dec.{lit<, lit≤}
 use native.Mathlib.Nat.{mod-lt}
 use lib.ListN.{length, length-set}
 use lib.Pow.{mod-mod-pow}
-use Rattle.bits.specs.Packing.{Packing, pack-none, pack-room, pack-byte, pack-on, pack-out, pack-last, pack-done}
+use Rattle.limits.specs.Width.{width}
+use Rattle.bits.specs.Packing.{Packing, pack-none, pack-room, pack-bytes, pack-on, pack-last, pack-done}
 use Rattle.bits.proofs.pack.Statement.{statement}
 use Rattle.bits.proofs.pack.Tie as tie
 
@@ -32,9 +33,9 @@ digit-requires : tie.Need-digit-requires Inv-loop μ-loop
 digit-requires c κs = c .loop-test .taken
 
 append-requires : tie.Need-append-requires Inv-loop μ-loop
-append-requires c κs = let p = entered (taken c) .pre in rw (c .digit .ensures) (pack-room (taken c .loop .inv) (p .0) (lit≤ tt) (p .1) (c .before .loop-test .taken))
+append-requires c κs = let p = entered (taken c) .pre in rw (c .digit .ensures) (pack-room (taken c .loop .inv) (p .0) (p .1) (c .before .loop-test .taken) (lit≤ tt))
 
-small : (c : tie.After-append Inv-loop μ-loop) → c .before .digit .result ≤ 6
+small : (c : tie.After-append Inv-loop μ-loop) → c .before .digit .result ≤ width
 small c = omega (arith, c .before .digit .ensures, entered (appended c) .pre .0 .small (appended c .loop .i))
 
 add-c : tie.Need-add-c Inv-loop μ-loop
@@ -46,39 +47,25 @@ add-c-2 c = omega (arith, small c, appended c .loop .inv .few)
 add-i : tie.Need-add-i Inv-loop μ-loop
 add-i c = omega arith
 
-shr-out : tie.Need-shr-out Inv-loop μ-loop
-shr-out c = omega (arith, small (c .before), appended (c .before) .loop .inv .few)
-
-cast-out : tie.Need-cast-out Inv-loop μ-loop
-cast-out c = record { fits = mod-lt _ (lit< tt) }
-
-slice-write-out : tie.Need-slice-write-out Inv-loop μ-loop
-slice-write-out c = let p = entered (appended (c .before)) .pre in pack-byte (appended (c .before) .loop .inv) (p .0) (lit≤ tt) (p .1) (c .before .before .before .loop-test .taken) (rw (c .before .before .digit .ensures) at (c .if1 .taken))
-
-add-m : tie.Need-add-m Inv-loop μ-loop
-add-m c = omega (arith, slice-write-out c)
+put-out-requires : tie.Need-put-out-requires Inv-loop μ-loop
+put-out-requires c κs =
+    let b = c .before in
+    let p = entered (appended b) .pre in (
+      omega (arith, small b, appended b .loop .inv .few),
+      rw (b .before .digit .ensures) (pack-bytes (appended b .loop .inv) (p .0) (p .1) (b .before .before .loop-test .taken)),
+    )
 
 loop-less : tie.Need-loop-less Inv-loop μ-loop
 loop-less c = omega arith
 
 loop-again : tie.Need-loop-again Inv-loop μ-loop
 loop-again c =
-    let p = entered (appended (c .before)) .pre in
-    let k = c .before .before .digit .ensures in
+    let b = c .before .before .before .before in
+    let p = entered (appended b) .pre in
+    let k = b .before .digit .ensures in
     rw k
-    (pack-out (appended (c .before) .loop .inv) (p .0) (lit≤ tt) (p .1) (c .before .before .before .loop-test .taken) (c .before .append .result)
-    (rw k at (c .before .append .ensures)) (rw k at (c .if1 .taken)))
-
-loop-less-2 : tie.Need-loop-less-2 Inv-loop μ-loop
-loop-less-2 c = omega arith
-
-loop-again-2 : tie.Need-loop-again-2 Inv-loop μ-loop
-loop-again-2 c =
-    let p = entered (appended (c .before)) .pre in
-    let k = c .before .before .digit .ensures in
-    rw k
-    (pack-on (appended (c .before) .loop .inv) (p .0) (lit≤ tt) (p .1) (c .before .before .before .loop-test .taken) (c .before .append .result)
-    (rw k at (c .before .append .ensures)) (rw k at (c .if1 .left)))
+    (pack-on (appended b .loop .inv) (p .0) (p .1) (b .before .before .loop-test .taken) (b .append .result) (rw k at (b .append .ensures))
+    (rw k at (c .before .before .put-out .ensures)))
 
 sub-out : tie.Need-sub-out Inv-loop μ-loop
 sub-out c = omega (arith, c .before .loop .inv .few)
@@ -86,23 +73,23 @@ sub-out c = omega (arith, c .before .loop .inv .few)
 shl-out : tie.Need-shl-out Inv-loop μ-loop
 shl-out c = omega arith
 
-cast-out-2 : tie.Need-cast-out-2 Inv-loop μ-loop
-cast-out-2 c = record { fits = mod-lt _ (lit< tt) }
+cast-out : tie.Need-cast-out Inv-loop μ-loop
+cast-out c = record { fits = mod-lt _ (lit< tt) }
 
-slice-write-out-2 : tie.Need-slice-write-out-2 Inv-loop μ-loop
-slice-write-out-2 c = let p = entered (c .before) .pre in pack-last (c .before .loop .inv) (p .0) (lit≤ tt) (p .1) (c .loop-test .left)
+slice-write-out : tie.Need-slice-write-out Inv-loop μ-loop
+slice-write-out c = let p = entered (c .before) .pre in pack-last (c .before .loop .inv) (p .0) (p .1) (c .loop-test .left)
 
 add-result : tie.Need-add-result Inv-loop μ-loop
-add-result c = omega (arith, slice-write-out-2 c)
+add-result c = omega (arith, slice-write-out c)
 
 same-length : tie.Need-same-length Inv-loop μ-loop
-same-length c = simp length-set (c .before .loop .inv .size)
+same-length c = simp length-set (c .before .loop .inv .stored .size)
 
 returns : tie.Need-returns Inv-loop μ-loop
 returns c =
     let p = entered (c .before) .pre in
     let l = c .before .loop in
-    rw (mod-mod-pow (l .a * 2 ^ (8 - l .c)) 56 8) (pack-done (l .inv) (p .0) (lit≤ tt) (p .1) (c .loop-test .left))
+    rw (mod-mod-pow (l .a * 2 ^ (8 - l .c)) 56 8) (pack-done (l .inv) (p .0) (p .1) (c .loop-test .left))
 
 pub pack-spec : {M : Type 1} → statement M
 pack-spec =
@@ -116,18 +103,13 @@ pack-spec =
     add-c
     add-c-2
     add-i
-    shr-out
-    cast-out
-    slice-write-out
-    add-m
+    put-out-requires
     loop-less
     loop-again
-    loop-less-2
-    loop-again-2
     sub-out
     shl-out
-    cast-out-2
-    slice-write-out-2
+    cast-out
+    slice-write-out
     add-result
     same-length
     returns)

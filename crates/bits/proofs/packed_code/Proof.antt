@@ -1,5 +1,4 @@
 -- `bits::packed_code` meets its contract: row 3, then rows 10 to 12, then 13. Assumes nothing.
-use mathlib.Core.Path.{refl}
 use mathlib.Core.List.{[], _∷_}
 use lib.ListN.{length}
 use Rattle.refusal.specs.document.Table.{Clear, row3}

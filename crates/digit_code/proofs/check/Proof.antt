@@ -1,5 +1,4 @@
 -- `digit_code::check` meets its contract: its checks answer for the table's rows in order. Assumes nothing.
-use mathlib.Core.Path.{refl}
 use denote.Ref.{now}
 use borrow.Author.Needs.{needs}
 use Rattle.refusal.specs.Laws.{stops, goes-on, was-clear, at-most}

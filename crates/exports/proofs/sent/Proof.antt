@@ -1,6 +1,7 @@
 -- `exports::sent` meets its contract. Assumes nothing.
 use native.Mathlib.Omega.{arith}
 use borrow.Author.Needs.{needs}
+use Rattle.exports.specs.Unpacked.{few-lists}
 use Rattle.exports.proofs.sent.Statement.{statement}
 use Rattle.exports.proofs.sent.Tie as tie
 
@@ -11,6 +12,6 @@ sent-spec =
     (λ c. search needs)
     (λ c. let h = rw (c .before .answer .given .1) at (c .before .before .before .pre) in record { fits = omega (arith, h) })
     (λ c. search needs)
-    (λ c κs. let h = rw (c .before .answer2 .given .1) at (c .before .before .before .pre) in (h .0 .0 .0, h .0 .0 .1, h .1))
+    (λ c κs. let h = rw (c .before .answer2 .given .1) at (c .before .before .before .pre) in (few-lists (h .0), h .1))
     (λ c. search needs)
     (λ c. rw (c .before .before .answer2 .given .1) (c .refused-of .ensures)))

@@ -1,6 +1,6 @@
 -- Document 02, wish 1: "Each returns refusal number and place packed in one whole number, 256 times the number plus the place. On success
 -- the number is 0 and the place is the bytes written, or for the verdict 1 (same) or 0; a refusal of the second list adds 65,536." One of the map of two
--- lists (wish 4) adds 131,072.
+-- lists (wish 4) adds 131,072, and 22 (wish 8), which belongs to none of them, nothing.
 --
 -- In order: the whole number of an answer; the promise of a C function, which is that of the call behind it, for a call that writes or only
 -- checks, for the verdict, for a call on maps, and for a call that is asked for a value; how the whole number is taken apart. That this reads the answer back,
@@ -10,7 +10,7 @@ use mathlib.Core.Path.{_≡_}
 use mathlib.Core.Bool.{Bool, true, false}
 use mathlib.Core.Logic.{ite}
 use Prim.Native.Nat.{ℕ, _+_, _-_, _*_, _/_, _%_}
-use native.Mathlib.Decide.{decLt}
+use native.Mathlib.Decide.{decLt, ℕ-discrete}
 use lib.Dec.{eqb}
 use Rattle.refusal.specs.document.Table.{OutcomeOf, Outcome, gives, refuses}
 use Rattle.refusal.specs.document.Small.{byteValues}
@@ -35,7 +35,7 @@ abbrev pub truth : Bool → ℕ
 truth true = 1
 truth false = 0
 
--- "a refusal of the second list adds 65,536", and so twice as much one of the map, which is called 3
+-- "a refusal of the second list adds 65,536", and so twice as much one of the map, which is called 3; 22, which is called 0, adds nothing
 abbrev pub withList : ℕ × ℕ → ℕ
 withList (i, k) = byteValues * (i - 1) + k
 
@@ -64,9 +64,9 @@ numberIn r = r / byteValues % byteValues
 abbrev pub placeIn : ℕ → ℕ
 placeIn r = r % byteValues
 
--- the list that is refused, or 3 for the map
+-- the list that is refused, or 3 for the map; 22 is told by its number
 abbrev pub listIn : ℕ → ℕ
-listIn r = r / (byteValues * byteValues) + 1
+listIn r = ite (ℕ-discrete (numberIn r) 22) 0 (r / (byteValues * byteValues) + 1)
 
 -- the answer that a whole number tells, of a call that writes or only checks
 abbrev pub unpacked : ℕ → Outcome ℕ

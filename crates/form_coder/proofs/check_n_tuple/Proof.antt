@@ -1,5 +1,4 @@
 -- `form_coder::check_n_tuple` meets its contract. Assumes nothing.
-use mathlib.Core.Path.{refl}
 use borrow.Author.Needs.{needs}
 use Rattle.refusal.specs.Laws.{stops, goes-on, was-clear}
 use Rattle.digit_code.specs.Right.{clear-right}

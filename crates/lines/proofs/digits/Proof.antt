@@ -5,7 +5,7 @@ use borrow.Author.Needs.{needs}
 use lib.ListN.{length}
 use Rattle.lines.specs.Form.{all, not-all}
 use Rattle.lines.specs.document.Marks.{WrittenDigit}
-use Rattle.lines.specs.Each.{Passed, passed-more, passed-all}
+use Rattle.texts.specs.Each.{Passed, passed-more, passed-all}
 use Rattle.lines.proofs.Forming.{is-figure, some-other}
 use Rattle.lines.proofs.digits.Statement.{statement}
 use Rattle.lines.proofs.digits.Tie as tie

@@ -2,8 +2,8 @@
 use Prim.Native.Nat.{_-_}
 use native.Mathlib.Omega.{arith}
 use lib.ListN.{length}
-use Rattle.lines.specs.document.Line.{Other}
-use Rattle.lines.specs.Each.{Passed, passed-more}
+use Rattle.texts.specs.document.Bytes.{Other}
+use Rattle.texts.specs.Each.{Passed, passed-more}
 use Rattle.lines.proofs.feed.Statement.{statement}
 use Rattle.lines.proofs.feed.Tie as tie
 

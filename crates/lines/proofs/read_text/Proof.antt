@@ -7,16 +7,15 @@ use mir.Val.{Fits}
 use borrow.Author.Count.{falls}
 use borrow.Author.Needs.{needs}
 use Rattle.limits.specs.document.Limits.{size}
-use Rattle.lines.specs.Turns.{read-none}
-use Rattle.lines.proofs.Passing.{Going, lengths, room-now, fits, not-past, at-end, no-room, going-more}
+use Rattle.lines.proofs.Passing.{Going, none-read, lengths, room-now, fits, not-past, at-end, no-room, going-more}
 use Rattle.lines.proofs.read_text.Statement.{statement}
 use Rattle.lines.proofs.read_text.Tie as tie
 
 abbrev Inv-loop : tie.InvT-loop
-Inv-loop limit text records₀ numbers₀ places₀ lines k₀ at₀ records numbers places k at = Going limit text records₀ numbers₀ places₀ lines records numbers places k at
+Inv-loop edition text records₀ numbers₀ places₀ lines k₀ at₀ records numbers places k at = Going edition text records₀ numbers₀ places₀ lines records numbers places k at
 
 abbrev μ-loop : tie.MeasureT-loop
-μ-loop limit text records₀ numbers₀ places₀ lines k₀ at₀ records numbers places k at = lines - k
+μ-loop edition text records₀ numbers₀ places₀ lines k₀ at₀ records numbers places k at = lines - k
 
 -- room for the lines was counted
 abbrev lent : tie.After-room Inv-loop μ-loop → tie.Start Inv-loop μ-loop
@@ -26,10 +25,10 @@ lent c = c .before .before .before .before .before
 abbrev behind : tie.After-behind Inv-loop μ-loop → tie.After-note Inv-loop μ-loop
 behind c = c .before .before .before .before .before
 
-abbrev noted : tie.After-note Inv-loop μ-loop → tie.After-read-line Inv-loop μ-loop
+abbrev noted : tie.After-note Inv-loop μ-loop → tie.After-read-line-of Inv-loop μ-loop
 noted c = c .before .before .before .before .before
 
-abbrev read : tie.After-read-line Inv-loop μ-loop → tie.Else1 Inv-loop μ-loop
+abbrev read : tie.After-read-line-of Inv-loop μ-loop → tie.Else1 Inv-loop μ-loop
 read c = c .before .before .before
 
 abbrev turn : tie.Else1 Inv-loop μ-loop → tie.In-loop Inv-loop μ-loop
@@ -54,7 +53,7 @@ loop-again c =
     let n = behind c in
     let r = noted n in
     let e = read r in
-    going-more (e .before .before .loop .inv) (e .before .loop-test .taken) (e .if1 .left) (r .read-line .ensures) (n .note .ensures) (c .behind .ensures)
+    going-more (e .before .before .loop .inv) (e .before .loop-test .taken) (e .if1 .left) (r .read-line-of .ensures) (n .note .ensures) (c .behind .ensures)
 
 pub read-text-spec : {M : Type 1} → statement M
 read-text-spec =
@@ -63,7 +62,7 @@ read-text-spec =
     Inv-loop
     μ-loop
     (λ c κs. search needs)
-    (λ c. record { read = read-none size _; room = c .room .ensures; below = omega arith })
+    (λ c. record { read = none-read _ _ _ _ _; room = c .room .ensures; below = omega arith })
     (λ c. lengths (c .before .before .loop .inv) .0)
     (λ c. lengths (c .before .before .loop .inv) .1)
     (λ c. lengths (c .before .before .loop .inv) .2)

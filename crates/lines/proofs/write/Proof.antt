@@ -4,7 +4,7 @@ use Prim.Native.Nat.{_+_, _^_, _≤_, _<_}
 use native.Mathlib.Omega.{arith}
 use borrow.Author.Needs.{needs}
 use lib.ListN.{length, length-set}
-use Rattle.lines.specs.Bodies.{length-line}
+use Rattle.lines.specs.Plain.{length-line}
 use Rattle.lines.proofs.Writing.{sizes, room-behind, long-joined, long-written, line-written}
 use Rattle.lines.proofs.write.Statement.{statement}
 use Rattle.lines.proofs.write.Tie as tie

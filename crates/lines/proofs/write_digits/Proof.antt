@@ -3,8 +3,8 @@ use Prim.Native.Nat.{_+_, _-_}
 use native.Mathlib.Omega.{arith}
 use lib.ListN.{length}
 use Rattle.laws.specs.Laying.{Mapped, mapped-none, mapped-more, mapped-all}
-use Rattle.lines.specs.document.Line.{Digit, figures}
-use Rattle.lines.specs.Each.{each-at}
+use Rattle.texts.specs.document.Numerals.{Digit, figures}
+use Rattle.texts.specs.Each.{each-at}
 use Rattle.lines.proofs.write_digits.Statement.{statement}
 use Rattle.lines.proofs.write_digits.Tie as tie
 

@@ -2,14 +2,20 @@
 use native.Mathlib.Omega.{arith}
 use borrow.Author.Needs.{needs}
 use Rattle.limits.specs.document.Limits.{size}
+use mathlib.Core.Path.{refl}
+use mathlib.Core.List.{[], _∷_}
+use Rattle.texts.specs.Taking.{line-read}
+use Rattle.lines.specs.document.Line.{plainLines}
 use Rattle.lines.specs.document.Judged.{digitTable}
-use Rattle.lines.specs.Taking.{line-read}
+use Rattle.lines.specs.document.Reading.{digitsLent}
+use Rattle.lines.specs.Plain.{plain-once, plain-few}
 use Rattle.listing_text.proofs.first.Statement.{statement}
 use Rattle.listing_text.proofs.first.Tie as tie
 
 returns : tie.Need-returns
 returns c =
-    let r = line-read size (digitTable (c .before .before .before .before .args .limit)) (omega arith) (c .before .read-line .ensures) in
+    let R = c .before .before .before .before .args .limit in
+    let r = line-read (plainLines size (digitTable R)) (digitsLent size) plain-once (plain-few size (digitTable R)) (_ ∷ []) (omega arith, tt) (refl, tt) (c .before .read-line .ensures) in
     record { answer = r .answer; line = r .line; tells = r .told }
 
 pub first-spec : {M : Type 1} → statement M

@@ -4,7 +4,7 @@
 -- in a line feed, `input too long` too."
 --
 -- In order: a number as it is written; the line for an answer; the last line; the listing of a text; the promise of a call that writes
--- a piece of it. What answers a text is `TextAnswers` of lines. Assumes nothing.
+-- a piece of it. What answers a text is `TextAnswers` of plain lines. Assumes nothing.
 use mathlib.Core.Path.{_≡_}
 use mathlib.Core.Logic.{ite}
 use mathlib.Core.List.{List, [], _∷_, _++_}
@@ -13,8 +13,9 @@ use native.Mathlib.Decide.{decLt}
 use lib.ListN.{length, take, drop}
 use Rattle.laws.specs.document.Laid.{Laid}
 use Rattle.refusal.specs.document.Table.{Outcome, gives, refuses}
-use Rattle.lines.specs.document.Line.{DigitRow, TextAnswers, Reply}
-use Rattle.lines.specs.document.Damage.{records, refusals}
+use Rattle.texts.specs.document.Text.{TextAnswers}
+use Rattle.texts.specs.document.Damage.{records, refusals}
+use Rattle.lines.specs.document.Line.{DigitRow, plainLines, Reply}
 
 -- bytes of an input, at most
 abbrev pub longest : ℕ
@@ -81,7 +82,7 @@ module _ (most : ℕ) (rows : List DigitRow) where
   -- l is the listing of the text t
   pub data Listing (t l : List ℕ) : Type 0 where
     longer : longest < length t → l ≡ tooLong → Listing t l
-    lines : (os : List Reply) → length t ≤ longest → TextAnswers most rows t os → l ≡ listed os → Listing t l
+    lines : (os : List Reply) → length t ≤ longest → TextAnswers (plainLines most rows) t os → l ≡ listed os → Listing t l
 
   -- what is lent holds the listing of t from byte `from` on, as much as it has room for, which is n bytes; bytes count from 0
   pub record Lists (t old new : List ℕ) (from n : ℕ) : Type 0 where

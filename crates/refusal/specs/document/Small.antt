@@ -1,9 +1,7 @@
 -- What a call tells fits into bytes: so it can be told as one number, 256 times a refusal's number plus the place.
 --
--- In order: a refusal's number, with its list where a call has two; an outcome; that of a call that writes or only checks, and that of a call
+-- In order: a refusal's number; an outcome; that of a call that writes or only checks, and that of a call
 -- which is asked for a value. Assumes nothing.
-use mathlib.Core.Path.{_≡_}
-use mathlib.Core.Logic.{_⊎_}
 use Prim.Native.Nat.{ℕ, _≤_, _<_}
 use Rattle.refusal.specs.document.Table.{OutcomeOf, Outcome, gives, refuses}
 
@@ -14,10 +12,6 @@ byteValues = 256
 -- a refusal's number is 1 to 255
 abbrev pub SmallNumber : ℕ → Type 0
 SmallNumber k = (1 ≤ k) × (k < byteValues)
-
--- so is that of list 1 or 2
-abbrev pub SmallOfList : ℕ × ℕ → Type 0
-SmallOfList (i, k) = ((i ≡ 1) ⊎ (i ≡ 2)) × SmallNumber k
 
 -- Value holds of the value that is given; Number holds of a refusal's number, and its place is below 256
 abbrev pub Small : {K A : Type 0} → (K → Type 0) → (A → Type 0) → OutcomeOf K A → Type 0

@@ -1,8 +1,8 @@
 -- The promises of the calls on the bit-tuple's three forms, as in `Codes`: which rows of document 01's table each judges, and what it
 -- gives where none applies.
 --
--- In order: the rooted code at the vertex r of N vertices and the edge list E in each form; each form read into edges. s: packed
--- bytes; n, v: N and the whole number beside it; x: the fraction; old, new: the lent output before and after; o: the answer.
+-- In order: the rooted code at the vertex r of N vertices and the edge list E in each form; each form read into edges. e: the
+-- edition; s: packed bytes; n, v: N and the whole number beside it; x: the fraction; old, new: the lent output before and after; o: the answer.
 -- Assumes nothing.
 use mathlib.Core.Path.{_≡_}
 use mathlib.Core.Bool.{Bool}
@@ -10,40 +10,41 @@ use mathlib.Core.List.{List}
 use Prim.Native.Nat.{ℕ, _-_, _*_}
 use lib.Ieee.{Float}
 use Rattle.refusal.specs.document.Table.{Outcome, Answered, Gives}
-use Rattle.limits.specs.document.Limits.{size, valence, packedBytes, wholeSize, fractionSize}
+use Rattle.limits.specs.document.Limits.{size, wholeSize, fractionSize}
 use Rattle.digit_code.specs.document.Code.{decode}
-use Rattle.bits.specs.document.Bits.{bytes, word, Fill, Nothing, Zeros, Reads, packedRows, wholeRows}
+use Rattle.bits.specs.document.Bits.{bytes, word, Fill, Nothing, Zeros, Reads}
 use Rattle.bits.specs.document.Written.{Packs, Numbers}
-use Rattle.fraction.specs.document.Fraction.{IsFraction, bitsOf, fractionRows}
+use Rattle.fraction.specs.document.Fraction.{IsFraction, bitsOf}
 use Rattle.skeleton.specs.document.Skeleton.{rooted}
-use Rattle.edge_list.specs.document.Edges.{edgeRows}
+use Rattle.edition.specs.document.Edition.{neighboursIn}
+use Rattle.zurkhovel.specs.document.InEdition.{edgeTable, packedTable, wholeTable, fractionTable}
 
 -- the packed form
-abbrev pub Pack : ℕ → List ℕ → ℕ → List ℕ → List ℕ → Outcome ℕ → Type 0
-Pack N E r old new o = Gives (edgeRows size valence N E r) (Packs (rooted N E r)) old new o
+abbrev pub Pack : ℕ → ℕ → List ℕ → ℕ → List ℕ → List ℕ → Outcome ℕ → Type 0
+Pack e N E r old new o = Gives (edgeTable e size N E r) (Packs (rooted N E r)) old new o
 
 -- the whole number
-abbrev pub Whole : ℕ → List ℕ → ℕ → Outcome ℕ → Type 0
-Whole N E r o = Answered (edgeRows wholeSize valence N E r) (Numbers (rooted N E r)) o
+abbrev pub Whole : ℕ → ℕ → List ℕ → ℕ → Outcome ℕ → Type 0
+Whole e N E r o = Answered (edgeTable e wholeSize N E r) (Numbers (rooted N E r)) o
 
 -- the fraction
-abbrev pub InFraction : ℕ → List ℕ → ℕ → Outcome Float → Type 0
-InFraction N E r o = Answered (edgeRows fractionSize valence N E r) (IsFraction (rooted N E r)) o
+abbrev pub InFraction : ℕ → ℕ → List ℕ → ℕ → Outcome Float → Type 0
+InFraction e N E r o = Answered (edgeTable e fractionSize N E r) (IsFraction (rooted N E r)) o
 
--- E: the edges of the right code that the bits carry, with nothing behind it but what May allows
-pub record Decodes (May : List Bool → Type 0) (bs : List Bool) (E : List ℕ) : Type 0 where
+-- E: the edges of the right code, for at most R neighbours, that the bits carry, with nothing behind it but what May allows
+pub record Decodes (R : ℕ) (May : List Bool → Type 0) (bs : List Bool) (E : List ℕ) : Type 0 where
   pub code : List ℕ
-  pub reads : Reads valence May bs code
+  pub reads : Reads R May bs code
   pub edges : E ≡ decode code
 
 -- the edges of a packed code
-abbrev pub Unpack : List ℕ → List ℕ → List ℕ → Outcome ℕ → Type 0
-Unpack s old new o = Gives (packedRows packedBytes valence s) (Decodes Fill (bytes s)) old new o
+abbrev pub Unpack : ℕ → List ℕ → List ℕ → List ℕ → Outcome ℕ → Type 0
+Unpack e s old new o = Gives (packedTable e s) (Decodes (neighboursIn e) Fill (bytes s)) old new o
 
 -- the edges of a whole number
-abbrev pub Unwhole : ℕ → ℕ → List ℕ → List ℕ → Outcome ℕ → Type 0
-Unwhole n v old new o = Gives (wholeRows wholeSize valence n v) (Decodes Nothing (word (2 * n - 1) v)) old new o
+abbrev pub Unwhole : ℕ → ℕ → ℕ → List ℕ → List ℕ → Outcome ℕ → Type 0
+Unwhole e n v old new o = Gives (wholeTable e n v) (Decodes (neighboursIn e) Nothing (word (2 * n - 1) v)) old new o
 
 -- the edges of a fraction
-abbrev pub Unfraction : Float → List ℕ → List ℕ → Outcome ℕ → Type 0
-Unfraction x old new o = Gives (fractionRows valence x) (Decodes Zeros (bitsOf x)) old new o
+abbrev pub Unfraction : ℕ → Float → List ℕ → List ℕ → Outcome ℕ → Type 0
+Unfraction e x old new o = Gives (fractionTable e x) (Decodes (neighboursIn e) Zeros (bitsOf x)) old new o

@@ -3,10 +3,10 @@
 -- order, and loses at most two of them. After damage of any size, take a line feed of the clean text that survived, with all text behind it
 -- unharmed to the end: the lines behind it are answered as in the clean text."
 --
--- In order: the clean text, and the records written; what a caller sees of a text that is read in turns; what the clean text is answered;
+-- All of it is said within an edition, e. In order: the clean text, and the records written; what a caller sees of a text that is read in turns; what the clean text is answered;
 -- the first sentence; the second; that a caller reaches the end of a text. A statement is an abbreviation here, as `OneByteChanged`, and is
 -- proved in `Demanded`, there `one-byte-changed`. What one changed byte is (`Change`), and records among others in their order (`Among`), is in
--- `Damage` of the crate `lines`. Assumes nothing.
+-- `Damage` of the crate `texts`. Assumes nothing.
 use mathlib.Core.Path.{_≡_}
 use mathlib.Core.Logic.{ite}
 use mathlib.Core.List.{List, [], _∷_, _++_, map}
@@ -15,52 +15,53 @@ use native.Mathlib.Decide.{ℕ-discrete}
 use lib.ListN.{length, getD, take, drop, replicate}
 use Rattle.refusal.specs.document.Table.{Clear, Outcome, gives}
 use Rattle.refusal.specs.document.Given.{Given}
-use Rattle.limits.specs.document.Limits.{size, valence}
-use Rattle.edge_list.specs.document.Edges.{edgeRows}
+use Rattle.limits.specs.document.Limits.{size}
+use Rattle.edition.specs.document.Edition.{IsEdition}
 use Rattle.form.specs.document.Form.{centred}
+use Rattle.texts.specs.document.Damage.{Change, Among}
 use Rattle.lines.specs.document.Line.{line, written}
-use Rattle.lines.specs.document.Damage.{Change, Among}
+use Rattle.zurkhovel.specs.document.InEdition.{edgeTable}
 use Rattle.zurkhovel.specs.document.Lines.{WriteLine, ReadText, Counted}
 
 -- ---- the clean text
 
 -- The clean text of skeletons: the n bytes that `write_line` gives for each, one behind the other. The records written are their centred
 -- codes.
-pub data Clean : List ℕ → List (List ℕ) → Type 0 where
-  none : Clean [] []
+pub data Clean (e : ℕ) : List ℕ → List (List ℕ) → Type 0 where
+  none : Clean e [] []
   one-more :
-      {N n : ℕ} {E old new c t : List ℕ} {cs : List (List ℕ)} → WriteLine N E old new (gives n) → centred N E c → Clean t cs
-      → Clean (take n new ++ t) (c ∷ cs)
+      {N n : ℕ} {E old new c t : List ℕ} {cs : List (List ℕ)} → WriteLine e N E old new (gives n) → centred N E c → Clean e t cs
+      → Clean e (take n new ++ t) (c ∷ cs)
 
 -- the edge list E of N vertices is accepted
-abbrev pub AcceptedList : ℕ → List ℕ → Type 0
-AcceptedList N E = Clear (edgeRows size valence N E 1)
+abbrev pub AcceptedList : ℕ → ℕ → List ℕ → Type 0
+AcceptedList e N E = Clear (edgeTable e size N E 1)
 
 -- what `write_line` gives is the line of the centred code of an accepted edge list
-abbrev pub GivesALine : Type 0
-GivesALine =
-    (N : ℕ) (E old new : List ℕ) (n : ℕ) → WriteLine N E old new (gives n)
-    → AcceptedList N E × ((c : List ℕ) × centred N E c × (take n new ≡ line c))
+abbrev pub GivesALine : ℕ → Type 0
+GivesALine e =
+    (N : ℕ) (E old new : List ℕ) (n : ℕ) → WriteLine e N E old new (gives n)
+    → AcceptedList e N E × ((c : List ℕ) × centred N E c × (take n new ≡ line c))
 
 -- and for every accepted edge list it gives that line, where 68 bytes are lent
-abbrev pub GivesEachLine : Type 0
-GivesEachLine =
-    (N : ℕ) (E old new : List ℕ) (o : Outcome ℕ) → AcceptedList N E → 68 ≤ length old → WriteLine N E old new o
+abbrev pub GivesEachLine : ℕ → Type 0
+GivesEachLine e =
+    (N : ℕ) (E old new : List ℕ) (o : Outcome ℕ) → AcceptedList e N E → 68 ≤ length old → WriteLine e N E old new o
     → (c : List ℕ) × centred N E c × Given (line c) old new o
 
 -- so the clean text is a line for each record written
-abbrev pub CleanLines : Type 0
-CleanLines = (t : List ℕ) (cs : List (List ℕ)) → Clean t cs → t ≡ written cs
+abbrev pub CleanLines : ℕ → Type 0
+CleanLines e = (t : List ℕ) (cs : List (List ℕ)) → Clean e t cs → t ≡ written cs
 
 -- ---- what a caller sees
 
 -- The text u is read in turns to its end: each turn is a call of `read_text` that goes on at the last one's `at`. Of k lines that a turn
 -- reads, the caller sees k numbers, k places and 64 * k bytes; ns, ps and bs are those of all turns.
-pub data InTurns : List ℕ → List ℕ → List ℕ → List ℕ → Type 0 where
-  ended : InTurns [] [] [] []
+pub data InTurns (e : ℕ) : List ℕ → List ℕ → List ℕ → List ℕ → Type 0 where
+  ended : InTurns e [] [] [] []
   turn :
-      {u rec num pla rec′ num′ pla′ ns ps bs : List ℕ} {k at : ℕ} → ReadText u rec num pla rec′ num′ pla′ k at → InTurns (drop at u) ns ps bs
-      → InTurns u (take k num′ ++ ns) (take k pla′ ++ ps) (take (64 * k) rec′ ++ bs)
+      {u rec num pla rec′ num′ pla′ ns ps bs : List ℕ} {k at : ℕ} → ReadText e u rec num pla rec′ num′ pla′ k at → InTurns e (drop at u) ns ps bs
+      → InTurns e u (take k num′ ++ ns) (take k pla′ ++ ps) (take (64 * k) rec′ ++ bs)
 
 -- the records handed out: where a number is 0, the first bytes of the line's 64, as many as its place says
 unfoldable pub handedOut : List ℕ → List ℕ → List ℕ → List (List ℕ)
@@ -70,15 +71,15 @@ handedOut (zero ∷ ns) (p ∷ ps) bs = take p (take 64 bs) ∷ handedOut ns ps 
 handedOut (suc n ∷ ns) (p ∷ ps) bs = handedOut ns ps (drop 64 bs)
 
 -- one call that reads a text to its end is a turn
-abbrev pub OneCall : Type 0
-OneCall =
-    (u rec num pla rec′ num′ pla′ : List ℕ) (k at : ℕ) → ReadText u rec num pla rec′ num′ pla′ k at → at ≡ length u
-    → InTurns u (take k num′) (take k pla′) (take (64 * k) rec′)
+abbrev pub OneCall : ℕ → Type 0
+OneCall e =
+    (u rec num pla rec′ num′ pla′ : List ℕ) (k at : ℕ) → ReadText e u rec num pla rec′ num′ pla′ k at → at ≡ length u
+    → InTurns e u (take k num′) (take k pla′) (take (64 * k) rec′)
 
 -- whatever is lent for each turn, the numbers, the places and the records handed out are the same
-abbrev pub TurnsAgree : Type 0
-TurnsAgree =
-    (u ns ps bs ns′ ps′ bs′ : List ℕ) → InTurns u ns ps bs → InTurns u ns′ ps′ bs′
+abbrev pub TurnsAgree : ℕ → Type 0
+TurnsAgree e =
+    (u ns ps bs ns′ ps′ bs′ : List ℕ) → InTurns e u ns ps bs → InTurns e u ns′ ps′ bs′
     → (ns ≡ ns′) × (ps ≡ ps′) × (handedOut ns ps bs ≡ handedOut ns′ ps′ bs′)
 
 -- what `count` tells of each turn's numbers adds up to what it tells of all
@@ -95,8 +96,8 @@ pub record Unharmed (cs : List (List ℕ)) (ns ps bs : List ℕ) : Type 0 where
   pub counts : (read refused : ℕ) → Counted ns read refused → (read ≡ length cs) × (refused ≡ 0)
 
 -- the clean text is answered so, in whatever turns it is read
-abbrev pub CleanText : Type 0
-CleanText = (t ns ps bs : List ℕ) (cs : List (List ℕ)) → Clean t cs → InTurns t ns ps bs → Unharmed cs ns ps bs
+abbrev pub CleanText : ℕ → Type 0
+CleanText e = IsEdition e → (t ns ps bs : List ℕ) (cs : List (List ℕ)) → Clean e t cs → InTurns e t ns ps bs → Unharmed cs ns ps bs
 
 -- ---- the first sentence
 
@@ -109,19 +110,19 @@ pub record Survives (cs : List (List ℕ)) (ns ps bs : List ℕ) : Type 0 where
   pub counts : (read refused : ℕ) → Counted ns read refused → (read ≡ length (handedOut ns ps bs)) × (1 ≤ refused)
 
 -- so is a text in which one byte of the clean text was changed
-abbrev pub OneByteChanged : Type 0
-OneByteChanged = (t u ns ps bs : List ℕ) (cs : List (List ℕ)) → Clean t cs → Change t u → InTurns u ns ps bs → Survives cs ns ps bs
+abbrev pub OneByteChanged : ℕ → Type 0
+OneByteChanged e = IsEdition e → (t u ns ps bs : List ℕ) (cs : List (List ℕ)) → Clean e t cs → Change t u → InTurns e u ns ps bs → Survives cs ns ps bs
 
 -- ---- the second sentence
 
 -- Behind the line feed stands y, the clean text of the last records, `behind`. The last answers are these, as in the clean text: a 0 for each,
 -- and the record handed out. What is seen before them is what a caller sees who reads z, all that stands before, and the line feed by
 -- themselves.
-pub record AnsweredBehind (cs : List (List ℕ)) (y z ns ps bs : List ℕ) : Type 0 where
+pub record AnsweredBehind (e : ℕ) (cs : List (List ℕ)) (y z ns ps bs : List ℕ) : Type 0 where
   pub earlier : List (List ℕ)
   pub behind : List (List ℕ)
   pub parts : cs ≡ earlier ++ behind
-  pub clean : Clean y behind
+  pub clean : Clean e y behind
   pub numbers-before : List ℕ
   pub places-before : List ℕ
   pub handed-before : List (List ℕ)
@@ -129,14 +130,14 @@ pub record AnsweredBehind (cs : List (List ℕ)) (y z ns ps bs : List ℕ) : Typ
   pub places : ps ≡ places-before ++ map length behind
   pub handed : handedOut ns ps bs ≡ handed-before ++ behind
   pub by-itself :
-      (ns′ ps′ bs′ : List ℕ) → InTurns (z ++ (10 ∷ [])) ns′ ps′ bs′
+      (ns′ ps′ bs′ : List ℕ) → InTurns e (z ++ (10 ∷ [])) ns′ ps′ bs′
       → (ns′ ≡ numbers-before) × (ps′ ≡ places-before) × (handedOut ns′ ps′ bs′ ≡ handed-before)
 
 -- of the clean text a line feed is left with y behind it, and anything, z, before it
-abbrev pub AnyDamage : Type 0
-AnyDamage =
-    (x y z ns ps bs : List ℕ) (cs : List (List ℕ)) → Clean (x ++ (10 ∷ y)) cs → InTurns (z ++ (10 ∷ y)) ns ps bs
-    → AnsweredBehind cs y z ns ps bs
+abbrev pub AnyDamage : ℕ → Type 0
+AnyDamage e =
+    IsEdition e → (x y z ns ps bs : List ℕ) (cs : List (List ℕ)) → Clean e (x ++ (10 ∷ y)) cs → InTurns e (z ++ (10 ∷ y)) ns ps bs
+    → AnsweredBehind e cs y z ns ps bs
 
 -- ---- reaching the end
 
@@ -147,17 +148,17 @@ linesIn (b ∷ []) = 1
 linesIn (b ∷ c ∷ t) = ite (ℕ-discrete b 10) 1 0 + linesIn (c ∷ t)
 
 -- each line is answered once
-abbrev pub AnswersEachLine : Type 0
-AnswersEachLine = (u ns ps bs : List ℕ) → InTurns u ns ps bs → length ns ≡ linesIn u
+abbrev pub AnswersEachLine : ℕ → Type 0
+AnswersEachLine e = (u ns ps bs : List ℕ) → InTurns e u ns ps bs → length ns ≡ linesIn u
 
 -- a caller who lends 64 bytes, a number and a place for each line reaches the end in one call
-abbrev pub ReachesTheEnd : Type 0
-ReachesTheEnd =
-    (u rec num pla rec′ num′ pla′ : List ℕ) (k at : ℕ) → ReadText u rec num pla rec′ num′ pla′ k at → 64 * linesIn u ≤ length rec
+abbrev pub ReachesTheEnd : ℕ → Type 0
+ReachesTheEnd e =
+    (u rec num pla rec′ num′ pla′ : List ℕ) (k at : ℕ) → ReadText e u rec num pla rec′ num′ pla′ k at → 64 * linesIn u ≤ length rec
     → linesIn u ≤ length num → linesIn u ≤ length pla → (k ≡ linesIn u) × (at ≡ length u)
 
 -- a turn at the text t, with room for a line at least
-pub record Turn (t : List ℕ) : Type 0 where
+pub record Turn (e : ℕ) (t : List ℕ) : Type 0 where
   pub rec : List ℕ
   pub num : List ℕ
   pub pla : List ℕ
@@ -166,13 +167,13 @@ pub record Turn (t : List ℕ) : Type 0 where
   pub pla′ : List ℕ
   pub k : ℕ
   pub at : ℕ
-  pub read : ReadText t rec num pla rec′ num′ pla′ k at
+  pub read : ReadText e t rec num pla rec′ num′ pla′ k at
   pub room : (64 ≤ length rec) × (1 ≤ length num) × (1 ≤ length pla)
 
 -- such a turn gets on where text is left
-abbrev pub GetsOn : Type 0
-GetsOn = (t : List ℕ) (a : Turn t) → 1 ≤ length t → (1 ≤ a .k) × (length (drop (a .at) t) < length t)
+abbrev pub GetsOn : ℕ → Type 0
+GetsOn e = (t : List ℕ) (a : Turn e t) → 1 ≤ length t → (1 ≤ a .k) × (length (drop (a .at) t) < length t)
 
 -- so turns reach the end
-abbrev pub TurnsEnd : Type 0
-TurnsEnd = ((t : List ℕ) → Turn t) → (u : List ℕ) → (ns : List ℕ) × (ps : List ℕ) × (bs : List ℕ) × InTurns u ns ps bs
+abbrev pub TurnsEnd : ℕ → Type 0
+TurnsEnd e = ((t : List ℕ) → Turn e t) → (u : List ℕ) → (ns : List ℕ) × (ps : List ℕ) × (bs : List ℕ) × InTurns e u ns ps bs

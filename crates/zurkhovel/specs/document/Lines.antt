@@ -1,11 +1,12 @@
--- The promises of the calls on lines. A line's digits are judged as a centred code (`digitTable`). Assumes nothing.
+-- The promises of the calls on lines. A line's digits are judged as a centred code (`digitTable`), in the edition e (`linesOf`); the listing is of
+-- edition 1. Assumes nothing.
 use mathlib.Core.Path.{_≡_}
 use mathlib.Core.List.{List, [], _∷_}
 use Prim.Native.Nat.{ℕ, zero, suc, _+_}
 use lib.ListN.{length}
 use Rattle.refusal.specs.document.Table.{Outcome, Gives}
 use Rattle.limits.specs.document.Limits.{size, valence}
-use Rattle.edge_list.specs.document.Edges.{edgeRows}
+use Rattle.zurkhovel.specs.document.InEdition.{edgeTable}
 use Rattle.form.specs.document.Form.{ofCentred}
 use Rattle.lines.specs.document.Line.{line}
 use Rattle.lines.specs.document.Judged.{digitTable}
@@ -13,16 +14,16 @@ use Rattle.lines.specs.document.Reading as Reading
 use Rattle.listing_text.specs.document.Listing as Listing
 
 -- the first line of the text t into a lent output
-abbrev pub ReadLine : List ℕ → List ℕ → List ℕ → Outcome ℕ → Type 0
-ReadLine t old new o = Reading.LineRead size (digitTable valence) t old new o
+abbrev pub ReadLine : ℕ → List ℕ → List ℕ → List ℕ → Outcome ℕ → Type 0
+ReadLine e t old new o = Reading.LineRead size (Reading.linesOf e) t old new o
 
 -- the line of the centred code of the skeleton with N vertices and the edges E
-abbrev pub WriteLine : ℕ → List ℕ → List ℕ → List ℕ → Outcome ℕ → Type 0
-WriteLine N E old new o = Gives (edgeRows size valence N E 1) (ofCentred N E line) old new o
+abbrev pub WriteLine : ℕ → ℕ → List ℕ → List ℕ → List ℕ → Outcome ℕ → Type 0
+WriteLine e N E old new o = Gives (edgeTable e size N E 1) (ofCentred N E line) old new o
 
 -- the text t, line after line: rec, num and pla before, rec′, num′ and pla′ after; k lines are read, up to the place `at`
-abbrev pub ReadText : List ℕ → List ℕ → List ℕ → List ℕ → List ℕ → List ℕ → List ℕ → ℕ → ℕ → Type 0
-ReadText t rec num pla rec′ num′ pla′ k at = Reading.TextRead size (digitTable valence) size t rec num pla rec′ num′ pla′ k at
+abbrev pub ReadText : ℕ → List ℕ → List ℕ → List ℕ → List ℕ → List ℕ → List ℕ → List ℕ → ℕ → ℕ → Type 0
+ReadText e t rec num pla rec′ num′ pla′ k at = Reading.TextRead size (Reading.linesOf e) t rec num pla rec′ num′ pla′ k at
 
 -- "R records, and F refused lines": how many of the answers' numbers are 0, and how many are not
 unfoldable pub zeros : List ℕ → ℕ

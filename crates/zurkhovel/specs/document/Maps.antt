@@ -20,27 +20,28 @@ use Rattle.zurkhovel.specs.declared.maps.Mapping.the-variants.{Done, Ref
 abbrev pub MapOutcome : Type 0
 MapOutcome = OutcomeOf (ℕ × ℕ) ℕ
 
--- `Done n`: n bytes are written; `Refused i k p`: list i, or 3 for the map, is refused, number k at place p
+-- `Done n`: n bytes are written; `Refused i k p`: list i, or 3 for the map, is refused, number k at place p; i is 0 for 22
 abbrev pub mapped : Mapping → MapOutcome
 mapped (Done n) = gives n
 mapped (Refused i k p) = refuses (i, k) p
 
--- what is told of a refusal fits into bytes: list 1 or 2, or 3, and a number of 1 to 255
-abbrev pub SmallOfThree : ℕ × ℕ → Type 0
-SmallOfThree (i, k) = ((1 ≤ i) × (i ≤ 3)) × SmallNumber k
+-- What is told of a refusal fits into bytes: one of `most` that are called from 1 on, and a number of 1 to 255 that is not 22; or 22, which is called
+-- 0.
+abbrev pub SmallOf : ℕ → ℕ × ℕ → Type 0
+SmallOf most (i, k) = ((i ≡ 0) × (k ≡ 22)) ⊎ (((1 ≤ i) × (i ≤ most)) × SmallNumber k × (k ≡ 22 → ⊥))
 
 -- "Refusals, after both lists' own": those of the map
-abbrev pub threeRows : ℕ → List ℕ → ℕ → List ℕ → List Row → List (RowOf (ℕ × ℕ))
-threeRows N E P F rs = bothRows N E P F ++ ofList 3 rs
+abbrev pub threeRows : ℕ → ℕ → List ℕ → ℕ → List ℕ → List Row → List (RowOf (ℕ × ℕ))
+threeRows e N E P F rs = bothRows e N E P F ++ ofList 3 rs
 
 -- the renumbering is written; or the lists are not the same, and nothing is
-abbrev pub Hands : ℕ → List ℕ → ℕ → List ℕ → List ℕ → ℕ → List ℕ → Type 0
-Hands N E P F old n new = Writes (HandedOut N E P F) old n new ⊎ ((n ≡ 0) × (new ≡ old) × EqualCodes N E P F false)
+abbrev pub HandsMap : ℕ → List ℕ → ℕ → List ℕ → List ℕ → ℕ → List ℕ → Type 0
+HandsMap N E P F old n new = Writes (HandedOut N E P F) old n new ⊎ ((n ≡ 0) × (new ≡ old) × EqualCodes N E P F false)
 
--- the renumbering of N vertices with the edges E onto P vertices with the edges F, where they are the same; 15 where it does not fit
-abbrev pub HandOut : ℕ → List ℕ → ℕ → List ℕ → List ℕ → List ℕ → MapOutcome → Type 0
-HandOut N E P F old new o = Promise (threeRows N E P F (short (HandedOut N E P F) (length old) ∷ [])) (Hands N E P F old) old new o
+-- in the edition e, the renumbering of N vertices with the edges E onto P vertices with the edges F, where they are the same; 15 where it does not fit
+abbrev pub HandOut : ℕ → ℕ → List ℕ → ℕ → List ℕ → List ℕ → List ℕ → MapOutcome → Type 0
+HandOut e N E P F old new o = Promise (threeRows e N E P F (short (HandedOut N E P F) (length old) ∷ [])) (HandsMap N E P F old) old new o
 
 -- whether the map w is one; nothing is written
-abbrev pub CheckRenumbering : ℕ → List ℕ → ℕ → List ℕ → List ℕ → MapOutcome → Type 0
-CheckRenumbering N E P F w o = Answered (threeRows N E P F (mapRows N E P F w)) (λ n. n ≡ 0) o
+abbrev pub CheckRenumbering : ℕ → ℕ → List ℕ → ℕ → List ℕ → List ℕ → MapOutcome → Type 0
+CheckRenumbering e N E P F w o = Answered (threeRows e N E P F (mapRows N E P F w)) (λ n. n ≡ 0) o

@@ -31,6 +31,7 @@ pub data OfBoth (N : ℕ) (E : List ℕ) (P : ℕ) (F : List ℕ) : ℕ → Type
   coded : {n m : ℕ} → N ≡ P → centredPairs N E n → centredPairs P F m → OfBoth N E P F (n + m)
   not-coded : (N ≡ P → ⊥) → OfBoth N E P F 0
 
--- "3 times N times the whole part of log2 N": 3 is one less than the neighbours that a vertex may have, R
+-- "3 times N times the whole part of log2 N", and "In edition 2 the factor 3 in the count of digit pairs is 8": one less than the neighbours that a
+-- vertex may have, R
 abbrev pub mostPairs : ℕ → ℕ → ℕ
 mostPairs R N = (R - 1) * N * log2 N

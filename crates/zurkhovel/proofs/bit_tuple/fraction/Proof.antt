@@ -9,6 +9,7 @@ use Rattle.limits.specs.document.Limits.{fractionSize}
 use Rattle.zurkhovel.specs.Rooting.{Rooted}
 use Rattle.zurkhovel.proofs.Judged.{was-coded, was-refused}
 use Rattle.zurkhovel.proofs.Rooted.{digits-length, digits-within, digits-coded, value-given}
+use Rattle.edition.specs.Laws.{at-most-nine}
 use Rattle.zurkhovel.proofs.bit_tuple.fraction.Statement.{statement}
 use Rattle.zurkhovel.proofs.bit_tuple.fraction.Tie as tie
 
@@ -16,7 +17,7 @@ abbrev lent : tie.After-rooted → tie.Start
 lent c = c .before .before .before
 
 -- the rooted code is there
-coded : (c : tie.After-known-told2) → let r = c .before .before .before .before in let a = lent r .args in Rooted fractionSize (a .n) (now (a .edges)) (a .root) (r .rooted .last .1 .1 .1 .1 .0) (c .before .looked .given .0 .0)
+coded : (c : tie.After-known-told2) → let r = c .before .before .before .before in let a = lent r .args in Rooted (a .edition) fractionSize (a .n) (now (a .edges)) (a .root) (r .rooted .last .1 .1 .1 .1 .1 .0) (c .before .looked .given .0 .0)
 coded c = was-coded (c .before .before .before .before .rooted .ensures) (c .before .looked .given .1)
 
 pub fraction-spec : {M : Type 1} → statement M
@@ -29,6 +30,6 @@ fraction-spec =
     (λ c. search needs)
     (λ c. omega (arith, digits-within (coded c) (omega arith), coded c .long))
     (λ c. sym (digits-length (coded (c .before))))
-    (λ c κs. digits-coded (coded (c .before)) (omega arith))
+    (λ c κs. digits-coded (coded (c .before)) (at-most-nine _))
     (λ c. record { promised = left (was-refused (c .before .before .before .before .rooted .ensures) (c .before .k .given .1)) refl; reported = refl })
     (λ c. value-given IsFraction (coded (c .before .before)) (c .fraction-of .ensures)))

@@ -3,7 +3,7 @@ use mathlib.Core.Path.{refl, ap}
 use lib.ListN.{length}
 use borrow.Author.Needs.{needs}
 use Rattle.refusal.specs.Giving.{refused-short, given-laid}
-use Rattle.zurkhovel.proofs.Behind.{none}
+use Rattle.texts.specs.Judging.{none}
 use Rattle.zurkhovel.proofs.Rooted.{copied}
 use Rattle.zurkhovel.proofs.bit_tuple.laid.Statement.{statement}
 use Rattle.zurkhovel.proofs.bit_tuple.laid.Tie as tie

@@ -1,5 +1,4 @@
 -- `zurkhovel::bit_tuple::unwhole` keeps its promise. Assumes nothing.
-use mathlib.Core.Path.{refl}
 use borrow.Author.Needs.{needs}
 use Rattle.zurkhovel.proofs.Carried.{form-readable, form-edges}
 use Rattle.zurkhovel.proofs.bit_tuple.unwhole.Statement.{statement}
@@ -12,6 +11,6 @@ unwhole-spec =
     (λ c. search needs)
     (λ c κs. search needs)
     (λ c. search needs)
-    (λ c κs. form-readable (c .before .before .before .number-code .ensures))
+    (λ c κs. form-readable (c .before .before .before .whole .ensures))
     (λ c. search needs)
-    (λ c. form-edges _ (c .before .before .before .before .before .before .number-code .ensures) (c .before .before .edges-of .ensures)))
+    (λ c. form-edges _ (c .before .before .before .before .before .before .whole .ensures) (c .before .before .edges-of .ensures)))

@@ -5,4 +5,4 @@ use Rattle.zurkhovel.proofs.codes.check_code.Statement.{statement}
 use Rattle.zurkhovel.proofs.codes.check_code.Tie as tie
 
 pub check-code-spec : {M : Type 1} → statement M
-check-code-spec = tie.close (tie.spec (λ c κs. search needs) (λ c κs. search needs) (λ c. check-answered (c .before .check .ensures) (c .handed .ensures)))
+check-code-spec = tie.close (tie.spec (λ c κs. search needs) (λ c κs. search needs) (λ c. check-answered (c .before .code .ensures) (c .handed .ensures)))

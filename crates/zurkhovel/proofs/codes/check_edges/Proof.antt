@@ -5,4 +5,4 @@ use Rattle.zurkhovel.proofs.codes.check_edges.Statement.{statement}
 use Rattle.zurkhovel.proofs.codes.check_edges.Tie as tie
 
 pub check-edges-spec : {M : Type 1} → statement M
-check-edges-spec = tie.close (tie.spec (λ c κs. search needs) (λ c κs. search needs) (λ c. check-answered (c .before .check .ensures) (c .handed .ensures)))
+check-edges-spec = tie.close (tie.spec (λ c κs. search needs) (λ c κs. search needs) (λ c. check-answered (c .before .edges .ensures) (c .handed .ensures)))

@@ -16,8 +16,8 @@ decode-centred-spec =
     (tie.spec
     (λ c κs. search needs)
     (λ c. search needs)
-    (λ c. refused-first (was-refused (c .before .before .before .check .ensures) (c .before .k .given .1)) refl)
+    (λ c. refused-first (was-refused (c .before .before .before .centred .ensures) (c .before .k .given .1)) refl)
     (λ c. search needs)
-    (λ c κs. right-of centred (now (c .before .before .before .before .before .before .args .code)) (was-clear (c .before .before .before .check .ensures) (c .before .enum-told .given .1)))
+    (λ c κs. right-of centred (now (c .before .before .before .before .before .before .args .code)) (was-clear (c .before .before .before .centred .ensures) (c .before .enum-told .given .1)))
     (λ c. search needs)
-    (λ c. let d = c .before .before .before .before in behind-same (was-clear (d .before .before .check .ensures) (d .enum-told .given .1)) (c .before .before .lay-edges .ensures)))
+    (λ c. let d = c .before .before .before .before in behind-same (was-clear (d .before .before .centred .ensures) (d .enum-told .given .1)) (c .before .before .lay-edges .ensures)))

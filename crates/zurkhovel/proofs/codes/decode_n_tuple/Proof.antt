@@ -16,8 +16,8 @@ decode-n-tuple-spec =
     (tie.spec
     (λ c κs. search needs)
     (λ c. search needs)
-    (λ c. refused-first (was-refused (c .before .before .before .check-n-tuple .ensures) (c .before .k .given .1)) refl)
+    (λ c. refused-first (was-refused (c .before .before .before .n-tuple .ensures) (c .before .k .given .1)) refl)
     (λ c. search needs)
-    (λ c κs. right-of nTuple (now (c .before .before .before .before .before .before .args .code)) (was-clear (c .before .before .before .check-n-tuple .ensures) (c .before .enum-told .given .1)))
+    (λ c κs. right-of nTuple (now (c .before .before .before .before .before .before .args .code)) (was-clear (c .before .before .before .n-tuple .ensures) (c .before .enum-told .given .1)))
     (λ c. search needs)
-    (λ c. let d = c .before .before .before .before in behind-same (was-clear (d .before .before .check-n-tuple .ensures) (d .enum-told .given .1)) (c .before .before .lay-edges .ensures)))
+    (λ c. let d = c .before .before .before .before in behind-same (was-clear (d .before .before .n-tuple .ensures) (d .enum-told .given .1)) (c .before .before .lay-edges .ensures)))

@@ -13,7 +13,7 @@ use Rattle.refusal.specs.Giving.{written-room, written-length}
 use Rattle.form_coder.specs.Sums.{centred-few}
 use Rattle.zurkhovel.specs.document.Same.{SameSkeleton}
 use Rattle.zurkhovel.specs.document.Reported.{Reporting, OfBoth, coded, not-coded}
-use Rattle.zurkhovel.specs.Accepted.{skeleton-of, tabled}
+use Rattle.zurkhovel.specs.Accepted.{table-of}
 use Rattle.zurkhovel.proofs.Verdicts.{verdict-sizes, verdict-same, verdict-different}
 use Rattle.zurkhovel.proofs.codes.judge.Statement.{statement}
 use Rattle.zurkhovel.proofs.codes.judge.Tie as tie
@@ -37,7 +37,7 @@ module _ (c : tie.After-compare) {o : Order} (q : c .compare .result ≡ o) wher
   asked = start (first (second c))
 
   abbrev Judges : Bool → Type 0
-  Judges b = let s = asked .args in Reporting (SameSkeleton (s .n1) (now (s .edges1)) (s .n2) (now (s .edges2))) (OfBoth (s .n1) (now (s .edges1)) (s .n2) (now (s .edges2))) (gives b) (first (second c) .centred .result + second c .centred2 .result)
+  Judges b = let s = asked .args in Reporting (SameSkeleton (s .edition) (s .n1) (now (s .edges1)) (s .n2) (now (s .edges2))) (OfBoth (s .n1) (now (s .edges1)) (s .n2) (now (s .edges2))) (gives b) (first (second c) .centred .result + second c .centred2 .result)
 
   both : OfBoth (asked .args .n1) (now (asked .args .edges1)) (asked .args .n2) (now (asked .args .edges2)) (first (second c) .centred .result + second c .centred2 .result)
   both = coded (sized (first (second c))) (first (second c) .centred .ensures .1) (second c .centred2 .ensures .1)
@@ -54,13 +54,13 @@ judge-spec =
     (tie.spec
     (λ c. let s = c .before .before .before in record { promised = verdict-sizes (s .pre .0) (s .pre .1) (c .if1 .taken); reported = not-coded (c .if1 .taken) })
     (λ c. search needs)
-    (λ c κs. let t = skeleton-of (c .before .before .before .before .pre .0) in (tabled t, t .few))
+    (λ c κs. let t = table-of (c .before .before .before .before .pre .0) in (t, t .few))
     (λ c. search needs)
-    (λ c κs. let t = skeleton-of (start (c .before .before) .pre .1) in (tabled t, t .few))
+    (λ c κs. let t = table-of (start (c .before .before) .pre .1) in (t, t .few))
     (λ c.
     let b = c .before in
     let a = first b in
-    omega (arith, centred-few (tabled (skeleton-of (start a .pre .0))) (a .centred .ensures .1), centred-few (tabled (skeleton-of (start a .pre .1))) (b .centred2 .ensures .1)))
+    omega (arith, centred-few (table-of (start a .pre .0)) (a .centred .ensures .1), centred-few (table-of (start a .pre .1)) (b .centred2 .ensures .1)))
     (λ c. written-room (first (c .before) .centred .ensures .0))
     (λ c. written-length (first (c .before .before) .centred .ensures .0))
     (λ c. written-room (c .before .before .centred2 .ensures .0))

@@ -1,12 +1,13 @@
 -- `zurkhovel::maps::check_renumbering` keeps its promise. Assumes nothing.
 use denote.Ref.{now}
 use borrow.Author.Needs.{needs}
-use Rattle.refusal.specs.Laws.{was-clear, was-refused}
-use Rattle.zurkhovel.proofs.Handing.{judge-first, judge-second}
+use Rattle.zurkhovel.specs.Both.{were-accepted, one-refused}
+use Rattle.zurkhovel.specs.Theorems.{both-clear}
+use Rattle.zurkhovel.proofs.Handing.{judge-lists}
 use Rattle.zurkhovel.proofs.maps.check_renumbering.Statement.{statement}
 use Rattle.zurkhovel.proofs.maps.check_renumbering.Tie as tie
 
-abbrev start : tie.After-check → tie.Start
+abbrev start : tie.After-both → tie.Start
 start c = c .before .before .before .before
 
 pub check-renumbering-spec : {M : Type 1} → statement M
@@ -15,18 +16,10 @@ check-renumbering-spec =
     (tie.spec
     (λ c κs. search needs)
     (λ c. search needs)
-    (λ c.
-    let d = c .before .before .before in
-    let s = start d in
-    judge-first _ (s .args .n2) (now (s .args .edges1)) (now (s .args .edges2)) (now (s .args .map)) (was-refused (d .check .ensures) (c .before .k .given .1)))
-    (λ passed. search needs)
-    (λ c κs. search needs)
+    (λ refused.
+    let d = refused .before .before .before in
+    let s = start d .args in
+    judge-lists _ _ (now (s .edges1)) (now (s .edges2)) (one-refused (d .both .ensures) (refused .before .i .given .1)) (now (s .map)))
     (λ c. search needs)
-    (λ c.
-    let e = c .before .before .before in
-    let d = e .before .before .before in
-    let s = start d in
-    judge-second _ _ (now (s .args .edges1)) (now (s .args .edges2)) (now (s .args .map)) (was-clear (d .check .ensures) (e .before .enum-told .given .1)) (was-refused (e .check2 .ensures) (c .before .k2 .given .1)))
-    (λ c. search needs)
-    (λ c κs. let d = c .before .before .before in (was-clear (d .before .before .check .ensures) (d .enum-told .given .1), was-clear (c .before .before .check2 .ensures) (c .enum-told2 .given .1)))
+    (λ c κs. let d = c .before .before in let s = start d .args in both-clear _ _ (now (s .edges1)) (now (s .edges2)) .0 (were-accepted (d .both .ensures) (c .enum-told .given .1)))
     (λ c. c .judge .ensures))

@@ -9,7 +9,7 @@ use Rattle.limits.specs.Width.{width}
 use Rattle.skeleton.specs.document.Skeleton.{IsSkeleton}
 use Rattle.zurkhovel.specs.document.Maps.{HandOut}
 use Rattle.zurkhovel.specs.document.Reported.{OfBoth, not-coded}
-use Rattle.zurkhovel.specs.Accepted.{skeleton-of, tabled}
+use Rattle.zurkhovel.specs.Accepted.{table-of}
 use Rattle.zurkhovel.proofs.Handing.{ofMap, hand-sizes, hand-found, hand-looked}
 use Rattle.zurkhovel.proofs.maps.hand_out.Statement.{statement}
 use Rattle.zurkhovel.proofs.maps.hand_out.Tie as tie
@@ -23,7 +23,7 @@ start c = c .before .before .before .before
 
 -- what was found, as it is handed on
 found : (c : tie.After-hand-out) {a : Answer} → c .hand-out .result .answer ≡ a → let s = start (sizes c) in
-    HandOut (s .args .n1) (now (s .args .edges1)) (s .args .n2) (now (s .args .edges2)) (now (s .args .out)) (c .hand-out .last .1 .1 .1 .0) (ofMap (told a))
+    HandOut (s .args .edition) (s .args .n1) (now (s .args .edges1)) (s .args .n2) (now (s .args .edges2)) (now (s .args .out)) (c .hand-out .last .1 .1 .1 .0) (ofMap (told a))
 found c q = let g = sizes c in let s = start g in hand-found _ _ _ _ (s .pre .0) (s .pre .1) (g .if1 .left) (rw q at (c .hand-out .ensures .0))
 
 -- the pairs looked at for it
@@ -38,7 +38,7 @@ hand-out-spec =
     (λ c κs.
     let g = c .before in
     let s = start g in
-    (tabled (skeleton-of (s .pre .0)), subst (λ n. IsSkeleton size width n (now (s .args .edges2))) (sym (g .if1 .left)) (tabled (skeleton-of (s .pre .1)))))
+    (table-of (s .pre .0), subst (λ n. IsSkeleton size width n (now (s .args .edges2))) (sym (g .if1 .left)) (table-of (s .pre .1))))
     (λ c. search needs)
     (λ c. search needs)
     (λ c. search needs)

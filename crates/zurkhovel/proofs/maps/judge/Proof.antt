@@ -2,7 +2,7 @@
 use denote.Ref.{now}
 use borrow.Author.Needs.{needs}
 use Rattle.refusal.specs.Laws.{was-clear, was-refused}
-use Rattle.zurkhovel.specs.Accepted.{skeleton-of, tabled}
+use Rattle.zurkhovel.specs.Accepted.{table-of}
 use Rattle.zurkhovel.proofs.Handing.{map-passed, map-refused}
 use Rattle.zurkhovel.proofs.maps.judge.Statement.{statement}
 use Rattle.zurkhovel.proofs.maps.judge.Tie as tie
@@ -14,7 +14,7 @@ pub judge-spec : {M : Type 1} → statement M
 judge-spec =
     tie.close
     (tie.spec
-    (λ c κs. tabled (skeleton-of (c .before .before .before .pre .0)))
+    (λ c κs. table-of (c .before .before .before .pre .0))
     (λ c. search needs)
     (λ c. search needs)
     (λ c.

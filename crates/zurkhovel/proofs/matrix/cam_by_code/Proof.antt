@@ -3,7 +3,7 @@ use mathlib.Core.Path.{refl, sym}
 use native.Mathlib.Omega.{arith}
 use denote.Ref.{now}
 use borrow.Author.Needs.{needs}
-use Rattle.refusal.specs.Laws.{at-least, at-most}
+use Rattle.refusal.specs.Laws.{at-least, at-most, others}
 use Rattle.refusal.specs.Giving.{refused-first}
 use Rattle.limits.specs.document.Limits.{size}
 use Rattle.adjacency.specs.Plain.{numbered}
@@ -20,7 +20,7 @@ abbrev listed : tie.After-known-told2 → tie.After-by-code
 listed c = c .before .before .before .before
 
 -- what is known where the list is accepted
-known : (c : tie.After-known-told2) → let s = start (listed c) in ListedByCode size (s .args .n) (now (s .args .edges)) (listed c .by-code .last .1 .1 .1 .0) (c .before .looked .given .0 .0)
+known : (c : tie.After-known-told2) → let s = start (listed c) in ListedByCode (s .args .edition) size (s .args .n) (now (s .args .edges)) (listed c .by-code .last .1 .1 .1 .1 .0) (c .before .looked .given .0 .0)
 known c = was-coded (listed c .by-code .ensures) (c .before .looked .given .1)
 
 pub cam-by-code-spec : {M : Type 1} → statement M
@@ -31,14 +31,14 @@ cam-by-code-spec =
     (λ c κs. search needs)
     (λ c. search needs)
     (λ c. search needs)
-    (λ c. at-least (known c .clear))
+    (λ c. at-least (others (known c .clear)))
     (λ c. record { promised = cam-short (known (c .before)) (c .if1 .taken) refl; reported = refl })
     (λ c. known (c .before) .within)
     (λ c. sym (ends-length (known (c .before .before))))
     (λ c κs.
     let r = c .before .before in
     let t = known (r .before) in
-    ((numbered (ends-skeleton t), ends-physical t), (at-most (t .clear), omega (arith, r .if1 .left))))
+    ((numbered (ends-skeleton t), ends-physical t), (at-most (others (t .clear)), omega (arith, r .if1 .left))))
     (λ c. record { promised = refused-first (was-refused (c .before .before .before .before .by-code .ensures) (c .before .k .given .1)) refl; reported = refl })
     (λ c. search needs)
     (λ c.

@@ -1,5 +1,4 @@
 -- `zurkhovel::matrix::check` meets its contract. Assumes nothing.
-use mathlib.Core.Path.{refl}
 use native.Mathlib.Omega.{arith}
 use borrow.Author.Needs.{needs}
 use Rattle.refusal.specs.Laws.{was-clear, stops, goes-on}
@@ -14,7 +13,7 @@ check-spec =
     (tie.spec
     (λ c κs. search needs)
     (λ c. search needs)
-    (λ c. stops _ (c .before .before .before .check .ensures) (c .before .k .given .1))
+    (λ c. stops _ (c .before .before .before .edges .ensures) (c .before .k .given .1))
     (λ c. search needs)
-    (λ c κs. let s = skeleton-of (was-clear (c .before .before .check .ensures) (c .enum-told .given .1)) in (numbered s, omega (arith, s .few, c .before .before .before .before .pre)))
-    (λ c. goes-on (c .before .before .before .check .ensures) (c .before .enum-told .given .1) (c .physical .ensures)))
+    (λ c κs. let s = skeleton-of (was-clear (c .before .before .edges .ensures) (c .enum-told .given .1)) in (numbered s, omega (arith, s .few, c .before .before .before .before .pre)))
+    (λ c. goes-on (c .before .before .before .edges .ensures) (c .before .enum-told .given .1) (c .physical .ensures)))

@@ -3,7 +3,7 @@ use mathlib.Core.Path.{refl}
 use native.Mathlib.Omega.{arith}
 use borrow.Author.Needs.{needs}
 use Rattle.adjacency.specs.Made.{made-length}
-use Rattle.zurkhovel.proofs.Behind.{none}
+use Rattle.texts.specs.Judging.{none}
 use Rattle.zurkhovel.proofs.Made.{known-short, known-given}
 use Rattle.zurkhovel.proofs.matrix.lay_cam.Statement.{statement}
 use Rattle.zurkhovel.proofs.matrix.lay_cam.Tie as tie

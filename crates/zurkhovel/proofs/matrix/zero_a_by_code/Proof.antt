@@ -17,7 +17,7 @@ abbrev listed : tie.After-known-told2 → tie.After-by-code
 listed c = c .before .before .before .before
 
 -- what is known where the list is accepted
-known : (c : tie.After-known-told2) → let s = start (listed c) in ListedByCode zeroSize (s .args .n) (now (s .args .edges)) (listed c .by-code .last .1 .1 .1 .0) (c .before .looked .given .0 .0)
+known : (c : tie.After-known-told2) → let s = start (listed c) in ListedByCode (s .args .edition) zeroSize (s .args .n) (now (s .args .edges)) (listed c .by-code .last .1 .1 .1 .1 .0) (c .before .looked .given .0 .0)
 known c = was-coded (listed c .by-code .ensures) (c .before .looked .given .1)
 
 pub zero-a-by-code-spec : {M : Type 1} → statement M
