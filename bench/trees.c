@@ -372,3 +372,73 @@ uint32_t c_pack(size_t edition, size_t n, const uint8_t *edges, size_t len, size
         out[at] = (uint8_t)(held << (8 - bits));
     return answered(0, place);
 }
+
+/* The tree of an edge list with letters: rows 2, 3, 5, 21, 6 to 9, 20. */
+static uint32_t named_read(struct tree *t, uint64_t n, const uint8_t *edges, size_t len, const uint8_t *letters, size_t letters_len, uint64_t *place) {
+    *place = 0;
+    for (size_t i = 0; i < letters_len; i++)
+        if (atom_of(letters[i]) == 3)
+            return 2;
+    if (n == 0 || n > SIZE)
+        return 3;
+    if (len != 2 * (n - 1))
+        return 5;
+    if (letters_len != n)
+        return 21;
+    uint32_t refused = tree_read(1, t, n, edges, len, 1, place);
+    if (refused)
+        return refused;
+    int crowded = 0;
+    for (unsigned v = 1; v <= n; v++)
+        crowded |= t->degree[v] + atom_of(letters[v - 1]) > 4;
+    if (!crowded)
+        return 0;
+    memset(t->degree, 0, sizeof t->degree);
+    for (size_t i = 0;; i++) {
+        unsigned v = edges[i];
+        if (++t->degree[v] + atom_of(letters[v - 1]) > 4) {
+            *place = i / 2 + 1;
+            return 20;
+        }
+    }
+}
+
+/* The marks of the code at a root; in `mark` every digit is that of a vertex with a parent. */
+static unsigned marks_rooted(const struct tree *t, uint8_t *mark, unsigned root, uint8_t *out) {
+    uint8_t order[SIZE];
+    unsigned looked = 0;
+    mark[root] = (uint8_t)(mark[root] + 4);
+    subtree(t, mark, root, 0, order, &looked);
+    for (unsigned i = 0; i < t->n; i++)
+        out[i] = mark[order[i]];
+    mark[root] = (uint8_t)(mark[root] - 4);
+    return looked;
+}
+
+uint32_t c_named_centred_code(size_t n, const uint8_t *edges, size_t len, const uint8_t *letters, size_t letters_len, uint8_t *out, size_t out_len, uint8_t *out_letters,
+                              size_t out_letters_len, size_t *pairs) {
+    struct tree t;
+    uint8_t mark[SIZE + 1], one[SIZE], other[SIZE], *best = one;
+    uint64_t place;
+    unsigned first, second;
+    *pairs = 0;
+    uint32_t refused = named_read(&t, n, edges, len, letters, letters_len, &place);
+    if (refused)
+        return answered(refused, place);
+    if (out_len < n || out_letters_len < n)
+        return answered(15, n);
+    for (unsigned v = 1; v <= n; v++)
+        mark[v] = (uint8_t)(4 * (t.degree[v] - 1) + (int)atom_of(letters[v - 1]));
+    centre(&t, &first, &second);
+    *pairs = marks_rooted(&t, mark, first, one);
+    if (first != second) {
+        *pairs += marks_rooted(&t, mark, second, other);
+        if (digits_compare(one, other, n) < 0)
+            best = other;
+    }
+    for (unsigned i = 0; i < n; i++) {
+        out[i] = best[i] >> 2;
+        out_letters[i] = (uint8_t)"CNO"[best[i] & 3];
+    }
+    return answered(0, n);
+}

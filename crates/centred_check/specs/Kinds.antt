@@ -5,10 +5,12 @@ use mathlib.Core.Bool.{Bool, true, false}
 use Prim.Native.Nat.{ℕ, _+_, _-_, _%_, _≤_}
 use native.Mathlib.Omega.{arith}
 use Rattle.limits.specs.Atoms.{atomNames, atomBonds}
-use Rattle.skeleton.specs.Label.{Marks}
+use Rattle.skeleton.specs.document.Label.{Marks}
+use Rattle.skeleton.specs.Label.{more, fewer}
 use Rattle.skeleton.specs.Base.{base}
-use Rattle.skeleton.specs.Atoms.{Atom, C, N, O, rank, named, bonds, atoms, rank-named}
-use Rattle.centred_check.specs.Middle.{more, fewer}
+use Rattle.skeleton.specs.document.Atom.{Atom, C, N, O, rank, named, bonds}
+use Rattle.skeleton.specs.document.AtomMarks.{atoms}
+use Rattle.skeleton.specs.Atoms.{rank-named}
 
 abbrev pub kinds : Bool → Marks
 kinds false = base

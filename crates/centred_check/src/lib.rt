@@ -26,7 +26,7 @@ ghost use Rattle.digit_code.specs.Ordered.{Ordered};
 ghost use Rattle.digit_code.specs.Right.{Rightₗ};
 ghost use Rattle.digit_code.specs.Compare.{lex, pairsOf, further};
 ghost use Rattle.form.specs.document.Form.{centred, row14-form, formRows};
-ghost use Rattle.form.specs.Labelled.{centredₗ, row14ₗ};
+ghost use Rattle.form.specs.document.Labelled.{centredₗ, row14ₗ};
 ghost use Rattle.centred_check.specs.Kinds.{kinds, limits, unit};
 ghost use Rattle.centred_check.specs.Middle.{top, rest, turned, branch, Middle};
 ghost use Rattle.centred_check.specs.Skip.{Skips};
@@ -36,10 +36,10 @@ ghost use Rattle.centred_check.specs.Scan.{Scan, Scanned};
 ghost use Rattle.centred_check.specs.Spot.{Spot};
 
 // Places for where the trees on the stack begin, one for each, and one more for where the digits end. No place of the stack has this number.
-const STARTS: usize = SIZE + 1;
+pub const STARTS: usize = SIZE + 1;
 
 // How many neighbours the vertex of mark m may have.
-fn most(named: bool, limit: u8, m: u8) -> u8
+pub fn most(named: bool, limit: u8, m: u8) -> u8
     ensures { λ r. ⌜ r ≡ limits named limit m ⌝ }
 {
     if named { BONDS - m % ATOMS } else { limit }
@@ -146,7 +146,14 @@ fn rooted(
 
 // Reads the marks from the last to the first. The trees behind a mark stand on a stack that grows down from the end of `hs` and `starts`:
 // how tall each is, and where it begins. The result is where the root's branches stand, above SIZE where the marks are no right code.
-fn scan(named: bool, limit: u8, ds: &[u8], code: &[u8], hs: &mut [u8], starts: &mut [u8]) -> usize
+pub fn scan(
+    named: bool,
+    limit: u8,
+    ds: &[u8],
+    code: &[u8],
+    hs: &mut [u8],
+    starts: &mut [u8],
+) -> usize
     requires { ⌜ now ds ≡ digits (kinds named .arity) (now code) ⌝ }
     requires { ⌜ 1 ≤ limit ⌝ }
     requires { ⌜ length (now hs) ≡ size ⌝ }
@@ -373,7 +380,7 @@ fn middle(named: bool, ds: &[u8], code: &[u8], hs: &[u8], from: usize) -> bool
 }
 
 // 14: a right code, whose branches' heights stand from `from` on, that is not the centred one.
-fn judged(named: bool, ds: &[u8], code: &[u8], hs: &[u8], from: usize) -> Check
+pub fn judged(named: bool, ds: &[u8], code: &[u8], hs: &[u8], from: usize) -> Check
     requires { ⌜ now ds ≡ digits (kinds named .arity) (now code) ⌝ }
     requires { ⌜ Ends 1 (now ds) ⌝ }
     requires { ⌜ Ordered (kinds named .arity) (now code) ⌝ }

@@ -2,4 +2,5 @@
 mod Tests
 mod Heads
 mod Tally
+mod Allowing
 mod Neighbours

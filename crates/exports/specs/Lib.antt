@@ -2,4 +2,5 @@
 pub mod Unpacked
 pub mod One
 pub mod OneReported
+pub mod OneNamed
 pub mod document

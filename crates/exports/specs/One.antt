@@ -61,17 +61,17 @@ mapping (gives n) = (maps.Done n, refl)
 mapping (refuses (i, k) p) = (maps.Refused i k p, refl)
 
 -- a call that only checks
-one-check :
+pub one-check :
     {P : Outcome ℕ → Type 0} → ((r s : Answer) → P (told r) → P (told s) → r ≡ s) → (r s : ℕ) → PackedAnswer P r → PackedAnswer P s → r ≡ s
 one-check {P} f r s (o, x, e) (q, y, g) =
     let (a, i) = answer o in
     let (b, j) = answer q in
     e ∙ ap (packed (λ k. k) (λ n. n)) (i ∙ ap told (f a b (subst P i x) (subst P j y)) ∙ sym j) ∙ sym g
 
--- a call that writes
-one-written :
-    {P Q : Outcome ℕ → Type 0} {new new′ : List ℕ} → ((r s : Answer) → P (told r) → Q (told s) → (r ≡ s) × (new ≡ new′))
-    → (r s : ℕ) → PackedAnswer P r → PackedAnswer Q s → (r ≡ s) × (new ≡ new′)
+-- a call that writes; Same: what was lent then holds the same
+pub one-written :
+    {P Q : Outcome ℕ → Type 0} {Same : Type 0} → ((r s : Answer) → P (told r) → Q (told s) → (r ≡ s) × Same) → (r s : ℕ) → PackedAnswer P r → PackedAnswer Q s
+    → (r ≡ s) × Same
 one-written {P} {Q} f r s (o, x, e) (q, y, g) =
     let (a, i) = answer o in
     let (b, j) = answer q in
@@ -79,14 +79,14 @@ one-written {P} {Q} f r s (o, x, e) (q, y, g) =
     (e ∙ ap (packed (λ k. k) (λ n. n)) (i ∙ ap told h ∙ sym j) ∙ sym g, l)
 
 -- a call that is asked for a value, which the lent place then holds
-one-held :
+pub one-held :
     {A : Type 0} {P : Outcome A → Type 0} → ((o q : Outcome A) → P o → P q → o ≡ q)
     → (old new new′ : A) (r s : ℕ) → PackedValue P old new r → PackedValue P old new′ s → (r ≡ s) × (new ≡ new′)
 one-held f old new new′ r s (o, x, e, h) (q, y, g, l) =
     let same = f o q x y in
     (e ∙ ap (packed (λ k. k) (λ a. 0)) same ∙ sym g, h ∙ ap (held old) same ∙ sym l)
 
-one-number : (P : Outcome ℕ → Type 0) → ((r s : Number) → P (numbered r) → P (numbered s) → r ≡ s) → (o q : Outcome ℕ) → P o → P q → o ≡ q
+pub one-number : (P : Outcome ℕ → Type 0) → ((r s : Number) → P (numbered r) → P (numbered s) → r ≡ s) → (o q : Outcome ℕ) → P o → P q → o ≡ q
 one-number P f o q x y =
     let (a, i) = value o in
     let (b, j) = value q in
@@ -97,6 +97,14 @@ one-exact P f o q x y =
     let (a, i) = exact o in
     let (b, j) = exact q in
     i ∙ ap toldFraction (f a b (subst P i x) (subst P j y)) ∙ sym j
+
+-- a call on maps that only checks
+pub one-judged :
+    {P : MapOutcome → Type 0} → ((r s : Mapping) → P (mapped r) → P (mapped s) → r ≡ s) → (r s : ℕ) → PackedMapping P r → PackedMapping P s → r ≡ s
+one-judged {P} f r s (o, x, e) (q, y, g) =
+    let (a, i) = mapping o in
+    let (b, j) = mapping q in
+    e ∙ ap (packed withList (λ n. n)) (i ∙ ap mapped (f a b (subst P i x) (subst P j y)) ∙ sym j) ∙ sym g
 
 -- ---- the functions, in the edition e
 
@@ -155,10 +163,7 @@ module _ (e : ℕ) where
 
   pub one-zk-check-renumbering :
       (N : ℕ) (E : List ℕ) (P : ℕ) (F w : List ℕ) (r s : ℕ) → PackedMapping (CheckRenumbering e N E P F w) r → PackedMapping (CheckRenumbering e N E P F w) s → r ≡ s
-  one-zk-check-renumbering N E P F w r s (o, x, z) (q, y, g) =
-      let (a, i) = mapping o in
-      let (b, j) = mapping q in
-      z ∙ ap (packed withList (λ n. n)) (i ∙ ap mapped (carried.one-check-renumbering e N E P F w a b (subst (CheckRenumbering e N E P F w) i x) (subst (CheckRenumbering e N E P F w) j y)) ∙ sym j) ∙ sym g
+  one-zk-check-renumbering N E P F w = one-judged (carried.one-check-renumbering e N E P F w)
 
   pub one-zk-pack :
       (N : ℕ) (E : List ℕ) (root : ℕ) (old new new′ : List ℕ) (r s : ℕ) → PackedAnswer (Pack e N E root old new) r → PackedAnswer (Pack e N E root old new′) s

@@ -10,9 +10,9 @@ use native.Mathlib.Omega.{arith}
 use native.Mathlib.Decide.{decLt, ℕ-discrete}
 use lib.Dec.{eqb}
 use Rattle.refusal.specs.document.Table.{OutcomeOf, Outcome, gives, refuses}
-use Rattle.refusal.specs.document.Small.{byteValues, Small, SmallAnswer, SmallRefusal}
+use Rattle.refusal.specs.document.Small.{byteValues, Small, SmallOf, SmallAnswer, SmallRefusal}
 use Rattle.zurkhovel.specs.document.Same.{Finding}
-use Rattle.zurkhovel.specs.document.Maps.{MapOutcome, SmallOf}
+use Rattle.zurkhovel.specs.document.Maps.{MapOutcome}
 use Rattle.exports.specs.document.Packing.{packed, truth, withList, held, numberIn, placeIn, listIn, unpacked, unpackedFinding, unpackedMapping, unpackedValue, PackedAnswer, PackedFinding, PackedMapping, PackedValue}
 
 -- ---- a refusal taken apart

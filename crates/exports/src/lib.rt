@@ -2,6 +2,9 @@
 // the refusal number plus the place, or the bytes written. The `ensures` of each is the promise of the call behind it, through `Packing`. A call
 // that reports how many pairs it looked at has two: the one whose name ends in `_pairs` hands that number over through a lent place. The four that
 // an exporter's host needs are of edition 1, and each has a second, whose name ends in `_edition`; every other is told the edition.
+// Those on skeletons with named atoms are in `atoms`.
+mod atoms;
+
 use fraction::Fraction;
 use refusal::Answer;
 use refusal::Number;
@@ -10,18 +13,19 @@ use zurkhovel::maps::Mapping;
 ghost use mathlib.Core.Path.{_≡_};
 ghost use Prim.Native.Nat.{_+_, _*_, _≤_, _<_};
 ghost use Rattle.refusal.specs.document.Outcome.{told, numbered};
-ghost use Rattle.refusal.specs.document.Small.{byteValues, Small, SmallAnswer, SmallRefusal};
+ghost use Rattle.refusal.specs.document.Small.{byteValues, Small, SmallOf, SmallAnswer, SmallRefusal};
 ghost use Rattle.fraction.specs.document.Outcome.{toldFraction};
 ghost use Rattle.form.specs.document.Form.{nTuple, centred};
 ghost use Rattle.form_coder.specs.document.Pairs.{centredPairs, nTuplePairs};
 ghost use Rattle.zurkhovel.specs.document.Reported.{Reporting, atRoot, OfBoth};
 ghost use Rattle.zurkhovel.specs.document.Codes.{CheckCode, DecodeCode, DecodeForm, CheckEdges, RootedCode, FormCode};
 ghost use Rattle.zurkhovel.specs.document.Same.{SameSkeleton, said};
-ghost use Rattle.zurkhovel.specs.document.Maps.{SmallOf, mapped, HandOut, CheckRenumbering};
+ghost use Rattle.zurkhovel.specs.document.Maps.{mapped, HandOut, CheckRenumbering};
 ghost use Rattle.zurkhovel.specs.document.Bits.{Pack, Unpack, Whole, Unwhole, InFraction, Unfraction};
 ghost use Rattle.zurkhovel.specs.document.Matrix.{DecodeCam, DecodeZeroA, DecodeAZero, Cam, ZeroA, AZero, CamByCode, ZeroAByCode, AZeroByCode};
 ghost use Rattle.zurkhovel.specs.document.Alike.{EqualVertices};
-ghost use Rattle.zurkhovel.specs.document.Lines.{ReadLine, WriteLine, ReadText, Counted, ListText};
+ghost use Rattle.zurkhovel.specs.document.Lines.{ReadLine, WriteLine, ReadText, ListText};
+ghost use Rattle.texts.specs.document.Demand.{Counted};
 ghost use Rattle.exports.specs.document.Packing.{packed, truth, withList, held, PackedAnswer, PackedFinding, PackedMapping, PackedValue};
 
 // The values of a byte.
@@ -36,7 +40,7 @@ fn refused(k: u8, p: usize) -> u32
 }
 
 // The answer of a call that writes or only checks.
-fn answered(answer: Answer) -> u32
+pub(crate) fn answered(answer: Answer) -> u32
     requires { ⌜ SmallAnswer (told answer) ⌝ }
     ensures { λ r. ⌜ r ≡ packed (λ k. k) (λ n. n) (told answer) ⌝ }
 {
@@ -58,7 +62,7 @@ fn refused_of(i: u8, k: u8, p: usize) -> u32
 }
 
 // The verdict.
-fn found(verdict: Verdict) -> u32
+pub(crate) fn found(verdict: Verdict) -> u32
     requires { ⌜ Small (SmallOf 2) (λ b. Unit {0}) (said verdict) ⌝ }
     ensures { λ r. ⌜ r ≡ packed withList truth (said verdict) ⌝ }
 {
@@ -70,7 +74,7 @@ fn found(verdict: Verdict) -> u32
 }
 
 // The answer of a call on maps.
-fn sent(answer: Mapping) -> u32
+pub(crate) fn sent(answer: Mapping) -> u32
     requires { ⌜ Small (SmallOf 3) (λ n. n < byteValues) (mapped answer) ⌝ }
     ensures { λ r. ⌜ r ≡ packed withList (λ n. n) (mapped answer) ⌝ }
 {
@@ -81,7 +85,7 @@ fn sent(answer: Mapping) -> u32
 }
 
 // The answer of a call that is asked for a number.
-fn valued(answer: Number, value: &mut u64) -> u32
+pub(crate) fn valued(answer: Number, value: &mut u64) -> u32
     requires { ⌜ SmallRefusal (numbered answer) ⌝ }
     ensures { λ r. ⌜ (r ≡ packed (λ k. k) (λ a. 0) (numbered answer)) × (now (value .exit) ≡ held (now (value .entry)) (numbered answer)) ⌝ }
 {
@@ -95,7 +99,7 @@ fn valued(answer: Number, value: &mut u64) -> u32
 }
 
 // The answer of a call that is asked for a fraction.
-fn exact(answer: Fraction, value: &mut f64) -> u32
+pub(crate) fn exact(answer: Fraction, value: &mut f64) -> u32
     requires { ⌜ SmallRefusal (toldFraction answer) ⌝ }
     ensures { λ r. ⌜ (r ≡ packed (λ k. k) (λ a. 0) (toldFraction answer)) × (now (value .exit) ≡ held (now (value .entry)) (toldFraction answer)) ⌝ }
 {

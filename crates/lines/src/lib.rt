@@ -15,7 +15,7 @@ ghost use Rattle.refusal.specs.document.Outcome.{told};
 ghost use Rattle.texts.specs.document.Numerals.{Digits, figures, decimal};
 ghost use Rattle.texts.specs.document.Lent.{numberOf, placeOf};
 ghost use Rattle.texts.specs.Judging.{judged};
-ghost use Rattle.texts.specs.Ending.{UpTo, Behind};
+ghost use Rattle.texts.specs.Ending.{Until, UpTo, Behind};
 ghost use Rattle.lines.specs.document.Line.{line, plainLines};
 ghost use Rattle.lines.specs.document.Judged.{digitTable};
 ghost use Rattle.lines.specs.document.Reading.{linesOf, LineRead, TextRead};
@@ -44,18 +44,25 @@ pub struct Progress {
     pub at: usize,
 }
 
-// The place of the first line feed, or the length where there is none.
-pub fn feed(text: &[u8]) -> usize
-    ensures { λ r. ⌜ UpTo (now (text .entry)) r ⌝ }
+// The place of the first byte k, or the length where there is none.
+pub fn until(k: u8, t: &[u8]) -> usize
+    ensures { λ r. ⌜ Until k (now (t .entry)) r ⌝ }
 {
     let mut i = 0;
-    while i < text.len() {
-        if text[i] == 10 {
+    while i < t.len() {
+        if t[i] == k {
             return i;
         }
         i += 1;
     }
     i
+}
+
+// The place of the first line feed, or the length where there is none.
+pub fn feed(text: &[u8]) -> usize
+    ensures { λ r. ⌜ UpTo (now (text .entry)) r ⌝ }
+{
+    until(10, text)
 }
 
 // The value of a digit's byte, and 10 of any other byte.
@@ -72,7 +79,7 @@ fn value(b: u8) -> u8
 }
 
 // Whether `t` is one or more digits.
-fn digits(t: &[u8]) -> bool
+pub fn digits(t: &[u8]) -> bool
     ensures { λ r. ⌜ Figured (now (t .entry)) r ⌝ }
 {
     if t.len() == 0 {
@@ -89,7 +96,7 @@ fn digits(t: &[u8]) -> bool
 }
 
 // The count and the space that `b` begins with.
-fn begin(b: &[u8]) -> Opening
+pub fn begin(b: &[u8]) -> Opening
     ensures { λ r. ⌜ Opens (now (b .entry)) r ⌝ }
 {
     if b.len() < 2 {
@@ -174,7 +181,7 @@ pub fn read_digits(t: &[u8], out: &mut [u8])
 }
 
 // Values as written digits, to the start of what is lent.
-fn write_digits(code: &[u8], out: &mut [u8])
+pub fn write_digits(code: &[u8], out: &mut [u8])
     requires digits { ⌜ Digits (now code) ⌝ }
     requires room { ⌜ length (now code) ≤ length (now out) ⌝ }
     ensures { λ _. ⌜ now (out .exit) ≡ laidOver (figures (now (code .entry))) (now (out .entry)) ⌝ }
@@ -187,7 +194,7 @@ fn write_digits(code: &[u8], out: &mut [u8])
 }
 
 // The count of n digits, to the start of what is lent; how many bytes that is.
-fn write_count(n: usize, out: &mut [u8]) -> usize
+pub fn write_count(n: usize, out: &mut [u8]) -> usize
     requires few { ⌜ n ≤ 99 ⌝ }
     requires room { ⌜ length (decimal n) ≤ length (now out) ⌝ }
     ensures { λ r. ⌜ Laid (decimal n) (now (out .entry)) (now (out .exit)) r ⌝ }
@@ -274,7 +281,7 @@ pub fn read_line_of(edition: usize, text: &[u8], out: &mut [u8]) -> Answer
 }
 
 // How many lines there is room for: SIZE bytes, a number and a place for each.
-fn room(records: usize, numbers: usize, places: usize) -> usize
+pub fn room(records: usize, numbers: usize, places: usize) -> usize
     ensures { λ r. ⌜ Room size records numbers places r ⌝ }
 {
     let n = records / SIZE;
@@ -303,7 +310,7 @@ pub fn behind(text: &[u8], at: usize) -> usize
 }
 
 // Number and place of an answer, for line k.
-fn note(r: Answer, numbers: &mut [u8], places: &mut [usize], k: usize)
+pub fn note(r: Answer, numbers: &mut [u8], places: &mut [usize], k: usize)
     requires { ⌜ k < length (now numbers) ⌝ }
     requires { ⌜ k < length (now places) ⌝ }
     ensures { λ _. ⌜ now (numbers .exit) ≡ set (now (numbers .entry)) k (numberOf (told r)) ⌝ }

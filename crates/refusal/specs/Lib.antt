@@ -4,6 +4,8 @@ pub mod Laws
 pub mod Stricter
 pub mod Lowest
 pub mod Bounded
+pub mod Lists
 pub mod Giving
+pub mod Both
 pub mod Checks
 pub mod document

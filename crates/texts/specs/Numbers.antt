@@ -1,30 +1,11 @@
--- Numbers of any length, without leading zeros. In order: what such a number is; it says one number; up to 99 it is a count. Assumes nothing.
+-- Numbers of any length, without leading zeros. In order: such a number says one number; up to 99 it is a count. Assumes nothing.
 use mathlib.Core.Path.{_≡_, sym, ap, _∙_}
 use mathlib.Core.List.{List, [], _∷_}
 use Prim.Native.Nat.{ℕ, _+_, _*_, _≤_}
 use native.Mathlib.Omega.{arith}
-use Rattle.texts.specs.document.Numerals.{figures, decimal, Digits, IsCount, one-digit, two-digits}
+use Rattle.texts.specs.document.Numerals.{figures, decimal, Digits, IsCount, one-digit, two-digits, says, Leads, IsNumber}
 use Rattle.texts.specs.Numerals.{same-figures, decimal-counts, count-decimal, marks-figures}
 use Rattle.texts.specs.Spaced.{Marks}
-
--- what digits say behind a number a
-unfoldable pub says : ℕ → List ℕ → ℕ
-says a [] = a
-says a (d ∷ ds) = says (10 * a + d) ds
-
--- some digits, and the first of several is not 0
-abbrev pub Leads : List ℕ → Type 0
-Leads [] = ⊥
-Leads (d ∷ []) = Unit {0}
-Leads (d ∷ e ∷ ds) = 1 ≤ d
-
--- b is a number without leading zeros, and says n
-pub record IsNumber (b : List ℕ) (n : ℕ) : Type 0 where
-  pub digits : List ℕ
-  pub leads : Leads digits
-  pub small : Digits digits
-  pub parts : b ≡ figures digits
-  pub value : n ≡ says 0 digits
 
 pub one-number : {b : List ℕ} {n m : ℕ} → IsNumber b n → IsNumber b m → n ≡ m
 one-number h k = h .value ∙ ap (says 0) (same-figures (h .digits) (k .digits) (sym (h .parts) ∙ k .parts)) ∙ sym (k .value)
@@ -33,7 +14,7 @@ pub marks-number : {b : List ℕ} {n : ℕ} → IsNumber b n → Marks b
 marks-number h = rw (h .parts) (marks-figures (h .digits))
 
 -- further digits say no less
-says-least : (a : ℕ) (ds : List ℕ) → a ≤ says a ds
+pub says-least : (a : ℕ) (ds : List ℕ) → a ≤ says a ds
 unfolding says
 says-least a [] = omega arith
 says-least a (d ∷ ds) = omega (arith, says-least (10 * a + d) ds)

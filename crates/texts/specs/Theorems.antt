@@ -12,10 +12,10 @@ use Rattle.texts.specs.document.Bytes.{Cut}
 use Rattle.texts.specs.document.Text.{Format, textOf, LineAnswers, TextAnswers}
 use Rattle.texts.specs.document.Damage.{Change}
 use Rattle.texts.specs.document.Lent.{Lent, ReadsLine, ReadsText}
-use Rattle.texts.specs.Damage.{Robust, Accepted, Recovers}
+use Rattle.texts.specs.Damage.{Robust, Accept, Accepted, Recovers}
 use Rattle.texts.specs.Sound.{Once, Sound}
 use Rattle.texts.specs.Edits.{edit-of}
-use Rattle.texts.specs.Answered.{answer-moves}
+use Rattle.texts.specs.Answered.{answer-moves, look, sure}
 use Rattle.texts.specs.Texts.{texts-once, reads-back, recover}
 use Rattle.texts.specs.Taking.{read-once}
 use Rattle.texts.specs.FirstLines.{taken-all}
@@ -51,6 +51,10 @@ module _ {A F : Type 0} (format : Format A F) (sound : Sound format) where
   pub read-back :
       (cs : List A) (os : List (Outcome A)) → Accepted format cs → TextAnswers format (textOf (format .body) cs) os → os ≡ map gives cs
   read-back cs os a h = reads-back format sound cs a refl h
+
+  -- So is the line of one, whatever follows it.
+  pub line-back : (c : A) (rest : List ℕ) (o : Outcome A) → Accept format c → LineAnswers format (format .body c ++ (10 ∷ rest)) o → o ≡ gives c
+  line-back c rest o a h = sure format (sound .reads) a (look format (sound .reads) (record { parts = refl; free = sound .free c a }) h)
 
   -- One byte of the text is replaced, lost or put in: a line is refused, the records read are among those sent, in their order, and at
   -- most two are missing.

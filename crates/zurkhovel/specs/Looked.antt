@@ -43,7 +43,7 @@ eight-times N = refl
 -- ---- the law for a report
 
 -- where B bounds what is counted for what is given, it bounds what is reported
-reported-most :
+pub reported-most :
     {K A : Type 0} {P : OutcomeOf K A → Type 0} {Count : ℕ → Type 0} (B n : ℕ) → ((a : A) → P (gives a) → Count n → n ≤ B) → (o : OutcomeOf K A)
     → Reporting P Count o n → n ≤ B
 reported-most B n f (gives a) g = f a (g .promised) (g .reported)

@@ -22,7 +22,7 @@ use Rattle.fraction.specs.Back.{fraction-again}
 use Rattle.zurkhovel.specs.document.Bits.{Pack, Whole, InFraction, Decodes, Unpack, Unwhole, Unfraction}
 
 -- a call that gives a value, where the right one is one: what is told is one
-one-value :
+pub one-value :
     {A : Type 0} {rs : List Row} {Right : A → Type 0} {o q : Outcome A} → ((a b : A) → Right a → Right b → a ≡ b) → Answered rs Right o → Answered rs Right q
     → o ≡ q
 one-value one a b = one-result (λ x y p q. (one x y p q, refl)) a b .0

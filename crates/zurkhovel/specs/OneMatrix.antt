@@ -24,7 +24,7 @@ use Rattle.zurkhovel.specs.document.InEdition.{edgeTable}
 one-numbering : {N : ℕ} {E F G : List ℕ} → IsTree N E → NumberedByCode N E F → NumberedByCode N E G → F ≡ G
 one-numbering t x y = x .edges ∙ ap decode (centred-form .one t (x .right) (y .right)) ∙ sym (y .edges)
 
-one-by-code : {A : Type 0} {of : List ℕ → A} {N : ℕ} {E : List ℕ} → IsTree N E → (a b : A) → ByCode of N E a → ByCode of N E b → a ≡ b
+pub one-by-code : {A : Type 0} {of : List ℕ → A} {N : ℕ} {E : List ℕ} → IsTree N E → (a b : A) → ByCode of N E a → ByCode of N E b → a ≡ b
 one-by-code {of = of} t a b p q = p .is ∙ ap of (one-numbering t (p .numbering) (q .numbering)) ∙ sym (q .is)
 
 module _ (e : ℕ) where

@@ -21,7 +21,8 @@ use Rattle.listing_text.specs.Theorems as Answers
 use Rattle.orbits.specs.document.Carried.{ClassesOf}
 use Rattle.orbits.specs.Theorems.{one-classes}
 use Rattle.zurkhovel.specs.declared.text.Counts.{Counts}
-use Rattle.zurkhovel.specs.document.Lines.{ReadLine, WriteLine, ReadText, Counted, ListText}
+use Rattle.zurkhovel.specs.document.Lines.{ReadLine, WriteLine, ReadText, ListText}
+use Rattle.texts.specs.document.Demand.{Counted}
 use Rattle.zurkhovel.specs.document.Alike.{EqualVertices}
 use Rattle.zurkhovel.specs.Accepted.{tree-of}
 use Rattle.zurkhovel.specs.document.InEdition.{edgeTable}

@@ -31,7 +31,7 @@ module _ (e : ℕ) where
   -- ---- how long
 
   -- the packed form of an accepted edge list's code
-  packed-few : (N : ℕ) (E : List ℕ) (r : ℕ) (s : List ℕ) → Clear (edgeTable e size N E r) → Packs (rooted N E r) s → length s ≤ packedBytes
+  pub packed-few : (N : ℕ) (E : List ℕ) (r : ℕ) (s : List ℕ) → Clear (edgeTable e size N E r) → Packs (rooted N E r) s → length s ≤ packedBytes
   packed-few N E r s k p =
       let a = p .carries in
       let (h, l) = root-of E k in

@@ -46,7 +46,7 @@ pub(crate) enum Looked {
 }
 
 // An answer behind a code for which so many pairs were looked at.
-pub(crate) fn report(answer: Answer, looked: usize) -> Reported
+pub fn report(answer: Answer, looked: usize) -> Reported
     ensures { λ r. ⌜ (r .answer ≡ answer) × Reports (λ n. n ≡ looked) (told (r .answer)) (r .pairs) ⌝ }
 {
     match answer {

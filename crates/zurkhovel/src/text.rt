@@ -9,7 +9,8 @@ use refusal::Check;
 ghost use Rattle.refusal.specs.document.Outcome.{told};
 ghost use Rattle.form_coder.specs.document.Pairs.{centredPairs};
 ghost use Rattle.zurkhovel.specs.document.Reported.{Reporting};
-ghost use Rattle.zurkhovel.specs.document.Lines.{ReadLine, WriteLine, ReadText, Counted, ListText};
+ghost use Rattle.zurkhovel.specs.document.Lines.{ReadLine, WriteLine, ReadText, ListText};
+ghost use Rattle.texts.specs.document.Demand.{Counted};
 
 // The digits of a text's first line, as values.
 pub fn read_line(edition: usize, text: &[u8], out: &mut [u8]) -> Answer

@@ -1,7 +1,9 @@
 -- What a call tells fits into bytes: so it can be told as one number, 256 times a refusal's number plus the place.
 --
--- In order: a refusal's number; an outcome; that of a call that writes or only checks, and that of a call
+-- In order: a refusal's number; what a refusal of one of several lists is called; an outcome; that of a call that writes or only checks, and that of a call
 -- which is asked for a value. Assumes nothing.
+use mathlib.Core.Path.{_≡_}
+use mathlib.Core.Logic.{_⊎_}
 use Prim.Native.Nat.{ℕ, _≤_, _<_}
 use Rattle.refusal.specs.document.Table.{OutcomeOf, Outcome, gives, refuses}
 
@@ -12,6 +14,11 @@ byteValues = 256
 -- a refusal's number is 1 to 255
 abbrev pub SmallNumber : ℕ → Type 0
 SmallNumber k = (1 ≤ k) × (k < byteValues)
+
+-- What is told of a refusal fits into bytes: one of `most` that are called from 1 on, and a number of 1 to 255 that is not 22; or 22, which is called
+-- 0.
+abbrev pub SmallOf : ℕ → ℕ × ℕ → Type 0
+SmallOf most (i, k) = ((i ≡ 0) × (k ≡ 22)) ⊎ (((1 ≤ i) × (i ≤ most)) × SmallNumber k × (k ≡ 22 → ⊥))
 
 -- Value holds of the value that is given; Number holds of a refusal's number, and its place is below 256
 abbrev pub Small : {K A : Type 0} → (K → Type 0) → (A → Type 0) → OutcomeOf K A → Type 0

@@ -25,11 +25,14 @@ pub record Reporting {K A : Type 0} (P : OutcomeOf K A → Type 0) (Count : ℕ 
 abbrev pub atRoot : ℕ → List ℕ → ℕ → ℕ → Type 0
 atRoot N E r n = n ≡ rootedPairs N E r
 
--- for the verdict on N vertices with the edges E and P vertices with the edges F, and for a renumbering of the first onto the second: both lists' sum; where the
--- sizes differ neither is coded
-pub data OfBoth (N : ℕ) (E : List ℕ) (P : ℕ) (F : List ℕ) : ℕ → Type 0 where
-  coded : {n m : ℕ} → N ≡ P → centredPairs N E n → centredPairs P F m → OfBoth N E P F (n + m)
-  not-coded : (N ≡ P → ⊥) → OfBoth N E P F 0
+-- for two lists of N and P vertices, of which C and D are counted: both lists' sum; where the sizes differ neither is coded
+pub data SumOfBoth (N P : ℕ) (C D : ℕ → Type 0) : ℕ → Type 0 where
+  coded : {n m : ℕ} → N ≡ P → C n → D m → SumOfBoth N P C D (n + m)
+  not-coded : (N ≡ P → ⊥) → SumOfBoth N P C D 0
+
+-- for the verdict on N vertices with the edges E and P vertices with the edges F, and for a renumbering of the first onto the second
+abbrev pub OfBoth : ℕ → List ℕ → ℕ → List ℕ → ℕ → Type 0
+OfBoth N E P F = SumOfBoth N P (centredPairs N E) (centredPairs P F)
 
 -- "3 times N times the whole part of log2 N", and "In edition 2 the factor 3 in the count of digit pairs is 8": one less than the neighbours that a
 -- vertex may have, R

@@ -1,0 +1,158 @@
+// Whether digits with an atom letter for each are a centred code: what is refused of them, in the order of the table. Marks are made of digits and
+// letters in one pass, and a right code is told by `centred_check` in another; only what is none is looked at row by row.
+use centred_check::STARTS;
+use centred_check::judged;
+use centred_check::most;
+use centred_check::scan;
+use limits::ATOMS;
+use limits::BONDS;
+use limits::SIZE;
+use limits::VALENCE;
+use refusal::Check;
+ghost use mathlib.Core.Path.{_≡_};
+ghost use mathlib.Core.List.{[], _∷_, _++_};
+ghost use Prim.Native.Nat.{_≤_};
+ghost use lib.ListN.{length, take};
+ghost use Rattle.refusal.specs.document.Table.{row3};
+ghost use Rattle.refusal.specs.Checks.{Answers};
+ghost use Rattle.limits.specs.document.Limits.{size, valence};
+ghost use Rattle.digit_code.specs.Digits.{digits};
+ghost use Rattle.skeleton.specs.document.Label.{row20};
+ghost use Rattle.skeleton.specs.document.Atom.{rank, bonds};
+ghost use Rattle.skeleton.specs.document.AtomMarks.{atoms};
+ghost use Rattle.form.specs.document.Labelled.{centredₗ, row14ₗ};
+ghost use Rattle.skeleton.specs.document.Atom.{atomOf};
+ghost use Rattle.lettered_check.specs.document.Lettered.{marksOf, namedDigitRows, letteredCodeRows, letteredFormRows};
+ghost use Rattle.letters.specs.document.Letters.{row2-letters, row21-letters};
+ghost use Rattle.refusal.specs.declared.Check as Check;
+ghost use Rattle.lettered_check.specs.Rows.{letteredRows, Made};
+
+// 20: a digit above what its mark's atom allows, at the root one more; those behind the code's end too.
+fn bonded(ds: &[u8], code: &[u8]) -> Check
+    requires { ⌜ now ds ≡ digits (atoms .arity) (now code) ⌝ }
+    ensures { λ r. ⌜ Answers (row20 atoms bonds (now (code .entry)) ∷ []) r ⌝ }
+{
+    let mut p = 1;
+    while p <= code.len() {
+        let limit = most(true, BONDS, code[p - 1]);
+        if digit_code::top(limit, p) < ds[p - 1] {
+            return Check::Refuse(20, p);
+        }
+        p += 1;
+    }
+    Check::Passed
+}
+
+// 10, 20 and 11 to 13, looked for in this order.
+fn refused(ds: &[u8], code: &[u8]) -> Check
+    requires { ⌜ now ds ≡ digits (atoms .arity) (now code) ⌝ }
+    requires { ⌜ length (now ds) ≤ size ⌝ }
+    ensures { λ r. ⌜ Answers (namedDigitRows valence (now (ds .entry)) (now (code .entry))) r ⌝ }
+{
+    if let Check::Refuse(k, p) = digit_code::capped(VALENCE, ds) {
+        return Check::Refuse(k, p);
+    }
+    if let Check::Refuse(k, p) = bonded(ds, code) {
+        return Check::Refuse(k, p);
+    }
+    if let Check::Refuse(k, p) = digit_code::ended(ds) {
+        return Check::Refuse(k, p);
+    }
+    digit_code::ordered_marks(true, ds, code)
+}
+
+// Digits and their marks that are to be a centred code: 10, 20, 11 to 13, and 14.
+fn check_marks(ds: &[u8], code: &[u8]) -> Check
+    requires { ⌜ now ds ≡ digits (atoms .arity) (now code) ⌝ }
+    requires { ⌜ 1 ≤ length (now ds) ⌝ }
+    requires { ⌜ length (now ds) ≤ size ⌝ }
+    ensures { λ r. ⌜ Answers (namedDigitRows valence (now (ds .entry)) (now (code .entry)) ++ (row14ₗ atoms (centredₗ atoms) (now (code .entry)) ∷ [])) r ⌝ }
+{
+    let mut hs = [0u8; SIZE];
+    let mut starts = [0u8; STARTS];
+    let from = scan(true, VALENCE, ds, code, &mut hs, &mut starts);
+    if SIZE < from {
+        return refused(ds, code);
+    }
+    judged(true, ds, code, &hs, from)
+}
+
+// The marks of digits and letters, to the start of what is lent; false where a digit is above VALENCE.
+fn marks(ds: &[u8], letters: &[u8], out: &mut [u8]) -> bool
+    requires { ⌜ length (now letters) ≡ length (now ds) ⌝ }
+    requires { ⌜ length (now ds) ≤ length (now out) ⌝ }
+    ensures { λ r. ⌜ Made (now (ds .entry)) (now (letters .entry)) (now (out .entry)) (now (out .exit)) r ⌝ }
+{
+    let mut i = 0;
+    while i < ds.len() {
+        let k = ds[i];
+        if VALENCE < k {
+            return false;
+        }
+        out[i] = ATOMS * k + letters::ranked(letters[i]);
+        i += 1;
+    }
+    true
+}
+
+// Digits with a letter for each that are to be a centred code: 3, 10, 20, 11 to 13, and 14.
+pub fn check(ds: &[u8], letters: &[u8]) -> Check
+    requires { ⌜ length (now letters) ≡ length (now ds) ⌝ }
+    ensures { λ r. ⌜ Answers (row3 size (length (now (ds .entry))) ∷ letteredRows valence (now (ds .entry)) (now (letters .entry))) r ⌝ }
+{
+    if let Check::Refuse(k, p) = refusal::sized(ds.len(), SIZE) {
+        return Check::Refuse(k, p);
+    }
+    let mut ms = [0u8; SIZE];
+    if !marks(ds, letters, &mut ms) {
+        return digit_code::capped(VALENCE, ds);
+    }
+    check_marks(ds, &ms[..ds.len()])
+}
+
+// 2, 3 and 21 of digits and letters that are lent by themselves.
+fn lent(ds: &[u8], letters: &[u8]) -> Check
+    ensures { λ r. ⌜ Answers (row2-letters (now (letters .entry)) ∷ row3 size (length (now (ds .entry))) ∷ row21-letters (length (now (ds .entry))) (now (letters .entry)) ∷ []) r ⌝ }
+{
+    if let Check::Refuse(k, p) = letters::known(letters) {
+        return Check::Refuse(k, p);
+    }
+    if let Check::Refuse(k, p) = refusal::sized(ds.len(), SIZE) {
+        return Check::Refuse(k, p);
+    }
+    letters::as_many(ds.len(), letters)
+}
+
+// Digits and letters lent by themselves that are to be a rooted code: 2, 3, 21, 10, 20, and 11 to 13. Where none applies, their marks are
+// written from the start of what is lent.
+pub fn check_rooted(ds: &[u8], letters: &[u8], ms: &mut [u8]) -> Check
+    requires { ⌜ size ≤ length (now ms) ⌝ }
+    ensures { λ r. ⌜ Answers (letteredCodeRows size valence (now (ds .entry)) (now (letters .entry))) r ⌝ }
+    ensures { λ r. ⌜ (r ≡ Check.Passed → take (length (now (ds .entry))) (now (ms .exit)) ≡ marksOf (now (ds .entry)) (now (letters .entry))) ⌝ }
+{
+    if let Check::Refuse(k, p) = lent(ds, letters) {
+        return Check::Refuse(k, p);
+    }
+    if !marks(ds, letters, ms) {
+        return digit_code::capped(VALENCE, ds);
+    }
+    refused(ds, &ms[..ds.len()])
+}
+
+// The same where the marks are not asked for.
+pub fn check_code(ds: &[u8], letters: &[u8]) -> Check
+    ensures { λ r. ⌜ Answers (letteredCodeRows size valence (now (ds .entry)) (now (letters .entry))) r ⌝ }
+{
+    let mut ms = [0u8; SIZE];
+    check_rooted(ds, letters, &mut ms)
+}
+
+// Digits and letters lent by themselves that are to be a centred code: 2, 3, 21, 10, 20, 11 to 13, and 14.
+pub fn check_centred(ds: &[u8], letters: &[u8]) -> Check
+    ensures { λ r. ⌜ Answers (letteredFormRows (centredₗ atoms) size valence (now (ds .entry)) (now (letters .entry))) r ⌝ }
+{
+    if let Check::Refuse(k, p) = lent(ds, letters) {
+        return Check::Refuse(k, p);
+    }
+    check(ds, letters)
+}

@@ -1,0 +1,44 @@
+-- `named_listing::list` is safe and ends. Assumes nothing.
+use mathlib.Core.Path.{_≡_, sym, _∙_}
+use Prim.Native.Nat.{_-_, _≤_}
+use native.Mathlib.Omega.{arith}
+use borrow.Author.Needs.{needs}
+use lib.ListN.{length}
+use lib.Seq.{length-take-le}
+use Rattle.limits.specs.document.Limits.{size}
+use Rattle.named_lines.specs.document.Named.{namedTable, namedLines}
+use Rattle.named_lines.specs.NamedSound.{named-once}
+use Rattle.listing_text.specs.Theorems.{piece-short}
+use Rattle.named_listing.proofs.list.Statement.{statement}
+use Rattle.named_listing.proofs.list.Tie as tie
+
+abbrev Inv-loop : tie.InvT-loop
+Inv-loop text piece₀ from₀ piece from = length piece ≡ 65536
+
+abbrev μ-loop : tie.MeasureT-loop
+μ-loop text piece₀ from₀ piece from = 4194304 - from
+
+same : (c : tie.After-list Inv-loop μ-loop) → length (c .list .last .1 .1 .0) ≡ 65536
+same c = c .list .kept .1 .1 .0 ∙ c .before .before .before .loop .inv
+
+within : (c : tie.After-list Inv-loop μ-loop) → c .list .result ≤ 65536
+within c = omega (arith, piece-short (namedLines size namedTable) named-once (c .list .ensures), c .before .before .before .loop .inv)
+
+pub list-spec : {M : Type 1} → statement M
+list-spec =
+    tie.close
+    (tie.spec
+    Inv-loop
+    μ-loop
+    (λ c κs. search needs)
+    (λ c. sym (c .large-buffer .ensures))
+    (λ c. sym (c .before .before .loop .inv))
+    (λ c κs. search needs)
+    (λ c. omega (arith, within (c .before), same (c .before)))
+    (λ c. sym (length-take-le _ _ (omega (arith, within (c .before .before), same (c .before .before)))))
+    (λ c κs. search needs)
+    (λ c. search needs)
+    (λ c. omega (arith, within (c .before .before .before .before)))
+    (λ c. omega arith)
+    (λ c. same (c .before .before .before .before))
+    (λ c. search needs))
