@@ -1,12 +1,11 @@
 -- How many neighbours each vertex may have, written vertex by vertex over the number of carbon's. Assumes nothing.
-use mathlib.Core.Path.{_≡_, refl, sym, _∙_}
+use mathlib.Core.Path.{_≡_, refl, _∙_}
 use mathlib.Core.List.{List}
 use Prim.Native.Nat.{ℕ, _+_, _-_, _≤_, _<_}
 use native.Mathlib.Decide.{ℕ-discrete, decLt}
 use native.Mathlib.Omega.{arith}
 use lib.ListN.{length, getD, set, replicate, length-set, length-replicate, getD-replicate, List·getD-eq-default}
 use lib.Seq.{getD-set-same, getD-set-other}
-use Rattle.limits.specs.Width.{width}
 use Rattle.skeleton.specs.document.Atom.{Atom, C, N, O, bonds, atomOf, atomAt}
 use Rattle.edge_list.specs.Limited.{Limited, Low}
 

@@ -2,22 +2,21 @@
 use mathlib.Core.Path.{_≡_, refl}
 use mathlib.Core.Logic.{inl, inr, ⊎-elim}
 use mathlib.Core.List.{List, [], _∷_, flatten}
-use Prim.Native.Nat.{ℕ, zero, suc, _≤_, _<_}
+use Prim.Native.Nat.{ℕ, zero, suc, _<_}
 use native.Mathlib.Decide.{decLt, ℕ-discrete}
 use native.Mathlib.Omega.{arith}
-use lib.ListN.{length}
 use Rattle.laws.specs.document.Order.{_≽_, dec≽, insert}
 use Rattle.refusal.specs.document.Table.{FirstRefusal}
 use Rattle.refusal.specs.Laws.{clear-one, first-place, refusal-front, refusal-back}
-use Rattle.digit_code.specs.document.Code.{codes, row10, row11, row12, row13}
+use Rattle.digit_code.specs.document.Code.{codes, row10}
 use Rattle.skeleton.specs.document.Label.{digits, row20}
 use Rattle.skeleton.specs.document.Atom.{bonds}
 use Rattle.skeleton.specs.document.AtomMarks.{atoms}
-use Rattle.form.specs.document.Labelled.{centredₗ, Own, row14ₗ}
+use Rattle.form.specs.document.Labelled.{centredₗ, Own}
 use Rattle.skeleton.specs.document.Atom.{atomOf}
 use Rattle.lettered_check.specs.document.Lettered.{marksOf}
 use Rattle.lettered_check.specs.Rows.{letteredRows}
-use Rattle.centred_check.specs.Middle.{top, peak, second, heights, branch, rest, turned, other, Middle}
+use Rattle.centred_check.specs.Middle.{top, peak, second, heights, branch, rest, turned, other}
 use Rattle.centred_check.specs.Theorems.{rooted-centredₗ}
 
 -- 210110 CNCCCC and 211010 CCNCCC are the codes at the two middles of one skeleton

@@ -1,10 +1,9 @@
 -- Marks of digits and letters: that a right code is what the rows before 14 let pass, and the marks as a loop makes them. Assumes nothing.
 use mathlib.Core.Path.{_≡_, refl, sym, ap, subst, _∙_}
-use mathlib.Core.Logic.{_↔_, if-pos, if-neg}
+use mathlib.Core.Logic.{_↔_}
 use mathlib.Core.Bool.{Bool, true, false}
 use mathlib.Core.List.{List, [], _∷_, _++_}
 use Prim.Native.Nat.{ℕ, _+_, _-_, _≤_, _<_}
-use native.Mathlib.Decide.{ℕ-discrete}
 use native.Mathlib.Omega.{arith}
 use lib.ListN.{length, getD, length-map}
 use Rattle.laws.specs.document.Laid.{laidOver}
@@ -19,10 +18,9 @@ use Rattle.digit_code.specs.Digits as CodeSaid
 use Rattle.digit_code.specs.Right.{Rightₗ}
 use Rattle.skeleton.specs.document.Label.{digits}
 use Rattle.skeleton.specs.Label.{markRows}
-use Rattle.skeleton.specs.document.Atom.{Atom, C, N, O, rank, bonds}
+use Rattle.skeleton.specs.document.Atom.{Atom, C, N, O, bonds}
 use Rattle.skeleton.specs.document.AtomMarks.{atoms}
 use Rattle.skeleton.specs.Accepted.{right-marks}
-use Rattle.skeleton.specs.document.Atom.{atomOf}
 use Rattle.lettered_check.specs.document.Lettered.{marksOf, namedDigitRows}
 use Rattle.centred_check.specs.Kinds.{limits}
 use Rattle.form.specs.document.Labelled.{centredₗ, row14ₗ}

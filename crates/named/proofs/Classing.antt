@@ -1,8 +1,7 @@
 -- The classes of the centred code of an accepted edge list with letters answer for the call. Assumes nothing.
-use mathlib.Core.Path.{_≡_, sym, ap, _∙_, subst}
+use mathlib.Core.Path.{_≡_, sym, _∙_, subst}
 use mathlib.Core.List.{List, []}
 use Prim.Native.Nat.{ℕ}
-use lib.ListN.{length}
 use Rattle.refusal.specs.document.Table.{Clear, Outcome, Gives}
 use Rattle.limits.specs.document.Limits.{size, valence}
 use Rattle.skeleton.specs.document.Label.{digits}

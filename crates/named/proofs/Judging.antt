@@ -8,7 +8,7 @@ use lib.ListN.{length, take}
 use Rattle.refusal.specs.document.Table.{Row, Clear, FirstRefusal, Outcome, gives, refuses, kept, left, Writes, short}
 use Rattle.refusal.specs.document.Lists.{listsRows}
 use Rattle.refusal.specs.Giving.{written}
-use Rattle.refusal.specs.Lists.{lists-clear, lists-first, lists-second, maps-clear, maps-lists, maps-third}
+use Rattle.refusal.specs.Lists.{lists-clear, maps-clear, maps-lists, maps-third}
 use Rattle.skeleton.specs.document.Atom.{atomAt}
 use Rattle.skeleton.specs.document.AtomMarks.{atoms}
 use Rattle.numbering.specs.document.Pairs.{rootedPairsₗ}
@@ -19,7 +19,7 @@ use Rattle.form_coder.specs.document.Pairs.{OverMiddles}
 use Rattle.form_coder.specs.Sums.{middles-same}
 use Rattle.renumber.specs.document.Kept.{keptRows, HandedKept}
 use Rattle.renumber.specs.Parts.{FoundKept, LookedKept, both}
-use Rattle.zurkhovel.specs.document.Reported.{SumOfBoth, coded}
+use Rattle.zurkhovel.specs.document.Reported.{coded}
 use Rattle.zurkhovel.specs.Handing.{ofMap, judged-same, judged-other, hands-none, hands-found}
 use Rattle.named.specs.document.Codes.{namedMiddles}
 use Rattle.named.specs.document.Same.{namedListRows, NamedSameSkeleton, NamedHandOut, NamedCheckRenumbering, namedOfBoth}
@@ -36,31 +36,13 @@ module _ (N : ℕ) (E s : List ℕ) (P : ℕ) (F u : List ℕ) where
   abbrev Handed : List ℕ → Type 0
   Handed = HandedKept atoms (atomAt s) (atomAt u) N E P F
 
-  -- the first list is refused, or the second
-  module _ {k p : ℕ} where
-    first : FirstRefusal A k p → FirstRefusal (listsRows [] A B) (1, k) p
-    first l = lists-first [] A B nothing-else l
+  -- a list is refused
+  module _ {i k p : ℕ} (f : FirstRefusal (listsRows [] A B) (i, k) p) where
+    pub hand-lists : (old : List ℕ) → NamedHandOut N E s P F u old old (refuses (i, k) p)
+    hand-lists old = left (maps-lists [] A B (short Handed (length old) ∷ []) f) refl
 
-    second : Clear A → FirstRefusal B k p → FirstRefusal (listsRows [] A B) (2, k) p
-    second c l = lists-second [] A B nothing-else c l
-
-    pub verdict-first : FirstRefusal A k p → NamedSameSkeleton N E s P F u (refuses (1, k) p)
-    verdict-first l = left (first l) refl
-
-    pub verdict-second : Clear A → FirstRefusal B k p → NamedSameSkeleton N E s P F u (refuses (2, k) p)
-    verdict-second c l = left (second c l) refl
-
-    pub hand-first : (old : List ℕ) → FirstRefusal A k p → NamedHandOut N E s P F u old old (refuses (1, k) p)
-    hand-first old l = left (maps-lists [] A B (short Handed (length old) ∷ []) (first l)) refl
-
-    pub hand-second : (old : List ℕ) → Clear A → FirstRefusal B k p → NamedHandOut N E s P F u old old (refuses (2, k) p)
-    hand-second old c l = left (maps-lists [] A B (short Handed (length old) ∷ []) (second c l)) refl
-
-    pub judge-first : (w : List ℕ) → FirstRefusal A k p → NamedCheckRenumbering N E s P F u w (refuses (1, k) p)
-    judge-first w l = left (maps-lists [] A B (keptRows (atomAt s) (atomAt u) N E P F w) (first l)) refl
-
-    pub judge-second : (w : List ℕ) → Clear A → FirstRefusal B k p → NamedCheckRenumbering N E s P F u w (refuses (2, k) p)
-    judge-second w c l = left (maps-lists [] A B (keptRows (atomAt s) (atomAt u) N E P F w) (second c l)) refl
+    pub judge-lists : (w : List ℕ) → NamedCheckRenumbering N E s P F u w (refuses (i, k) p)
+    judge-lists w = left (maps-lists [] A B (keptRows (atomAt s) (atomAt u) N E P F w) f) refl
 
   -- of two that are accepted
   module _ (k : Clear A) (l : Clear B) where

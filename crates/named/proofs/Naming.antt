@@ -8,7 +8,6 @@ use Rattle.refusal.specs.document.Table.{Clear, Writes}
 use Rattle.limits.specs.document.Limits.{size, valence}
 use Rattle.limits.specs.Width.{width}
 use Rattle.skeleton.specs.document.Skeleton.{IsSkeleton}
-use Rattle.skeleton.specs.document.Label.{rootedₗ}
 use Rattle.skeleton.specs.document.Atom.{Atom, atomAt}
 use Rattle.skeleton.specs.document.AtomMarks.{atoms}
 use Rattle.numbering.specs.document.Pairs.{rootedPairsₗ}

@@ -3,29 +3,29 @@
 --
 -- In order: the table; codes; the verdict; equal vertices. Assumes nothing.
 use mathlib.Core.Path.{_≡_, refl, sym, ap, _∙_, subst}
-use mathlib.Core.Logic.{_↔_, inl, ⊎-elim}
+use mathlib.Core.Logic.{inl}
 use mathlib.Core.Bool.{Bool, true, false}
 use mathlib.Core.List.{List, [], _∷_, _++_, map}
 use Prim.Native.Nat.{ℕ, _<_}
 use native.Mathlib.Omega.{arith}
 use lib.ListN.{length}
-use Rattle.refusal.specs.document.Table.{Row, Clear, FirstRefusal, Outcome, gives, kept, Promise, Writes, Gives, short}
+use Rattle.refusal.specs.document.Table.{Row, Clear, FirstRefusal, gives, kept, Promise, Writes, Gives, short}
 use Rattle.refusal.specs.document.Both.{TwoOutputs, WritesBoth, shortBoth, GivesBoth}
-use Rattle.refusal.specs.Laws.{clear-both, clear-left, clear-right, clear-one, others, never, refusal-front}
-use Rattle.refusal.specs.Giving.{given, gave, written}
+use Rattle.refusal.specs.Laws.{clear-both, clear-left, clear-right, clear-one, never, refusal-front}
+use Rattle.refusal.specs.Giving.{given}
 use Rattle.refusal.specs.Lists.{lists-clear}
 use Rattle.limits.specs.document.Limits.{size, valence}
-use Rattle.edition.specs.document.Edition.{neighboursIn, row22}
+use Rattle.edition.specs.document.Edition.{neighboursIn}
 use Rattle.edition.specs.Laws.{edition-clear}
 use Rattle.skeleton.specs.document.Skeleton.{rooted}
 use Rattle.skeleton.specs.document.Label.{rootedₗ, digits}
 use Rattle.skeleton.specs.document.Atom.{C, atomAt}
 use Rattle.skeleton.specs.document.AtomMarks.{atoms}
 use Rattle.skeleton.specs.Carbon.{carbon, carbonMark, carbon-digits, all-carbon-digits}
-use Rattle.letters.specs.document.Letters.{lettersOf, row14-atom, AllCarbon}
+use Rattle.letters.specs.document.Letters.{row14-atom, AllCarbon}
 use Rattle.letters.specs.Lettered.{carbon-at}
 use Rattle.edge_list.specs.document.Edges.{edgeRows}
-use Rattle.edge_list.specs.document.Letters.{letterRows, carbonRows}
+use Rattle.edge_list.specs.document.Letters.{letterRows}
 use Rattle.edge_list.specs.Letters.{carbon-plain, carbon-refused}
 use Rattle.form.specs.document.Form.{nTuple, centred}
 use Rattle.form.specs.Forms.{IsForm, n-tuple-form, centred-form, form-size}
@@ -39,7 +39,7 @@ use Rattle.zurkhovel.specs.document.Same.{SameSkeleton, EqualCodes}
 use Rattle.zurkhovel.specs.document.Alike.{EqualVertices}
 use Rattle.zurkhovel.specs.Accepted.{rooted-size, tree-of}
 use Rattle.zurkhovel.specs.Theorems.{both-clear}
-use Rattle.named.specs.document.Codes.{Spelled, NamedForm, NamedRootedCode, NamedFormCode}
+use Rattle.named.specs.document.Codes.{NamedForm, NamedRootedCode, NamedFormCode}
 use Rattle.named.specs.document.Same.{namedListRows, NamedEqualCodes, NamedSameSkeleton}
 use Rattle.named.specs.document.Alike.{NamedEqualVertices}
 

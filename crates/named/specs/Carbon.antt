@@ -1,5 +1,5 @@
 -- A list of carbon alone is judged by one table and coded by a call with another: where both are clear, and what stands behind them is the same, the call's answer serves. Assumes nothing.
-use mathlib.Core.Path.{_≡_, refl}
+use mathlib.Core.Path.{refl}
 use mathlib.Core.Logic.{inl}
 use mathlib.Core.List.{List, [], _∷_, _++_}
 use lib.ListN.{length}

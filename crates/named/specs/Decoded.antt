@@ -1,13 +1,13 @@
 -- Digits with letters that no row refuses, as the marks that they spell; and marks that no row refuses, as digits with letters. Assumes nothing.
 use mathlib.Core.Path.{_≡_, refl, sym, ap, ap₂, _∙_, subst}
-use mathlib.Core.List.{List, [], _∷_, _++_}
-use Prim.Native.Nat.{ℕ, zero, suc, _-_, _≤_, _<_}
+use mathlib.Core.List.{List, [], _∷_}
+use Prim.Native.Nat.{ℕ, zero, suc, _-_}
 use native.Mathlib.Decide.{ℕ-discrete}
 use native.Mathlib.Omega.{arith}
 use lib.ListN.{length, getD}
 use Rattle.laws.specs.document.Each.{Each}
 use Rattle.refusal.specs.document.Table.{Clear, row3}
-use Rattle.refusal.specs.Laws.{never, others, at-most, at-least, clear-one, clear-both, clear-left, clear-right, size-clear}
+use Rattle.refusal.specs.Laws.{never, others, at-most, at-least, clear-one, clear-both, size-clear}
 use Rattle.limits.specs.document.Limits.{size, valence}
 use Rattle.limits.specs.Width.{width}
 use Rattle.digit_code.specs.document.Code.{decode}

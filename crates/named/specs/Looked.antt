@@ -1,18 +1,18 @@
 -- The bound of wish 6 for skeletons with named atoms: a pair looked at is digit and atom of one vertex, and there are at most 3 times N times the whole part of log2 N of them for each root, since an atom has at most
 -- four neighbours. Of every accepted list with letters, then of what each call that reports does report. Assumes nothing.
-use mathlib.Core.Path.{_≡_, sym, subst}
+use mathlib.Core.Path.{subst}
 use mathlib.Core.List.{List, [], _∷_}
 use Prim.Native.Nat.{ℕ, _+_, _*_, _≤_}
 use native.Mathlib.Omega.{arith}
 use lib.Ieee.{Float}
 use lib.ListN.{length}
-use Rattle.refusal.specs.document.Table.{Clear, OutcomeOf, Outcome, gives, kept, Answered, Gives, short}
-use Rattle.refusal.specs.document.Both.{TwoOutputs, GivesBoth}
+use Rattle.refusal.specs.document.Table.{Clear, OutcomeOf, Outcome, gives, kept, short}
+use Rattle.refusal.specs.document.Both.{TwoOutputs}
 use Rattle.refusal.specs.Laws.{clear-left}
 use Rattle.refusal.specs.Giving.{gave, gave-value}
 use Rattle.refusal.specs.Both.{gave-both}
 use Rattle.refusal.specs.Lists.{lists-clear, maps-clear}
-use Rattle.limits.specs.document.Limits.{size, valence, wholeSize, fractionSize, zeroSize, aSize}
+use Rattle.limits.specs.document.Limits.{size, valence}
 use Rattle.skeleton.specs.document.Skeleton.{IsSkeleton}
 use Rattle.skeleton.specs.document.Atom.{atomAt}
 use Rattle.skeleton.specs.document.AtomMarks.{atoms}
@@ -29,7 +29,7 @@ use Rattle.form_coder.specs.Sums.{over-middles-bound, over-widest-bound, centre
 use Rattle.renumber.specs.document.Kept.{HandedKept}
 use Rattle.zurkhovel.specs.document.Same.{Finding}
 use Rattle.zurkhovel.specs.document.Maps.{MapOutcome}
-use Rattle.zurkhovel.specs.document.Reported.{Reporting, atRoot, SumOfBoth, coded, not-coded, mostPairs}
+use Rattle.zurkhovel.specs.document.Reported.{Reporting, atRoot, coded, not-coded, mostPairs}
 use Rattle.zurkhovel.specs.Looked.{reported-most}
 use Rattle.named.specs.document.Codes.{NamedRootedCode, NamedFormCode, namedAtRoot, namedWidest, namedMiddles}
 use Rattle.named.specs.document.Same.{namedListRows, NamedSameSkeleton, NamedHandOut, namedOfBoth}

@@ -1,5 +1,4 @@
 -- What the functions on the marks of an accepted edge list with letters promise each other. Assumes nothing.
-use mathlib.Core.Path.{_≡_}
 use mathlib.Core.List.{List}
 use Prim.Native.Nat.{ℕ}
 use Rattle.refusal.specs.document.Table.{Writes}

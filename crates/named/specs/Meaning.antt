@@ -26,7 +26,7 @@ use Rattle.zurkhovel.specs.document.Maps.{MapOutcome}
 use Rattle.zurkhovel.specs.Means.{Means, same-means, not-same-means, map-means, none-means, some-means, handed-means}
 use Rattle.named.specs.document.Codes.{NamedForm, NamedFormCode}
 use Rattle.named.specs.document.Same.{namedListRows, NamedSameUnder, NamedSameSkeleton, NamedHandOut, NamedCheckRenumbering}
-use Rattle.named.specs.Accepted.{tree-of, digits-many, letters-many, few}
+use Rattle.named.specs.Accepted.{tree-of, digits-many, letters-many}
 use Rattle.named.specs.Spelled.{spelled-apart}
 use Rattle.named.specs.Two.{nothing-else, kept-length}
 

@@ -12,7 +12,7 @@ use Rattle.refusal.specs.Laws.{clear-left}
 use Rattle.refusal.specs.Giving.{gave, gave-value}
 use Rattle.refusal.specs.Lists.{lists-clear, maps-clear}
 use Rattle.fraction.specs.document.Outcome.{toldFraction}
-use Rattle.limits.specs.document.Limits.{size, valence}
+use Rattle.limits.specs.document.Limits.{valence}
 use Rattle.skeleton.specs.document.Atom.{atomAt}
 use Rattle.skeleton.specs.document.AtomMarks.{atoms}
 use Rattle.letters.specs.document.Letters.{row14-atom}

@@ -2,7 +2,7 @@
 -- atoms. What a call gave stands at the start of its outputs; where the next call's outputs have room, it gives what is said here and nothing else.
 --
 -- In order: what a call must give in two parts; rooted codes; N-tuple and centred codes, once for both. Named lines are in `RoundText`. Assumes nothing.
-use mathlib.Core.Path.{_≡_, refl, sym, ap, ap₂, _∙_, subst}
+use mathlib.Core.Path.{_≡_, refl, sym, ap, _∙_, subst}
 use mathlib.Core.List.{List, [], _∷_}
 use Prim.Native.Nat.{ℕ, _≤_}
 use native.Mathlib.Omega.{arith}
@@ -16,7 +16,7 @@ use Rattle.limits.specs.document.Limits.{size, valence}
 use Rattle.digit_code.specs.document.Code.{decode}
 use Rattle.skeleton.specs.document.Skeleton.{IsTree, Renumbering}
 use Rattle.skeleton.specs.document.Label.{rootedₗ, digits, labels, Keeps}
-use Rattle.skeleton.specs.Label.{IsRootedₗ, markRows, Valences}
+use Rattle.skeleton.specs.Label.{markRows}
 use Rattle.skeleton.specs.document.Atom.{atomAt, bonds}
 use Rattle.skeleton.specs.document.AtomMarks.{atoms}
 use Rattle.skeleton.specs.General.{code-length, code-decode}
@@ -29,7 +29,7 @@ use Rattle.form.specs.Labelled.{IsFormₗ, n-tuple-formₗ, centred-formₗ, Al
 use Rattle.form.specs.Accepted.{form-passesₗ, form-acceptedₗ}
 use Rattle.named.specs.document.Codes.{Spelled, NamedForm, NamedDecodeCode, NamedDecodeForm, NamedRootedCode, NamedFormCode}
 use Rattle.named.specs.document.Round.{GivenBoth, NamedUnder, NamedRenumbered}
-use Rattle.named.specs.Accepted.{some-bonds, few-bonds, digits-many, letters-many, tree-of, root-of, valences-of, decoded-of}
+use Rattle.named.specs.Accepted.{some-bonds, few-bonds, digits-many, letters-many, tree-of, root-of, valences-of}
 use Rattle.named.specs.Spelled.{spelled-marks}
 use Rattle.named.specs.Decoded.{letters-of, marks-many, told-digits, told-letters, told-labels, marks-clear, its-rows, its-code, spelled-clear, spelled-labels}
 

@@ -11,7 +11,7 @@ use Rattle.refusal.specs.document.Both.{TwoOutputs}
 use Rattle.refusal.specs.document.Given.{Given}
 use Rattle.refusal.specs.Laws.{clear-left}
 use Rattle.refusal.specs.Giving.{gave, must-give}
-use Rattle.limits.specs.document.Limits.{size, valence}
+use Rattle.limits.specs.document.Limits.{size}
 use Rattle.skeleton.specs.document.Label.{digits}
 use Rattle.skeleton.specs.document.Atom.{atomAt}
 use Rattle.skeleton.specs.document.AtomMarks.{atoms}

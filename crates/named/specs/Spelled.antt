@@ -1,14 +1,13 @@
 -- Digits and letters tell the code that they are of. Assumes nothing.
 use mathlib.Core.Path.{_≡_, refl, sym, ap, ap₂, _∙_}
-use mathlib.Core.List.{List, [], _∷_, map}
+use mathlib.Core.List.{List, [], _∷_}
 use Prim.Native.Nat.{ℕ}
 use Rattle.skeleton.specs.document.Label.{digits}
-use Rattle.skeleton.specs.document.Atom.{letter, atomOf}
+use Rattle.skeleton.specs.document.Atom.{letter}
 use Rattle.skeleton.specs.document.AtomMarks.{atoms}
 use Rattle.skeleton.specs.Atoms.{letter-atom}
 use Rattle.letters.specs.document.Letters.{lettersOf}
 use Rattle.lettered_check.specs.document.Lettered.{marksOf}
-use Rattle.named.specs.document.Codes.{Spelled}
 
 -- put together again they are the code
 pub spelled-marks : (c : List ℕ) → marksOf (digits atoms c) (lettersOf c) ≡ c

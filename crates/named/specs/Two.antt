@@ -5,7 +5,7 @@ use mathlib.Core.List.{List, []}
 use Prim.Native.Nat.{ℕ, _*_, _≤_}
 use lib.ListN.{length}
 use Rattle.refusal.specs.document.Table.{Row, Clear}
-use Rattle.limits.specs.document.Limits.{size, valence}
+use Rattle.limits.specs.document.Limits.{size}
 use Rattle.skeleton.specs.document.Label.{rootedₗ}
 use Rattle.skeleton.specs.document.Atom.{atomAt}
 use Rattle.skeleton.specs.document.AtomMarks.{atoms}

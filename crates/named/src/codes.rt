@@ -1,10 +1,12 @@
 // Digit codes and edge lists with letters. A code is a list of digits and one of letters, in digit order.
+use super::lists;
 use super::marked;
 use digit_code::Order;
 use limits::SIZE;
 use limits::VALENCE;
 use refusal::Answer;
 use refusal::Check;
+use refusal::Lists;
 use zurkhovel::codes::Verdict;
 use zurkhovel::reported::Reported;
 use zurkhovel::reported::ReportedVerdict;
@@ -211,15 +213,9 @@ pub fn same_skeleton(
 ) -> ReportedVerdict
     ensures { λ r. ⌜ Reporting (NamedSameSkeleton n1 (now (edges1 .entry)) (now (letters1 .entry)) n2 (now (edges2 .entry)) (now (letters2 .entry))) (namedOfBoth n1 (now (edges1 .entry)) (now (letters1 .entry)) n2 (now (edges2 .entry)) (now (letters2 .entry))) (said (r .answer)) (r .pairs) ⌝ }
 {
-    if let Check::Refuse(k, p) = edge_list::check_letters(SIZE, VALENCE, n1, edges1, 1, letters1) {
+    if let Lists::Refused(i, k, p) = lists::both(n1, edges1, letters1, n2, edges2, letters2) {
         return ReportedVerdict {
-            answer: Verdict::Refused(1, k, p),
-            pairs: 0,
-        };
-    }
-    if let Check::Refuse(k, p) = edge_list::check_letters(SIZE, VALENCE, n2, edges2, 1, letters2) {
-        return ReportedVerdict {
-            answer: Verdict::Refused(2, k, p),
+            answer: Verdict::Refused(i, k, p),
             pairs: 0,
         };
     }

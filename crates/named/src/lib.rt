@@ -2,6 +2,7 @@
 pub mod alike;
 pub mod carbon;
 pub mod codes;
+mod lists;
 pub mod maps;
 mod marked;
 pub mod text;

@@ -1,8 +1,9 @@
 // Renumberings of one edge list with letters onto another, as maps: one byte for each vertex of the first list, its number in the second. A map keeps the atoms.
+use super::lists;
 use limits::SIZE;
-use limits::VALENCE;
 use refusal::Answer;
 use refusal::Check;
+use refusal::Lists;
 use zurkhovel::maps::Mapping;
 use zurkhovel::reported::ReportedMapping;
 ghost use Rattle.refusal.specs.document.Table.{Clear};
@@ -61,15 +62,9 @@ pub fn renumbering(
 ) -> ReportedMapping
     ensures { λ r. ⌜ Reporting (NamedHandOut n1 (now (edges1 .entry)) (now (letters1 .entry)) n2 (now (edges2 .entry)) (now (letters2 .entry)) (now (out .entry)) (now (out .exit))) (namedOfBoth n1 (now (edges1 .entry)) (now (letters1 .entry)) n2 (now (edges2 .entry)) (now (letters2 .entry))) (mapped (r .answer)) (r .pairs) ⌝ }
 {
-    if let Check::Refuse(k, p) = edge_list::check_letters(SIZE, VALENCE, n1, edges1, 1, letters1) {
+    if let Lists::Refused(i, k, p) = lists::both(n1, edges1, letters1, n2, edges2, letters2) {
         return ReportedMapping {
-            answer: Mapping::Refused(1, k, p),
-            pairs: 0,
-        };
-    }
-    if let Check::Refuse(k, p) = edge_list::check_letters(SIZE, VALENCE, n2, edges2, 1, letters2) {
-        return ReportedMapping {
-            answer: Mapping::Refused(2, k, p),
+            answer: Mapping::Refused(i, k, p),
             pairs: 0,
         };
     }
@@ -112,11 +107,8 @@ pub fn check_renumbering(
 ) -> Mapping
     ensures { λ r. ⌜ NamedCheckRenumbering n1 (now (edges1 .entry)) (now (letters1 .entry)) n2 (now (edges2 .entry)) (now (letters2 .entry)) (now (map .entry)) (mapped r) ⌝ }
 {
-    if let Check::Refuse(k, p) = edge_list::check_letters(SIZE, VALENCE, n1, edges1, 1, letters1) {
-        return Mapping::Refused(1, k, p);
-    }
-    if let Check::Refuse(k, p) = edge_list::check_letters(SIZE, VALENCE, n2, edges2, 1, letters2) {
-        return Mapping::Refused(2, k, p);
+    if let Lists::Refused(i, k, p) = lists::both(n1, edges1, letters1, n2, edges2, letters2) {
+        return Mapping::Refused(i, k, p);
     }
     judge(n1, edges1, letters1, n2, edges2, letters2, map)
 }

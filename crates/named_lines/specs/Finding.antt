@@ -9,7 +9,7 @@ use native.Mathlib.Numerals.{add-one}
 use native.Mathlib.Decide.{ℕ-discrete, decLt}
 use native.Mathlib.Omega.{arith}
 use lib.ListN.{length, getD, take, drop, length-drop}
-use lib.Seq.{take-suc, drop-drop, length-take-le}
+use lib.Seq.{take-suc, drop-drop}
 use Rattle.laws.specs.Part.{part}
 use Rattle.laws.specs.Tells.{Tells, was-held, was-denied}
 use Rattle.limits.specs.document.Limits.{size}

@@ -20,7 +20,7 @@ use Rattle.skeleton.specs.document.Label.{Marks, rootedₗ, digits, labels, Kee
 use Rattle.skeleton.specs.Base.{base, rooted-base, digits-base}
 use Rattle.skeleton.specs.Renumber.{rooted-within, back, after}
 use Rattle.skeleton.specs.Numbered.{ToldBy, getD-map-in}
-use Rattle.numbering.specs.document.Order.{orderBy, kidsOf, order, markAt, orderₗ}
+use Rattle.numbering.specs.document.Order.{kidsOf, order, markAt, orderₗ}
 use Rattle.numbering.specs.Order.{pairsBy}
 use Rattle.numbering.specs.Numbering.{Reads, Orders, tree-numbering}
 

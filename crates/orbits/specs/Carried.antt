@@ -12,7 +12,7 @@ use lib.ListN.{length, getD}
 use Rattle.laws.specs.Perms.{perm-in}
 use Rattle.digit_code.specs.document.Code.{decode}
 use Rattle.skeleton.specs.document.Skeleton.{Arc, arcs, IsTree, Renumbering}
-use Rattle.skeleton.specs.document.Label.{Marks, rootedₗ, digits, labels, Keeps}
+use Rattle.skeleton.specs.document.Label.{Marks, rootedₗ, digits, labels}
 use Rattle.skeleton.specs.Label.{IsRootedₗ}
 use Rattle.skeleton.specs.Base.{base}
 use Rattle.skeleton.specs.Renumber.{carry, one-to-one}

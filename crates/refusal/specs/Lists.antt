@@ -1,4 +1,5 @@
--- The tables of two lists, and of two lists and a map: where none refuses; what each refuses; which of them it is; that it fits into bytes. Assumes nothing.
+-- The tables of two lists, and of two lists and a map: what their check answered; where none refuses; what each refuses; which of them it is; that it fits into bytes.
+-- Assumes nothing.
 use mathlib.Core.Path.{_≡_, sym, _∙_}
 use mathlib.Core.Logic.{_⊎_, inl, inr, ⊎-elim, _↔_}
 use mathlib.Core.Bool.{Bool, true}
@@ -8,7 +9,10 @@ use native.Mathlib.Omega.{arith}
 use lib.ListN.{length}
 use lib.Dec.{ltb}
 use borrow.Author.Tests.{ltb-true}
-use Rattle.refusal.specs.document.Table.{Row, ofList, Clear, First, FirstRefusal, OutcomeOf, short}
+use Rattle.refusal.specs.declared.Lists.{Lists}
+use Rattle.refusal.specs.declared.Lists.the-variants.{Accepted, Refused}
+use Rattle.refusal.specs.Checks.{Judges, both-pass, one-fails}
+use Rattle.refusal.specs.document.Table.{RowOf, Row, ofList, Clear, First, FirstRefusal, OutcomeOf, short}
 use Rattle.refusal.specs.document.Lowest.{both, Lowest, LowestWins}
 use Rattle.refusal.specs.document.Lists.{listsRows, mapsRows, OfLists, OfThree, HandsMap, HandsOut}
 use Rattle.refusal.specs.document.Small.{SmallOf}
@@ -16,6 +20,16 @@ use Rattle.refusal.specs.Laws.{one-accepted, clear-both, clear-left, cle
 use Rattle.refusal.specs.Lowest.{both-left, both-right}
 use Rattle.refusal.specs.Giving.{one-written}
 use Rattle.refusal.specs.Bounded.{Bounded, BoundedBy, bounded-both}
+
+-- what the check of two lists answered, as its caller learns it
+module _ {rs : List (RowOf (ℕ × ℕ))} where
+  pub were-accepted : {r : Lists} → Judges rs r → r ≡ Accepted → Clear rs
+  were-accepted (both-pass c) e = c
+  were-accepted (one-fails f) e = let z : _≡_ {A = ℕ} 0 1 = cc in absurd (let n : ⊥ = omega arith in n)
+
+  pub one-refused : {r : Lists} {i k p : ℕ} → Judges rs r → r ≡ Refused i k p → FirstRefusal rs (i, k) p
+  one-refused (both-pass c) e = let z : _≡_ {A = ℕ} 0 1 = cc in absurd (let n : ⊥ = omega arith in n)
+  one-refused {i = i} {k} {p} (one-fails {i = h} {k = j} {p = q} f) e = let a : h ≡ i = cc in let b : j ≡ k = cc in let c : q ≡ p = cc in rw (← a, ← b, ← c) f
 
 module _ (Z A B : List Row) where
   -- none refuses
@@ -29,6 +43,9 @@ module _ (Z A B : List Row) where
         )),
     (λ (z, k, l). clear-both (list-clear 0 Z .0 z) (clear-both (list-clear 1 A .0 k) (list-clear 2 B .0 l))),
   )
+
+  pub both-accepted : Clear (listsRows Z A B) → Clear A × Clear B
+  both-accepted c = let (z, k, l) = lists-clear .0 c in (k, l)
 
   -- what belongs to no list; the first list; the second
   pub lists-none : {k p : ℕ} → FirstRefusal Z k p → FirstRefusal (listsRows Z A B) (0, k) p

@@ -28,6 +28,14 @@ pub enum Check {
     Refuse(u8, usize),
 }
 
+// Of the check of two lists.
+pub enum Lists {
+    // Both are accepted.
+    Accepted,
+    // Refused: which list, 1 or 2, or 0 for what belongs to neither; the number of the table; the place.
+    Refused(u8, u8, usize),
+}
+
 // What a call answers that only checks.
 pub fn handed(check: Check) -> Answer
     ensures { λ r. ⌜ told r ≡ checked check ⌝ }

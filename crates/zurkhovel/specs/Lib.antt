@@ -9,7 +9,6 @@ pub mod PlacesText
 pub mod PlacesMaps
 pub mod Accepted
 pub mod Theorems
-pub mod Both
 pub mod Threes
 pub mod Handing
 pub mod Means

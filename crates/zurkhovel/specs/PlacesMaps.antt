@@ -10,12 +10,11 @@ use native.Mathlib.Omega.{arith}
 use lib.ListN.{length}
 use Rattle.refusal.specs.document.Table.{Row, ofList, Clear, short}
 use Rattle.refusal.specs.document.Small.{byteValues, Small, SmallOf}
-use Rattle.refusal.specs.Laws.{list-told}
 use Rattle.refusal.specs.Bounded.{Bounded, BoundedBy, bounded-rows, bounded-both, at-0, small}
 use Rattle.limits.specs.document.Limits.{size}
 use Rattle.renumber.specs.document.Map.{row5-map, row18, row19, mapRows, HandedOut}
 use Rattle.renumber.specs.Exactly.{map-sizes}
-use Rattle.zurkhovel.specs.document.Same.{listRows, bothRows}
+use Rattle.zurkhovel.specs.document.Same.{bothRows}
 use Rattle.zurkhovel.specs.document.Maps.{MapOutcome, threeRows, HandOut, CheckRenumbering}
 use Rattle.zurkhovel.specs.Accepted.{skeleton-of}
 use Rattle.refusal.specs.Lists.{below22, bounded-of}

@@ -17,7 +17,6 @@ use Rattle.renumber.specs.document.Map.{HandedOut}
 use Rattle.zurkhovel.specs.document.Same.{listRows, bothRows, EqualCodes}
 use Rattle.zurkhovel.specs.document.Maps.{threeRows, HandOut}
 use Rattle.zurkhovel.specs.Accepted.{tree-of}
-use Rattle.zurkhovel.specs.Theorems.{both-clear}
 use Rattle.limits.specs.document.Limits.{size}
 use Rattle.edition.specs.document.Edition.{row22}
 use Rattle.zurkhovel.specs.document.InEdition.{edgeTable}

@@ -1,12 +1,12 @@
 // Digit codes and edge lists.
 use super::editions;
-use super::editions::Lists;
 use super::reported::Reported;
 use super::reported::ReportedVerdict;
 use digit_code::Order;
 use limits::SIZE;
 use refusal::Answer;
 use refusal::Check;
+use refusal::Lists;
 ghost use Rattle.refusal.specs.document.Outcome.{told};
 ghost use Rattle.refusal.specs.document.Table.{Clear};
 ghost use Rattle.limits.specs.document.Limits.{size};

@@ -1,10 +1,9 @@
 -- `edge_list::allow` meets its contract: the loop keeps what is written for the vertices before v, and carbon's number behind them. Assumes nothing.
-use mathlib.Core.Path.{_≡_, sym, _∙_}
-use Prim.Native.Nat.{ℕ, _+_, _-_, _≤_, _<_}
+use Prim.Native.Nat.{_+_, _-_}
 use native.Mathlib.Omega.{arith}
 use borrow.Author.Needs.{needs}
-use lib.ListN.{length, getD}
-use Rattle.skeleton.specs.document.Atom.{bonds, atomAt}
+use lib.ListN.{length}
+use Rattle.skeleton.specs.document.Atom.{bonds}
 use Rattle.edge_list.proofs.Allowing.{Allowing, allowing-none, allowing-more, allowing-all, allowing-low}
 use Rattle.edge_list.proofs.allow.Statement.{statement}
 use Rattle.edge_list.proofs.allow.Tie as tie

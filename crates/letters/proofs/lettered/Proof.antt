@@ -1,7 +1,6 @@
 -- `letters::lettered` meets its contract. Assumes nothing.
 use mathlib.Core.Path.{_≡_, refl}
 use Prim.Native.Nat.{ℕ, zero, suc}
-use native.Mathlib.Omega.{arith}
 use borrow.Author.Needs.{needs}
 use Rattle.skeleton.specs.document.Atom.{named, letter}
 use Rattle.letters.proofs.lettered.Statement.{statement}

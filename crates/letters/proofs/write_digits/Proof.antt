@@ -1,7 +1,6 @@
 -- `letters::write_digits` meets its contract. Assumes nothing.
 use Prim.Native.Nat.{ℕ, _-_, _/_}
 use native.Mathlib.Omega.{arith}
-use borrow.Author.Needs.{needs}
 use lib.ListN.{length}
 use Rattle.laws.specs.Laying.{Mapped, mapped-none, mapped-more, mapped-all}
 use Rattle.skeleton.specs.document.Label.{digits}

@@ -8,7 +8,7 @@ use mathlib.Core.Path.{_≡_}
 use mathlib.Core.List.{List, [], _∷_, _++_, map}
 use Prim.Native.Nat.{ℕ, _≤_}
 use lib.ListN.{length}
-use Rattle.refusal.specs.document.Table.{Row, Outcome, row3}
+use Rattle.refusal.specs.document.Table.{Row, row3}
 use Rattle.texts.specs.document.Numerals.{figures, decimal, Digits, IsCount}
 use Rattle.texts.specs.document.Text.{PartRow, through, Format}
 

@@ -2,9 +2,9 @@
 -- words and its statements, is in `Demand` of the crate `texts`, for any kind of line; that it holds of this one is proved in `Demanded`. Assumes nothing.
 use mathlib.Core.Path.{_≡_}
 use mathlib.Core.List.{List}
-use Prim.Native.Nat.{ℕ, _≤_}
-use lib.ListN.{length, take}
-use Rattle.refusal.specs.document.Table.{Clear, Outcome, gives}
+use Prim.Native.Nat.{ℕ}
+use lib.ListN.{take}
+use Rattle.refusal.specs.document.Table.{Clear, gives}
 use Rattle.refusal.specs.document.Given.{Given}
 use Rattle.limits.specs.document.Limits.{size, valence}
 use Rattle.skeleton.specs.document.Label.{digits}

@@ -1,14 +1,11 @@
 -- `named::codes::same_skeleton` keeps its promise. Assumes nothing.
 use mathlib.Core.Path.{refl}
-use denote.Ref.{now}
+use mathlib.Core.List.{[]}
 use borrow.Author.Needs.{needs}
-use Rattle.refusal.specs.Laws.{was-clear, was-refused}
-use Rattle.named.proofs.Judging.{verdict-first, verdict-second}
+use Rattle.refusal.specs.document.Table.{left}
+use Rattle.refusal.specs.Lists.{were-accepted, one-refused, both-accepted}
 use Rattle.named.proofs.codes.same_skeleton.Statement.{statement}
 use Rattle.named.proofs.codes.same_skeleton.Tie as tie
-
-abbrev start : tie.After-check-letters → tie.Start
-start c = c .before .before .before .before .before
 
 pub same-skeleton-spec : {M : Type 1} → statement M
 same-skeleton-spec =
@@ -16,20 +13,7 @@ same-skeleton-spec =
     (tie.spec
     (λ c κs. search needs)
     (λ c. search needs)
-    (λ c.
-    let d = c .before .before .before in
-    let s = start d in
-    record { promised = verdict-first (s .args .n1) (now (s .args .edges1)) (now (s .args .letters1)) (s .args .n2) (now (s .args .edges2)) (now (s .args .letters2)) (was-refused (d .check-letters .ensures) (c .before .k .given .1)); reported = refl })
+    (λ c. record { promised = left (one-refused (c .before .before .before .both .ensures) (c .before .i .given .1)) refl; reported = refl })
     (λ c. search needs)
-    (λ c κs. search needs)
-    (λ c. search needs)
-    (λ c.
-    let e = c .before .before .before in
-    let d = e .before .before .before in
-    let s = start d in
-    record { promised = verdict-second (s .args .n1) (now (s .args .edges1)) (now (s .args .letters1)) (s .args .n2) (now (s .args .edges2)) (now (s .args .letters2)) (was-clear (d .check-letters .ensures) (e .before .enum-told .given .1)) (was-refused (e .check-letters2 .ensures) (c .before .k2 .given .1)); reported = refl })
-    (λ c. search needs)
-    (λ c κs.
-    let d = c .before .before .before in
-    (was-clear (d .before .before .check-letters .ensures) (d .enum-told .given .1), was-clear (c .before .before .check-letters2 .ensures) (c .enum-told2 .given .1)))
+    (λ c κs. both-accepted [] _ _ (were-accepted (c .before .before .both .ensures) (c .enum-told .given .1)))
     (λ c. c .judge .ensures))

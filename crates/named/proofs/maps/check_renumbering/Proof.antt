@@ -1,12 +1,13 @@
 -- `named::maps::check_renumbering` keeps its promise. Assumes nothing.
+use mathlib.Core.List.{[]}
 use denote.Ref.{now}
 use borrow.Author.Needs.{needs}
-use Rattle.refusal.specs.Laws.{was-clear, was-refused}
-use Rattle.named.proofs.Judging.{judge-first, judge-second}
+use Rattle.refusal.specs.Lists.{were-accepted, one-refused, both-accepted}
+use Rattle.named.proofs.Judging.{judge-lists}
 use Rattle.named.proofs.maps.check_renumbering.Statement.{statement}
 use Rattle.named.proofs.maps.check_renumbering.Tie as tie
 
-abbrev start : tie.After-check-letters → tie.Start
+abbrev start : tie.After-both → tie.Start
 start c = c .before .before .before .before .before .before
 
 pub check-renumbering-spec : {M : Type 1} → statement M
@@ -17,16 +18,8 @@ check-renumbering-spec =
     (λ c. search needs)
     (λ c.
     let d = c .before .before .before in
-    let s = start d in
-    judge-first (s .args .n1) (now (s .args .edges1)) (now (s .args .letters1)) (s .args .n2) (now (s .args .edges2)) (now (s .args .letters2)) (now (s .args .map)) (was-refused (d .check-letters .ensures) (c .before .k .given .1)))
+    let s = start d .args in
+    judge-lists (s .n1) (now (s .edges1)) (now (s .letters1)) (s .n2) (now (s .edges2)) (now (s .letters2)) (one-refused (d .both .ensures) (c .before .i .given .1)) (now (s .map)))
     (λ c. search needs)
-    (λ c κs. search needs)
-    (λ c. search needs)
-    (λ c.
-    let e = c .before .before .before in
-    let d = e .before .before .before in
-    let s = start d in
-    judge-second (s .args .n1) (now (s .args .edges1)) (now (s .args .letters1)) (s .args .n2) (now (s .args .edges2)) (now (s .args .letters2)) (now (s .args .map)) (was-clear (d .check-letters .ensures) (e .before .enum-told .given .1)) (was-refused (e .check-letters2 .ensures) (c .before .k2 .given .1)))
-    (λ c. search needs)
-    (λ c κs. let d = c .before .before .before in (was-clear (d .before .before .check-letters .ensures) (d .enum-told .given .1), was-clear (c .before .before .check-letters2 .ensures) (c .enum-told2 .given .1)))
+    (λ c κs. both-accepted [] _ _ (were-accepted (c .before .before .both .ensures) (c .enum-told .given .1)))
     (λ c. c .judge .ensures))

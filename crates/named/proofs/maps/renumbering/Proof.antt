@@ -1,13 +1,14 @@
 -- `named::maps::renumbering` keeps its promise. Assumes nothing.
 use mathlib.Core.Path.{refl}
+use mathlib.Core.List.{[]}
 use denote.Ref.{now}
 use borrow.Author.Needs.{needs}
-use Rattle.refusal.specs.Laws.{was-clear, was-refused}
-use Rattle.named.proofs.Judging.{hand-first, hand-second}
+use Rattle.refusal.specs.Lists.{were-accepted, one-refused, both-accepted}
+use Rattle.named.proofs.Judging.{hand-lists}
 use Rattle.named.proofs.maps.renumbering.Statement.{statement}
 use Rattle.named.proofs.maps.renumbering.Tie as tie
 
-abbrev start : tie.After-check-letters → tie.Start
+abbrev start : tie.After-both → tie.Start
 start c = c .before .before .before .before .before .before
 
 pub renumbering-spec : {M : Type 1} → statement M
@@ -18,20 +19,9 @@ renumbering-spec =
     (λ c. search needs)
     (λ c.
     let d = c .before .before .before in
-    let s = start d in
-    record { promised = hand-first (s .args .n1) (now (s .args .edges1)) (now (s .args .letters1)) (s .args .n2) (now (s .args .edges2)) (now (s .args .letters2)) (now (s .args .out)) (was-refused (d .check-letters .ensures) (c .before .k .given .1)); reported = refl })
+    let s = start d .args in
+    record { promised = hand-lists (s .n1) (now (s .edges1)) (now (s .letters1)) (s .n2) (now (s .edges2)) (now (s .letters2)) (one-refused (d .both .ensures) (c .before .i .given .1)) (now (s .out)); reported = refl })
     (λ c. search needs)
-    (λ c κs. search needs)
-    (λ c. search needs)
-    (λ c.
-    let e = c .before .before .before in
-    let d = e .before .before .before in
-    let s = start d in
-    record { promised = hand-second (s .args .n1) (now (s .args .edges1)) (now (s .args .letters1)) (s .args .n2) (now (s .args .edges2)) (now (s .args .letters2)) (now (s .args .out)) (was-clear (d .check-letters .ensures) (e .before .enum-told .given .1)) (was-refused (e .check-letters2 .ensures) (c .before .k2 .given .1)); reported = refl })
-    (λ c. search needs)
-    (λ c κs.
-    let e = c .before in
-    let d = e .before .before .before in
-    (was-clear (d .before .before .check-letters .ensures) (d .enum-told .given .1), was-clear (e .before .before .check-letters2 .ensures) (e .enum-told2 .given .1)))
+    (λ c κs. let d = c .before in both-accepted [] _ _ (were-accepted (d .before .before .both .ensures) (d .enum-told .given .1)))
     (λ c. search needs)
     (λ c. c .before .before .hand-out .ensures))
