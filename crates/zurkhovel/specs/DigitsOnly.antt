@@ -24,6 +24,7 @@ use Rattle.texts.specs.Seen.{numbersOf, placesOf, seen, answered, lines-answere
 use Rattle.zurkhovel.specs.document.Demand.{plainKind}
 use Rattle.zurkhovel.specs.Demanded.{legible}
 use Rattle.zurkhovel.specs.document.DigitsOnly.{WholeLines}
+use Rattle.zurkhovel.specs.document.InEdition.{edgeTable}
 use Rattle.edition.specs.document.Edition.{IsEdition, neighboursIn}
 use Rattle.edition.specs.Laws.{clear-edition}
 use Rattle.lines.specs.OfEdition.{answer-of, read-of}
@@ -31,13 +32,13 @@ use Rattle.lines.specs.document.Reading.{linesOf}
 
 module _ (e : ℕ) where
   -- what `write_line` gives: digits, one space, digits, and one line feed, the last byte
-  pub write-line-digits : (N : ℕ) (E old new : List ℕ) (n : ℕ) → WriteLine e N E old new (gives n) → DigitsOnly (take n new)
+  pub write-line-digits : (N : ℕ) (E old new : List ℕ) (n : ℕ) → WriteLine (edgeTable e) N E old new (gives n) → DigitsOnly (take n new)
   write-line-digits N E old new n w =
       let (k, (c, x, q), _) = gave w in
       subst DigitsOnly (sym q) (line-digits c (centred-accepted (clear-edition k) (skeleton-of k) x .formed))
 
   -- so each byte of it is a digit, the space or the line feed
-  pub write-line-bytes : (N : ℕ) (E old new : List ℕ) (n : ℕ) → WriteLine e N E old new (gives n) → Each Allowed (take n new)
+  pub write-line-bytes : (N : ℕ) (E old new : List ℕ) (n : ℕ) → WriteLine (edgeTable e) N E old new (gives n) → Each Allowed (take n new)
   write-line-bytes N E old new n w = each-allowed (write-line-digits N E old new n w)
 
   -- the first line of t, up to its first line feed, holds the mark m: `read_line` refuses it 2, and leaves what is lent

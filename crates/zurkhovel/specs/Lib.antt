@@ -8,6 +8,7 @@ pub mod PlacesMatrix
 pub mod PlacesText
 pub mod PlacesMaps
 pub mod Accepted
+pub mod Tabled
 pub mod Theorems
 pub mod Threes
 pub mod Handing

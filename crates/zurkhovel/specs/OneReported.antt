@@ -32,7 +32,7 @@ use Rattle.zurkhovel.specs.document.Matrix.{CamByCode, ZeroAByCode, AZer
 use Rattle.zurkhovel.specs.document.Lines.{WriteLine}
 use Rattle.zurkhovel.specs.document.Alike.{EqualVertices}
 use Rattle.zurkhovel.specs.document.Reported.{Reports, Reporting, atRoot, SumOfBoth, OfBoth, coded, not-coded}
-use Rattle.zurkhovel.specs.Accepted.{tree-of}
+use Rattle.zurkhovel.specs.Tabled.{Tabled, in-edition}
 use Rattle.zurkhovel.specs.Theorems.{verdict-lists}
 use Rattle.zurkhovel.specs.Threes.{handed-lists}
 use Rattle.zurkhovel.specs.One as codes
@@ -41,7 +41,7 @@ use Rattle.zurkhovel.specs.OneBits as bits
 use Rattle.zurkhovel.specs.OneMatrix as matrix
 use Rattle.zurkhovel.specs.OneText as text
 use Rattle.limits.specs.document.Limits.{size}
-use Rattle.zurkhovel.specs.document.InEdition.{edgeTable}
+use Rattle.zurkhovel.specs.document.InEdition.{EdgeTable, edgeTable}
 
 -- ---- the law
 
@@ -113,24 +113,62 @@ one-sum one two (coded q u v) (not-coded f) = absurd (f q)
 one-sum one two (not-coded q) (coded f w z) = absurd (q f)
 one-sum one two (not-coded q) (not-coded f) = refl
 
-module _ (e : ℕ) where
+module _ {T : EdgeTable} {R : ℕ} (t : Tabled T R) where
   -- of an accepted list
-  one-centred : {most : ℕ} (N : ℕ) (E : List ℕ) → Clear (edgeTable e most N E 1) → (n m : ℕ) → centredPairs N E n → centredPairs N E m → n ≡ m
-  one-centred N E k n m x y = one-over-middles (tree-of N E 1 k) x y
+  one-centred : {most : ℕ} (N : ℕ) (E : List ℕ) → Clear (T most N E 1) → (n m : ℕ) → centredPairs N E n → centredPairs N E m → n ≡ m
+  one-centred N E k n m x y = one-over-middles (t .skeleton N E 1 k .tree) x y
 
   one-middles :
-      {most N : ℕ} {E old new : List ℕ} {Right : List ℕ → Type 0} → OneCount (Gives (edgeTable e most N E 1) Right old new) (centredPairs N E)
+      {most N : ℕ} {E old new : List ℕ} {Right : List ℕ → Type 0} → OneCount (Gives (T most N E 1) Right old new) (centredPairs N E)
   one-middles {N = N} {E} a p = one-centred N E (gave p .0)
 
-  one-middles-value : {most N : ℕ} {E : List ℕ} {A : Type 0} {Right : A → Type 0} → OneCount (Answered (edgeTable e most N E 1) Right) (centredPairs N E)
+  one-middles-value : {most N : ℕ} {E : List ℕ} {A : Type 0} {Right : A → Type 0} → OneCount (Answered (T most N E 1) Right) (centredPairs N E)
   one-middles-value {N = N} {E} a p = one-centred N E (gave-value p .0)
 
+  pub one-cam-by-code-reported :
+      (N : ℕ) (E old new new′ : List ℕ) (r s : Reported) → Reporting (CamByCode T N E old new) (centredPairs N E) (told (r .answer)) (r .pairs)
+      → Reporting (CamByCode T N E old new′) (centredPairs N E) (told (s .answer)) (s .pairs) → (r ≡ s) × (new ≡ new′)
+  one-cam-by-code-reported N E old new new′ = one-written (matrix.one-cam-by-code t N E old new new′) one-middles
+
+  pub one-zero-a-by-code-reported :
+      (N : ℕ) (E : List ℕ) (r s : ReportedNumber) → Reporting (ZeroAByCode T N E) (centredPairs N E) (numbered (r .answer)) (r .pairs)
+      → Reporting (ZeroAByCode T N E) (centredPairs N E) (numbered (s .answer)) (s .pairs) → r ≡ s
+  one-zero-a-by-code-reported N E = one-valued (matrix.one-zero-a-by-code t N E) one-middles-value
+
+  pub one-a-zero-by-code-reported :
+      (N : ℕ) (E : List ℕ) (r s : ReportedNumber) → Reporting (AZeroByCode T N E) (centredPairs N E) (numbered (r .answer)) (r .pairs)
+      → Reporting (AZeroByCode T N E) (centredPairs N E) (numbered (s .answer)) (s .pairs) → r ≡ s
+  one-a-zero-by-code-reported N E = one-valued (matrix.one-a-zero-by-code t N E) one-middles-value
+
+  pub one-write-line-reported :
+      (N : ℕ) (E old new new′ : List ℕ) (r s : Reported) → Reporting (WriteLine T N E old new) (centredPairs N E) (told (r .answer)) (r .pairs)
+      → Reporting (WriteLine T N E old new′) (centredPairs N E) (told (s .answer)) (s .pairs) → (r ≡ s) × (new ≡ new′)
+  one-write-line-reported N E old new new′ = one-written (text.one-write-line t N E old new new′) one-middles
+
+module _ (T : EdgeTable) where
+  pub one-pack-reported :
+      (N : ℕ) (E : List ℕ) (root : ℕ) (old new new′ : List ℕ) (r s : Reported)
+      → Reporting (Pack T N E root old new) (atRoot N E root) (told (r .answer)) (r .pairs)
+      → Reporting (Pack T N E root old new′) (atRoot N E root) (told (s .answer)) (s .pairs) → (r ≡ s) × (new ≡ new′)
+  one-pack-reported N E root old new new′ = one-written (bits.one-pack T N E root old new new′) (λ a p. one-root N E root)
+
+  pub one-whole-reported :
+      (N : ℕ) (E : List ℕ) (root : ℕ) (r s : ReportedNumber) → Reporting (Whole T N E root) (atRoot N E root) (numbered (r .answer)) (r .pairs)
+      → Reporting (Whole T N E root) (atRoot N E root) (numbered (s .answer)) (s .pairs) → r ≡ s
+  one-whole-reported N E root = one-valued (bits.one-whole T N E root) (λ a p. one-root N E root)
+
+  pub one-fraction-reported :
+      (N : ℕ) (E : List ℕ) (root : ℕ) (r s : ReportedFraction) → Reporting (InFraction T N E root) (atRoot N E root) (toldFraction (r .answer)) (r .pairs)
+      → Reporting (InFraction T N E root) (atRoot N E root) (toldFraction (s .answer)) (s .pairs) → r ≡ s
+  one-fraction-reported N E root = one-exact (bits.one-fraction T N E root) (λ a p. one-root N E root)
+
+-- ---- the calls, in the edition e
+
+module _ (e : ℕ) where
   -- of two
   one-both :
       {N P : ℕ} {E F : List ℕ} → Clear (edgeTable e size N E 1) × Clear (edgeTable e size P F 1) → {n m : ℕ} → OfBoth N E P F n → OfBoth N E P F m → n ≡ m
-  one-both {N} {P} {E} {F} (k, l) = one-sum (one-centred N E k) (one-centred P F l)
-
-  -- ---- the calls
+  one-both {N} {P} {E} {F} (k, l) = one-sum (one-centred (in-edition e) N E k) (one-centred (in-edition e) P F l)
 
   pub one-rooted-code-reported :
       (N : ℕ) (E : List ℕ) (root : ℕ) (old new new′ : List ℕ) (r s : Reported)
@@ -148,7 +186,7 @@ module _ (e : ℕ) where
       (N : ℕ) (E old new new′ : List ℕ) (r s : Reported)
       → Reporting (FormCode e centred N E old new) (centredPairs N E) (told (r .answer)) (r .pairs)
       → Reporting (FormCode e centred N E old new′) (centredPairs N E) (told (s .answer)) (s .pairs) → (r ≡ s) × (new ≡ new′)
-  one-centred-code-reported N E old new new′ = one-written (codes.one-centred-code e N E old new new′) one-middles
+  one-centred-code-reported N E old new new′ = one-written (codes.one-centred-code e N E old new new′) (one-middles (in-edition e))
 
   pub one-same-skeleton-reported :
       (N : ℕ) (E : List ℕ) (P : ℕ) (F : List ℕ) (r s : ReportedVerdict)
@@ -162,43 +200,7 @@ module _ (e : ℕ) where
       → Reporting (HandOut e N E P F old new′) (OfBoth N E P F) (mapped (s .answer)) (s .pairs) → (r ≡ s) × (new ≡ new′)
   one-renumbering-reported N E P F old new new′ = one-mapping (maps.one-renumbering e N E P F old new new′) (λ a p n m. one-both (handed-lists p))
 
-  pub one-pack-reported :
-      (N : ℕ) (E : List ℕ) (root : ℕ) (old new new′ : List ℕ) (r s : Reported)
-      → Reporting (Pack e N E root old new) (atRoot N E root) (told (r .answer)) (r .pairs)
-      → Reporting (Pack e N E root old new′) (atRoot N E root) (told (s .answer)) (s .pairs) → (r ≡ s) × (new ≡ new′)
-  one-pack-reported N E root old new new′ = one-written (bits.one-pack e N E root old new new′) (λ a p. one-root N E root)
-
-  pub one-whole-reported :
-      (N : ℕ) (E : List ℕ) (root : ℕ) (r s : ReportedNumber) → Reporting (Whole e N E root) (atRoot N E root) (numbered (r .answer)) (r .pairs)
-      → Reporting (Whole e N E root) (atRoot N E root) (numbered (s .answer)) (s .pairs) → r ≡ s
-  one-whole-reported N E root = one-valued (bits.one-whole e N E root) (λ a p. one-root N E root)
-
-  pub one-fraction-reported :
-      (N : ℕ) (E : List ℕ) (root : ℕ) (r s : ReportedFraction) → Reporting (InFraction e N E root) (atRoot N E root) (toldFraction (r .answer)) (r .pairs)
-      → Reporting (InFraction e N E root) (atRoot N E root) (toldFraction (s .answer)) (s .pairs) → r ≡ s
-  one-fraction-reported N E root = one-exact (bits.one-fraction e N E root) (λ a p. one-root N E root)
-
-  pub one-cam-by-code-reported :
-      (N : ℕ) (E old new new′ : List ℕ) (r s : Reported) → Reporting (CamByCode e N E old new) (centredPairs N E) (told (r .answer)) (r .pairs)
-      → Reporting (CamByCode e N E old new′) (centredPairs N E) (told (s .answer)) (s .pairs) → (r ≡ s) × (new ≡ new′)
-  one-cam-by-code-reported N E old new new′ = one-written (matrix.one-cam-by-code e N E old new new′) one-middles
-
-  pub one-zero-a-by-code-reported :
-      (N : ℕ) (E : List ℕ) (r s : ReportedNumber) → Reporting (ZeroAByCode e N E) (centredPairs N E) (numbered (r .answer)) (r .pairs)
-      → Reporting (ZeroAByCode e N E) (centredPairs N E) (numbered (s .answer)) (s .pairs) → r ≡ s
-  one-zero-a-by-code-reported N E = one-valued (matrix.one-zero-a-by-code e N E) one-middles-value
-
-  pub one-a-zero-by-code-reported :
-      (N : ℕ) (E : List ℕ) (r s : ReportedNumber) → Reporting (AZeroByCode e N E) (centredPairs N E) (numbered (r .answer)) (r .pairs)
-      → Reporting (AZeroByCode e N E) (centredPairs N E) (numbered (s .answer)) (s .pairs) → r ≡ s
-  one-a-zero-by-code-reported N E = one-valued (matrix.one-a-zero-by-code e N E) one-middles-value
-
-  pub one-write-line-reported :
-      (N : ℕ) (E old new new′ : List ℕ) (r s : Reported) → Reporting (WriteLine e N E old new) (centredPairs N E) (told (r .answer)) (r .pairs)
-      → Reporting (WriteLine e N E old new′) (centredPairs N E) (told (s .answer)) (s .pairs) → (r ≡ s) × (new ≡ new′)
-  one-write-line-reported N E old new new′ = one-written (text.one-write-line e N E old new new′) one-middles
-
   pub one-equal-vertices-reported :
       (N : ℕ) (E old new new′ : List ℕ) (r s : Reported) → Reporting (EqualVertices e N E old new) (centredPairs N E) (told (r .answer)) (r .pairs)
       → Reporting (EqualVertices e N E old new′) (centredPairs N E) (told (s .answer)) (s .pairs) → (r ≡ s) × (new ≡ new′)
-  one-equal-vertices-reported N E old new new′ = one-written (text.one-equal-vertices e N E old new new′) one-middles
+  one-equal-vertices-reported N E old new new′ = one-written (text.one-equal-vertices e N E old new new′) (one-middles (in-edition e))

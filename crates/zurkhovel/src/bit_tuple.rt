@@ -21,6 +21,7 @@ ghost use Rattle.fraction.specs.document.Outcome as fraction;
 ghost use Rattle.zurkhovel.specs.Rooting.{Rooting, Readable, EdgesOf};
 ghost use Rattle.zurkhovel.specs.document.Reported.{Reporting, atRoot};
 ghost use Rattle.zurkhovel.specs.document.Bits.{Pack, Unpack, Whole, Unwhole, InFraction, Unfraction};
+ghost use Rattle.zurkhovel.specs.document.InEdition.{edgeTable};
 
 // The rooted code at a vertex of a skeleton of at most `most` vertices.
 fn rooted(
@@ -52,7 +53,7 @@ fn laid(result: &[u8], out: &mut [u8]) -> Answer
 
 // The packed form of the rooted code at a vertex.
 pub fn pack(edition: usize, n: usize, edges: &[u8], root: usize, out: &mut [u8]) -> Reported
-    ensures { λ r. ⌜ Reporting (Pack edition n (now (edges .entry)) root (now (out .entry)) (now (out .exit))) (atRoot n (now (edges .entry)) root) (told (r .answer)) (r .pairs) ⌝ }
+    ensures { λ r. ⌜ Reporting (Pack (edgeTable edition) n (now (edges .entry)) root (now (out .entry)) (now (out .exit))) (atRoot n (now (edges .entry)) root) (told (r .answer)) (r .pairs) ⌝ }
 {
     let mut code = [0u8; SIZE];
     match rooted(edition, SIZE, n, edges, root, &mut code) {
@@ -70,7 +71,7 @@ pub fn pack(edition: usize, n: usize, edges: &[u8], root: usize, out: &mut [u8])
 
 // The whole number of the rooted code at a vertex.
 pub fn whole(edition: usize, n: usize, edges: &[u8], root: usize) -> ReportedNumber
-    ensures { λ r. ⌜ Reporting (Whole edition n (now (edges .entry)) root) (atRoot n (now (edges .entry)) root) (numbered (r .answer)) (r .pairs) ⌝ }
+    ensures { λ r. ⌜ Reporting (Whole (edgeTable edition) n (now (edges .entry)) root) (atRoot n (now (edges .entry)) root) (numbered (r .answer)) (r .pairs) ⌝ }
 {
     let mut code = [0u8; SIZE];
     match rooted(edition, limits::WHOLE, n, edges, root, &mut code) {
@@ -87,7 +88,7 @@ pub fn whole(edition: usize, n: usize, edges: &[u8], root: usize) -> ReportedNum
 
 // The fraction of the rooted code at a vertex.
 pub fn fraction(edition: usize, n: usize, edges: &[u8], root: usize) -> ReportedFraction
-    ensures { λ r. ⌜ Reporting (InFraction edition n (now (edges .entry)) root) (atRoot n (now (edges .entry)) root) (fraction.toldFraction (r .answer)) (r .pairs) ⌝ }
+    ensures { λ r. ⌜ Reporting (InFraction (edgeTable edition) n (now (edges .entry)) root) (atRoot n (now (edges .entry)) root) (fraction.toldFraction (r .answer)) (r .pairs) ⌝ }
 {
     let mut code = [0u8; SIZE];
     match rooted(edition, limits::FRACTION, n, edges, root, &mut code) {

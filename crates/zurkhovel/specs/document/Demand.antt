@@ -23,13 +23,13 @@ AcceptedList e N E = Clear (edgeTable e size N E 1)
 -- what `write_line` gives is the line of the centred code of an accepted edge list
 abbrev pub GivesALine : ℕ → Type 0
 GivesALine e =
-    (N : ℕ) (E old new : List ℕ) (n : ℕ) → WriteLine e N E old new (gives n)
+    (N : ℕ) (E old new : List ℕ) (n : ℕ) → WriteLine (edgeTable e) N E old new (gives n)
     → AcceptedList e N E × ((c : List ℕ) × centred N E c × (take n new ≡ line c))
 
 -- and for every accepted edge list it gives that line, where 68 bytes are lent
 abbrev pub GivesEachLine : ℕ → Type 0
 GivesEachLine e =
-    (N : ℕ) (E old new : List ℕ) (o : Outcome ℕ) → AcceptedList e N E → 68 ≤ length old → WriteLine e N E old new o
+    (N : ℕ) (E old new : List ℕ) (o : Outcome ℕ) → AcceptedList e N E → 68 ≤ length old → WriteLine (edgeTable e) N E old new o
     → (c : List ℕ) × centred N E c × Given (line c) old new o
 
 -- ---- plain lines as a kind of line
@@ -41,7 +41,7 @@ pub record LineGiven (e : ℕ) (b c : List ℕ) : Type 0 where
   pub old : List ℕ
   pub new : List ℕ
   pub n : ℕ
-  pub writes : WriteLine e N E old new (gives n)
+  pub writes : WriteLine (edgeTable e) N E old new (gives n)
   pub code : centred N E c
   pub bytes : b ≡ take n new
 
