@@ -34,6 +34,8 @@ use Rattle.zurkhovel.specs.OneBits as bits
 use Rattle.zurkhovel.specs.OneMaps as carried
 use Rattle.zurkhovel.specs.OneMatrix as matrix
 use Rattle.zurkhovel.specs.OneText as text
+use Rattle.zurkhovel.specs.document.InEdition.{EdgeTable}
+use Rattle.zurkhovel.specs.Tabled.{Tabled}
 use Rattle.exports.specs.document.Packing.{packed, truth, withList, held, PackedAnswer, PackedFinding, PackedMapping, PackedValue}
 
 -- ---- each kind of answer
@@ -165,65 +167,20 @@ module _ (e : ℕ) where
       (N : ℕ) (E : List ℕ) (P : ℕ) (F w : List ℕ) (r s : ℕ) → PackedMapping (CheckRenumbering e N E P F w) r → PackedMapping (CheckRenumbering e N E P F w) s → r ≡ s
   one-zk-check-renumbering N E P F w = one-judged (carried.one-check-renumbering e N E P F w)
 
-  pub one-zk-pack :
-      (N : ℕ) (E : List ℕ) (root : ℕ) (old new new′ : List ℕ) (r s : ℕ) → PackedAnswer (Pack e N E root old new) r → PackedAnswer (Pack e N E root old new′) s
-      → (r ≡ s) × (new ≡ new′)
-  one-zk-pack N E root old new new′ = one-written (bits.one-pack e N E root old new new′)
-
   pub one-zk-unpack :
       (b : List ℕ) (old new new′ : List ℕ) (r s : ℕ) → PackedAnswer (Unpack e b old new) r → PackedAnswer (Unpack e b old new′) s
       → (r ≡ s) × (new ≡ new′)
   one-zk-unpack b old new new′ = one-written (bits.one-unpack e b old new new′)
-
-  pub one-zk-whole :
-      (N : ℕ) (E : List ℕ) (root : ℕ) (old new new′ : ℕ) (r s : ℕ) → PackedValue (Whole e N E root) old new r → PackedValue (Whole e N E root) old new′ s
-      → (r ≡ s) × (new ≡ new′)
-  one-zk-whole N E root = one-held (one-number (Whole e N E root) (bits.one-whole e N E root))
 
   pub one-zk-unwhole :
       (N : ℕ) (x : ℕ) (old new new′ : List ℕ) (r s : ℕ) → PackedAnswer (Unwhole e N x old new) r → PackedAnswer (Unwhole e N x old new′) s
       → (r ≡ s) × (new ≡ new′)
   one-zk-unwhole N x old new new′ = one-written (bits.one-unwhole e N x old new new′)
 
-  pub one-zk-fraction :
-      (N : ℕ) (E : List ℕ) (root : ℕ) (old new new′ : Float) (r s : ℕ) → PackedValue (InFraction e N E root) old new r → PackedValue (InFraction e N E root) old new′ s
-      → (r ≡ s) × (new ≡ new′)
-  one-zk-fraction N E root = one-held (one-exact (InFraction e N E root) (bits.one-fraction e N E root))
-
   pub one-zk-unfraction :
       (x : Float) (old new new′ : List ℕ) (r s : ℕ) → PackedAnswer (Unfraction e x old new) r → PackedAnswer (Unfraction e x old new′) s
       → (r ≡ s) × (new ≡ new′)
   one-zk-unfraction x old new new′ = one-written (bits.one-unfraction e x old new new′)
-
-  pub one-zk-cam :
-      (N : ℕ) (E : List ℕ) (old new new′ : List ℕ) (r s : ℕ) → PackedAnswer (Cam e N E old new) r → PackedAnswer (Cam e N E old new′) s
-      → (r ≡ s) × (new ≡ new′)
-  one-zk-cam N E old new new′ = one-written (matrix.one-cam e N E old new new′)
-
-  pub one-zk-zero-a :
-      (N : ℕ) (E : List ℕ) (old new new′ : ℕ) (r s : ℕ) → PackedValue (ZeroA e N E) old new r → PackedValue (ZeroA e N E) old new′ s
-      → (r ≡ s) × (new ≡ new′)
-  one-zk-zero-a N E = one-held (one-number (ZeroA e N E) (matrix.one-zero-a e N E))
-
-  pub one-zk-a-zero :
-      (N : ℕ) (E : List ℕ) (old new new′ : ℕ) (r s : ℕ) → PackedValue (AZero e N E) old new r → PackedValue (AZero e N E) old new′ s
-      → (r ≡ s) × (new ≡ new′)
-  one-zk-a-zero N E = one-held (one-number (AZero e N E) (matrix.one-a-zero e N E))
-
-  pub one-zk-cam-by-code :
-      (N : ℕ) (E : List ℕ) (old new new′ : List ℕ) (r s : ℕ) → PackedAnswer (CamByCode e N E old new) r → PackedAnswer (CamByCode e N E old new′) s
-      → (r ≡ s) × (new ≡ new′)
-  one-zk-cam-by-code N E old new new′ = one-written (matrix.one-cam-by-code e N E old new new′)
-
-  pub one-zk-zero-a-by-code :
-      (N : ℕ) (E : List ℕ) (old new new′ : ℕ) (r s : ℕ) → PackedValue (ZeroAByCode e N E) old new r → PackedValue (ZeroAByCode e N E) old new′ s
-      → (r ≡ s) × (new ≡ new′)
-  one-zk-zero-a-by-code N E = one-held (one-number (ZeroAByCode e N E) (matrix.one-zero-a-by-code e N E))
-
-  pub one-zk-a-zero-by-code :
-      (N : ℕ) (E : List ℕ) (old new new′ : ℕ) (r s : ℕ) → PackedValue (AZeroByCode e N E) old new r → PackedValue (AZeroByCode e N E) old new′ s
-      → (r ≡ s) × (new ≡ new′)
-  one-zk-a-zero-by-code N E = one-held (one-number (AZeroByCode e N E) (matrix.one-a-zero-by-code e N E))
 
   pub one-zk-decode-cam :
       (N : ℕ) (c : List ℕ) (old new new′ : List ℕ) (r s : ℕ) → PackedAnswer (DecodeCam e N c old new) r → PackedAnswer (DecodeCam e N c old new′) s
@@ -250,7 +207,56 @@ module _ (e : ℕ) where
       → (r ≡ s) × (new ≡ new′)
   one-zk-read-line t old new new′ = one-written (text.one-read-line e t old new new′)
 
-  pub one-zk-write-line :
-      (N : ℕ) (E : List ℕ) (old new new′ : List ℕ) (r s : ℕ) → PackedAnswer (WriteLine e N E old new) r → PackedAnswer (WriteLine e N E old new′) s
+-- ---- the forms of an edge list, over its table
+
+module _ (T : EdgeTable) where
+  pub one-zk-pack :
+      (N : ℕ) (E : List ℕ) (root : ℕ) (old new new′ : List ℕ) (r s : ℕ) → PackedAnswer (Pack T N E root old new) r → PackedAnswer (Pack T N E root old new′) s
       → (r ≡ s) × (new ≡ new′)
-  one-zk-write-line N E old new new′ = one-written (text.one-write-line e N E old new new′)
+  one-zk-pack N E root old new new′ = one-written (bits.one-pack T N E root old new new′)
+
+  pub one-zk-whole :
+      (N : ℕ) (E : List ℕ) (root : ℕ) (old new new′ : ℕ) (r s : ℕ) → PackedValue (Whole T N E root) old new r → PackedValue (Whole T N E root) old new′ s
+      → (r ≡ s) × (new ≡ new′)
+  one-zk-whole N E root = one-held (one-number (Whole T N E root) (bits.one-whole T N E root))
+
+  pub one-zk-fraction :
+      (N : ℕ) (E : List ℕ) (root : ℕ) (old new new′ : Float) (r s : ℕ) → PackedValue (InFraction T N E root) old new r → PackedValue (InFraction T N E root) old new′ s
+      → (r ≡ s) × (new ≡ new′)
+  one-zk-fraction N E root = one-held (one-exact (InFraction T N E root) (bits.one-fraction T N E root))
+
+  pub one-zk-cam :
+      (N : ℕ) (E : List ℕ) (old new new′ : List ℕ) (r s : ℕ) → PackedAnswer (Cam T N E old new) r → PackedAnswer (Cam T N E old new′) s
+      → (r ≡ s) × (new ≡ new′)
+  one-zk-cam N E old new new′ = one-written (matrix.one-cam T N E old new new′)
+
+  pub one-zk-zero-a :
+      (N : ℕ) (E : List ℕ) (old new new′ : ℕ) (r s : ℕ) → PackedValue (ZeroA T N E) old new r → PackedValue (ZeroA T N E) old new′ s
+      → (r ≡ s) × (new ≡ new′)
+  one-zk-zero-a N E = one-held (one-number (ZeroA T N E) (matrix.one-zero-a T N E))
+
+  pub one-zk-a-zero :
+      (N : ℕ) (E : List ℕ) (old new new′ : ℕ) (r s : ℕ) → PackedValue (AZero T N E) old new r → PackedValue (AZero T N E) old new′ s
+      → (r ≡ s) × (new ≡ new′)
+  one-zk-a-zero N E = one-held (one-number (AZero T N E) (matrix.one-a-zero T N E))
+
+module _ {T : EdgeTable} {R : ℕ} (t : Tabled T R) where
+  pub one-zk-cam-by-code :
+      (N : ℕ) (E : List ℕ) (old new new′ : List ℕ) (r s : ℕ) → PackedAnswer (CamByCode T N E old new) r → PackedAnswer (CamByCode T N E old new′) s
+      → (r ≡ s) × (new ≡ new′)
+  one-zk-cam-by-code N E old new new′ = one-written (matrix.one-cam-by-code t N E old new new′)
+
+  pub one-zk-zero-a-by-code :
+      (N : ℕ) (E : List ℕ) (old new new′ : ℕ) (r s : ℕ) → PackedValue (ZeroAByCode T N E) old new r → PackedValue (ZeroAByCode T N E) old new′ s
+      → (r ≡ s) × (new ≡ new′)
+  one-zk-zero-a-by-code N E = one-held (one-number (ZeroAByCode T N E) (matrix.one-zero-a-by-code t N E))
+
+  pub one-zk-a-zero-by-code :
+      (N : ℕ) (E : List ℕ) (old new new′ : ℕ) (r s : ℕ) → PackedValue (AZeroByCode T N E) old new r → PackedValue (AZeroByCode T N E) old new′ s
+      → (r ≡ s) × (new ≡ new′)
+  one-zk-a-zero-by-code N E = one-held (one-number (AZeroByCode T N E) (matrix.one-a-zero-by-code t N E))
+
+  pub one-zk-write-line :
+      (N : ℕ) (E : List ℕ) (old new new′ : List ℕ) (r s : ℕ) → PackedAnswer (WriteLine T N E old new) r → PackedAnswer (WriteLine T N E old new′) s
+      → (r ≡ s) × (new ≡ new′)
+  one-zk-write-line N E old new new′ = one-written (text.one-write-line t N E old new new′)

@@ -2,25 +2,22 @@
 -- were looked at, one number of them. r, q: two answers to the same input; new, new′ and spelled, spelled′: the lent outputs, or the place of a value, after each; m, m′: the number. Each is the
 -- call's own theorem (`One` and `OneReported` of the crate `named`) through the packing. `zk_named_read_text` and `zk_named_list` promise word for word what their calls do.
 --
--- In order: codes and edge lists; a line, and equal vertices; the forms that take carbon only; two lists. Assumes nothing.
+-- In order: codes and edge lists; a line, and equal vertices; two lists. Those of the forms that take carbon only are in `One` and `OneReported`, over any table. Assumes nothing.
 use mathlib.Core.Path.{_≡_}
 use mathlib.Core.List.{List}
 use Prim.Native.Nat.{ℕ}
-use lib.Ieee.{Float}
 use Rattle.refusal.specs.document.Both.{TwoOutputs}
 use Rattle.skeleton.specs.document.AtomMarks.{atoms}
 use Rattle.form.specs.document.Labelled.{nTupleₗ, centredₗ}
-use Rattle.form_coder.specs.document.Pairs.{centredPairs}
-use Rattle.zurkhovel.specs.document.Reported.{Reporting, atRoot}
+use Rattle.zurkhovel.specs.document.Reported.{Reporting}
 use Rattle.named.specs.document.Codes.{NamedCheckCode, NamedDecodeCode, NamedDecodeForm, NamedCheckEdges, NamedRootedCode, NamedFormCode, namedAtRoot, namedWidest, namedMiddles}
 use Rattle.named.specs.document.Same.{NamedSameSkeleton, NamedHandOut, NamedCheckRenumbering, namedOfBoth}
 use Rattle.named.specs.document.Text.{NamedWriteLine, NamedReadLine}
 use Rattle.named.specs.document.Alike.{NamedEqualVertices}
-use Rattle.named.specs.document.Carbon.{NamedPack, NamedWhole, NamedFraction, NamedCam, NamedZeroA, NamedAZero, NamedCamByCode, NamedZeroAByCode, NamedAZeroByCode, NamedPlainLine}
 use Rattle.named.specs.One as answers
 use Rattle.named.specs.OneReported as calls
-use Rattle.exports.specs.document.Packing.{PackedAnswer, PackedFinding, PackedMapping, PackedValue}
-use Rattle.exports.specs.One.{one-check, one-held, one-number, one-judged}
+use Rattle.exports.specs.document.Packing.{PackedAnswer, PackedFinding, PackedMapping}
+use Rattle.exports.specs.One.{one-check, one-judged}
 use Rattle.exports.specs.One as plain
 use Rattle.exports.specs.OneReported as reported
 
@@ -71,52 +68,6 @@ module _ (N : ℕ) (E s : List ℕ) where
       (old new new′ : List ℕ) (m m′ r q : ℕ) → PackedAnswer (λ o. Reporting (NamedEqualVertices N E s old new) (namedMiddles N E s) o m) r
       → PackedAnswer (λ o. Reporting (NamedEqualVertices N E s old new′) (namedMiddles N E s) o m′) q → (r ≡ q) × (new ≡ new′) × (m ≡ m′)
   one-zk-named-equal-vertices old new new′ = reported.one-written (calls.one-named-equal-vertices-reported N E s old new new′)
-
-  -- ---- of carbon alone
-
-  pub one-zk-named-pack :
-      (root : ℕ) (old new new′ : List ℕ) (m m′ r q : ℕ) → PackedAnswer (λ o. Reporting (NamedPack N E s root old new) (atRoot N E root) o m) r
-      → PackedAnswer (λ o. Reporting (NamedPack N E s root old new′) (atRoot N E root) o m′) q → (r ≡ q) × (new ≡ new′) × (m ≡ m′)
-  one-zk-named-pack root old new new′ = reported.one-written (calls.one-named-pack-reported N E s root old new new′)
-
-  pub one-zk-named-whole :
-      (root : ℕ) (old new new′ m m′ r q : ℕ) → PackedValue (λ o. Reporting (NamedWhole N E s root) (atRoot N E root) o m) old new r
-      → PackedValue (λ o. Reporting (NamedWhole N E s root) (atRoot N E root) o m′) old new′ q → (r ≡ q) × (new ≡ new′) × (m ≡ m′)
-  one-zk-named-whole root = reported.one-held (reported.one-number (calls.one-named-whole-reported N E s root))
-
-  pub one-zk-named-fraction :
-      (root : ℕ) (old new new′ : Float) (m m′ r q : ℕ) → PackedValue (λ o. Reporting (NamedFraction N E s root) (atRoot N E root) o m) old new r
-      → PackedValue (λ o. Reporting (NamedFraction N E s root) (atRoot N E root) o m′) old new′ q → (r ≡ q) × (new ≡ new′) × (m ≡ m′)
-  one-zk-named-fraction root = reported.one-held (reported.one-exact (calls.one-named-fraction-reported N E s root))
-
-  pub one-zk-named-cam : (old new new′ : List ℕ) (r q : ℕ) → PackedAnswer (NamedCam N E s old new) r → PackedAnswer (NamedCam N E s old new′) q → (r ≡ q) × (new ≡ new′)
-  one-zk-named-cam old new new′ = plain.one-written (answers.one-named-cam N E s old new new′)
-
-  pub one-zk-named-zero-a : (old new new′ r q : ℕ) → PackedValue (NamedZeroA N E s) old new r → PackedValue (NamedZeroA N E s) old new′ q → (r ≡ q) × (new ≡ new′)
-  one-zk-named-zero-a = one-held (one-number (NamedZeroA N E s) (answers.one-named-zero-a N E s))
-
-  pub one-zk-named-a-zero : (old new new′ r q : ℕ) → PackedValue (NamedAZero N E s) old new r → PackedValue (NamedAZero N E s) old new′ q → (r ≡ q) × (new ≡ new′)
-  one-zk-named-a-zero = one-held (one-number (NamedAZero N E s) (answers.one-named-a-zero N E s))
-
-  pub one-zk-named-cam-by-code :
-      (old new new′ : List ℕ) (m m′ r q : ℕ) → PackedAnswer (λ o. Reporting (NamedCamByCode N E s old new) (centredPairs N E) o m) r
-      → PackedAnswer (λ o. Reporting (NamedCamByCode N E s old new′) (centredPairs N E) o m′) q → (r ≡ q) × (new ≡ new′) × (m ≡ m′)
-  one-zk-named-cam-by-code old new new′ = reported.one-written (calls.one-named-cam-by-code-reported N E s old new new′)
-
-  pub one-zk-named-zero-a-by-code :
-      (old new new′ m m′ r q : ℕ) → PackedValue (λ o. Reporting (NamedZeroAByCode N E s) (centredPairs N E) o m) old new r
-      → PackedValue (λ o. Reporting (NamedZeroAByCode N E s) (centredPairs N E) o m′) old new′ q → (r ≡ q) × (new ≡ new′) × (m ≡ m′)
-  one-zk-named-zero-a-by-code = reported.one-held (reported.one-number (calls.one-named-zero-a-by-code-reported N E s))
-
-  pub one-zk-named-a-zero-by-code :
-      (old new new′ m m′ r q : ℕ) → PackedValue (λ o. Reporting (NamedAZeroByCode N E s) (centredPairs N E) o m) old new r
-      → PackedValue (λ o. Reporting (NamedAZeroByCode N E s) (centredPairs N E) o m′) old new′ q → (r ≡ q) × (new ≡ new′) × (m ≡ m′)
-  one-zk-named-a-zero-by-code = reported.one-held (reported.one-number (calls.one-named-a-zero-by-code-reported N E s))
-
-  pub one-zk-named-plain-line :
-      (old new new′ : List ℕ) (m m′ r q : ℕ) → PackedAnswer (λ o. Reporting (NamedPlainLine N E s old new) (centredPairs N E) o m) r
-      → PackedAnswer (λ o. Reporting (NamedPlainLine N E s old new′) (centredPairs N E) o m′) q → (r ≡ q) × (new ≡ new′) × (m ≡ m′)
-  one-zk-named-plain-line old new new′ = reported.one-written (calls.one-named-plain-line-reported N E s old new new′)
 
 -- the digits and the letters of a line
 pub one-zk-named-read-line :

@@ -26,6 +26,8 @@ use Rattle.zurkhovel.specs.document.Alike.{EqualVertices}
 use Rattle.zurkhovel.specs.document.Lines.{WriteLine}
 use Rattle.zurkhovel.specs.document.Reported.{Reporting, atRoot, OfBoth}
 use Rattle.zurkhovel.specs.OneReported as calls
+use Rattle.zurkhovel.specs.document.InEdition.{EdgeTable}
+use Rattle.zurkhovel.specs.Tabled.{Tabled}
 use Rattle.exports.specs.document.Packing.{packed, truth, withList, held, PackedAnswer, PackedFinding, PackedMapping, PackedValue}
 use Rattle.exports.specs.One.{answer, value, exact, finding, mapping}
 
@@ -122,42 +124,46 @@ module _ (e : ℕ) where
       → PackedMapping (λ o. Reporting (HandOut e N E P F old new′) (OfBoth N E P F) o m′) s → (r ≡ s) × (new ≡ new′) × (m ≡ m′)
   one-zk-renumbering-pairs N E P F old new new′ = one-handed (calls.one-renumbering-reported e N E P F old new new′)
 
-  pub one-zk-pack-pairs :
-      (N : ℕ) (E : List ℕ) (root : ℕ) (old new new′ : List ℕ) (m m′ r s : ℕ) → PackedAnswer (λ o. Reporting (Pack e N E root old new) (atRoot N E root) o m) r
-      → PackedAnswer (λ o. Reporting (Pack e N E root old new′) (atRoot N E root) o m′) s → (r ≡ s) × (new ≡ new′) × (m ≡ m′)
-  one-zk-pack-pairs N E root old new new′ = one-written (calls.one-pack-reported e N E root old new new′)
-
-  pub one-zk-whole-pairs :
-      (N : ℕ) (E : List ℕ) (root : ℕ) (old new new′ : ℕ) (m m′ r s : ℕ) → PackedValue (λ o. Reporting (Whole e N E root) (atRoot N E root) o m) old new r
-      → PackedValue (λ o. Reporting (Whole e N E root) (atRoot N E root) o m′) old new′ s → (r ≡ s) × (new ≡ new′) × (m ≡ m′)
-  one-zk-whole-pairs N E root = one-held (one-number (calls.one-whole-reported e N E root))
-
-  pub one-zk-fraction-pairs :
-      (N : ℕ) (E : List ℕ) (root : ℕ) (old new new′ : Float) (m m′ r s : ℕ) → PackedValue (λ o. Reporting (InFraction e N E root) (atRoot N E root) o m) old new r
-      → PackedValue (λ o. Reporting (InFraction e N E root) (atRoot N E root) o m′) old new′ s → (r ≡ s) × (new ≡ new′) × (m ≡ m′)
-  one-zk-fraction-pairs N E root = one-held (one-exact (calls.one-fraction-reported e N E root))
-
-  pub one-zk-cam-by-code-pairs :
-      (N : ℕ) (E : List ℕ) (old new new′ : List ℕ) (m m′ r s : ℕ) → PackedAnswer (λ o. Reporting (CamByCode e N E old new) (centredPairs N E) o m) r
-      → PackedAnswer (λ o. Reporting (CamByCode e N E old new′) (centredPairs N E) o m′) s → (r ≡ s) × (new ≡ new′) × (m ≡ m′)
-  one-zk-cam-by-code-pairs N E old new new′ = one-written (calls.one-cam-by-code-reported e N E old new new′)
-
-  pub one-zk-zero-a-by-code-pairs :
-      (N : ℕ) (E : List ℕ) (old new new′ : ℕ) (m m′ r s : ℕ) → PackedValue (λ o. Reporting (ZeroAByCode e N E) (centredPairs N E) o m) old new r
-      → PackedValue (λ o. Reporting (ZeroAByCode e N E) (centredPairs N E) o m′) old new′ s → (r ≡ s) × (new ≡ new′) × (m ≡ m′)
-  one-zk-zero-a-by-code-pairs N E = one-held (one-number (calls.one-zero-a-by-code-reported e N E))
-
-  pub one-zk-a-zero-by-code-pairs :
-      (N : ℕ) (E : List ℕ) (old new new′ : ℕ) (m m′ r s : ℕ) → PackedValue (λ o. Reporting (AZeroByCode e N E) (centredPairs N E) o m) old new r
-      → PackedValue (λ o. Reporting (AZeroByCode e N E) (centredPairs N E) o m′) old new′ s → (r ≡ s) × (new ≡ new′) × (m ≡ m′)
-  one-zk-a-zero-by-code-pairs N E = one-held (one-number (calls.one-a-zero-by-code-reported e N E))
-
   pub one-zk-equal-vertices-pairs :
       (N : ℕ) (E : List ℕ) (old new new′ : List ℕ) (m m′ r s : ℕ) → PackedAnswer (λ o. Reporting (EqualVertices e N E old new) (centredPairs N E) o m) r
       → PackedAnswer (λ o. Reporting (EqualVertices e N E old new′) (centredPairs N E) o m′) s → (r ≡ s) × (new ≡ new′) × (m ≡ m′)
   one-zk-equal-vertices-pairs N E old new new′ = one-written (calls.one-equal-vertices-reported e N E old new new′)
 
+-- ---- the forms of an edge list, over its table
+
+module _ (T : EdgeTable) where
+  pub one-zk-pack-pairs :
+      (N : ℕ) (E : List ℕ) (root : ℕ) (old new new′ : List ℕ) (m m′ r s : ℕ) → PackedAnswer (λ o. Reporting (Pack T N E root old new) (atRoot N E root) o m) r
+      → PackedAnswer (λ o. Reporting (Pack T N E root old new′) (atRoot N E root) o m′) s → (r ≡ s) × (new ≡ new′) × (m ≡ m′)
+  one-zk-pack-pairs N E root old new new′ = one-written (calls.one-pack-reported T N E root old new new′)
+
+  pub one-zk-whole-pairs :
+      (N : ℕ) (E : List ℕ) (root : ℕ) (old new new′ : ℕ) (m m′ r s : ℕ) → PackedValue (λ o. Reporting (Whole T N E root) (atRoot N E root) o m) old new r
+      → PackedValue (λ o. Reporting (Whole T N E root) (atRoot N E root) o m′) old new′ s → (r ≡ s) × (new ≡ new′) × (m ≡ m′)
+  one-zk-whole-pairs N E root = one-held (one-number (calls.one-whole-reported T N E root))
+
+  pub one-zk-fraction-pairs :
+      (N : ℕ) (E : List ℕ) (root : ℕ) (old new new′ : Float) (m m′ r s : ℕ) → PackedValue (λ o. Reporting (InFraction T N E root) (atRoot N E root) o m) old new r
+      → PackedValue (λ o. Reporting (InFraction T N E root) (atRoot N E root) o m′) old new′ s → (r ≡ s) × (new ≡ new′) × (m ≡ m′)
+  one-zk-fraction-pairs N E root = one-held (one-exact (calls.one-fraction-reported T N E root))
+
+module _ {T : EdgeTable} {R : ℕ} (t : Tabled T R) where
+  pub one-zk-cam-by-code-pairs :
+      (N : ℕ) (E : List ℕ) (old new new′ : List ℕ) (m m′ r s : ℕ) → PackedAnswer (λ o. Reporting (CamByCode T N E old new) (centredPairs N E) o m) r
+      → PackedAnswer (λ o. Reporting (CamByCode T N E old new′) (centredPairs N E) o m′) s → (r ≡ s) × (new ≡ new′) × (m ≡ m′)
+  one-zk-cam-by-code-pairs N E old new new′ = one-written (calls.one-cam-by-code-reported t N E old new new′)
+
+  pub one-zk-zero-a-by-code-pairs :
+      (N : ℕ) (E : List ℕ) (old new new′ : ℕ) (m m′ r s : ℕ) → PackedValue (λ o. Reporting (ZeroAByCode T N E) (centredPairs N E) o m) old new r
+      → PackedValue (λ o. Reporting (ZeroAByCode T N E) (centredPairs N E) o m′) old new′ s → (r ≡ s) × (new ≡ new′) × (m ≡ m′)
+  one-zk-zero-a-by-code-pairs N E = one-held (one-number (calls.one-zero-a-by-code-reported t N E))
+
+  pub one-zk-a-zero-by-code-pairs :
+      (N : ℕ) (E : List ℕ) (old new new′ : ℕ) (m m′ r s : ℕ) → PackedValue (λ o. Reporting (AZeroByCode T N E) (centredPairs N E) o m) old new r
+      → PackedValue (λ o. Reporting (AZeroByCode T N E) (centredPairs N E) o m′) old new′ s → (r ≡ s) × (new ≡ new′) × (m ≡ m′)
+  one-zk-a-zero-by-code-pairs N E = one-held (one-number (calls.one-a-zero-by-code-reported t N E))
+
   pub one-zk-write-line-pairs :
-      (N : ℕ) (E : List ℕ) (old new new′ : List ℕ) (m m′ r s : ℕ) → PackedAnswer (λ o. Reporting (WriteLine e N E old new) (centredPairs N E) o m) r
-      → PackedAnswer (λ o. Reporting (WriteLine e N E old new′) (centredPairs N E) o m′) s → (r ≡ s) × (new ≡ new′) × (m ≡ m′)
-  one-zk-write-line-pairs N E old new new′ = one-written (calls.one-write-line-reported e N E old new new′)
+      (N : ℕ) (E : List ℕ) (old new new′ : List ℕ) (m m′ r s : ℕ) → PackedAnswer (λ o. Reporting (WriteLine T N E old new) (centredPairs N E) o m) r
+      → PackedAnswer (λ o. Reporting (WriteLine T N E old new′) (centredPairs N E) o m′) s → (r ≡ s) × (new ≡ new′) × (m ≡ m′)
+  one-zk-write-line-pairs N E old new new′ = one-written (calls.one-write-line-reported t N E old new new′)

@@ -11,7 +11,10 @@ ghost use Rattle.zurkhovel.specs.document.Reported.{Reporting, atRoot};
 ghost use Rattle.named.specs.document.Codes.{NamedCheckCode, NamedDecodeCode, NamedDecodeForm, NamedCheckEdges, NamedRootedCode, NamedFormCode, namedAtRoot, namedWidest, namedMiddles};
 ghost use Rattle.named.specs.document.Same.{NamedSameSkeleton, NamedHandOut, NamedCheckRenumbering, namedOfBoth};
 ghost use Rattle.named.specs.document.Alike.{NamedEqualVertices};
-ghost use Rattle.named.specs.document.Carbon.{NamedPack, NamedWhole, NamedFraction, NamedCam, NamedZeroA, NamedAZero, NamedCamByCode, NamedZeroAByCode, NamedAZeroByCode, NamedPlainLine};
+ghost use Rattle.zurkhovel.specs.document.Bits.{Pack, Whole, InFraction};
+ghost use Rattle.zurkhovel.specs.document.Matrix.{Cam, ZeroA, AZero, CamByCode, ZeroAByCode, AZeroByCode};
+ghost use Rattle.zurkhovel.specs.document.Lines.{WriteLine};
+ghost use Rattle.named.specs.document.Carbon.{carbonTable};
 ghost use Rattle.named.specs.document.Text.{NamedWriteLine, NamedReadLine, NamedReadText, NamedListText};
 ghost use Rattle.exports.specs.document.Packing.{PackedAnswer, PackedFinding, PackedMapping, PackedValue};
 
@@ -194,7 +197,7 @@ pub extern "C" fn zk_named_pack(
     out: &mut [u8],
     pairs: &mut usize,
 ) -> u32
-    ensures { λ r. ⌜ PackedAnswer (λ o. Reporting (NamedPack n (now (edges .entry)) (now (letters .entry)) root (now (out .entry)) (now (out .exit))) (atRoot n (now (edges .entry)) root) o (now (pairs .exit))) r ⌝ }
+    ensures { λ r. ⌜ PackedAnswer (λ o. Reporting (Pack (carbonTable (now (letters .entry))) n (now (edges .entry)) root (now (out .entry)) (now (out .exit))) (atRoot n (now (edges .entry)) root) o (now (pairs .exit))) r ⌝ }
 {
     let r = named::carbon::pack(n, edges, letters, root, out);
     *pairs = r.pairs;
@@ -211,7 +214,7 @@ pub extern "C" fn zk_named_whole(
     value: &mut u64,
     pairs: &mut usize,
 ) -> u32
-    ensures { λ r. ⌜ PackedValue (λ o. Reporting (NamedWhole n (now (edges .entry)) (now (letters .entry)) root) (atRoot n (now (edges .entry)) root) o (now (pairs .exit))) (now (value .entry)) (now (value .exit)) r ⌝ }
+    ensures { λ r. ⌜ PackedValue (λ o. Reporting (Whole (carbonTable (now (letters .entry))) n (now (edges .entry)) root) (atRoot n (now (edges .entry)) root) o (now (pairs .exit))) (now (value .entry)) (now (value .exit)) r ⌝ }
 {
     let r = named::carbon::whole(n, edges, letters, root);
     *pairs = r.pairs;
@@ -228,7 +231,7 @@ pub extern "C" fn zk_named_fraction(
     value: &mut f64,
     pairs: &mut usize,
 ) -> u32
-    ensures { λ r. ⌜ PackedValue (λ o. Reporting (NamedFraction n (now (edges .entry)) (now (letters .entry)) root) (atRoot n (now (edges .entry)) root) o (now (pairs .exit))) (now (value .entry)) (now (value .exit)) r ⌝ }
+    ensures { λ r. ⌜ PackedValue (λ o. Reporting (InFraction (carbonTable (now (letters .entry))) n (now (edges .entry)) root) (atRoot n (now (edges .entry)) root) o (now (pairs .exit))) (now (value .entry)) (now (value .exit)) r ⌝ }
 {
     let r = named::carbon::fraction(n, edges, letters, root);
     *pairs = r.pairs;
@@ -238,21 +241,21 @@ pub extern "C" fn zk_named_fraction(
 
 #[no_mangle]
 pub extern "C" fn zk_named_cam(n: usize, edges: &[u8], letters: &[u8], out: &mut [u8]) -> u32
-    ensures { λ r. ⌜ PackedAnswer (NamedCam n (now (edges .entry)) (now (letters .entry)) (now (out .entry)) (now (out .exit))) r ⌝ }
+    ensures { λ r. ⌜ PackedAnswer (Cam (carbonTable (now (letters .entry))) n (now (edges .entry)) (now (out .entry)) (now (out .exit))) r ⌝ }
 {
     answered(named::carbon::cam(n, edges, letters, out))
 }
 
 #[no_mangle]
 pub extern "C" fn zk_named_zero_a(n: usize, edges: &[u8], letters: &[u8], value: &mut u64) -> u32
-    ensures { λ r. ⌜ PackedValue (NamedZeroA n (now (edges .entry)) (now (letters .entry))) (now (value .entry)) (now (value .exit)) r ⌝ }
+    ensures { λ r. ⌜ PackedValue (ZeroA (carbonTable (now (letters .entry))) n (now (edges .entry))) (now (value .entry)) (now (value .exit)) r ⌝ }
 {
     valued(named::carbon::zero_a(n, edges, letters), value)
 }
 
 #[no_mangle]
 pub extern "C" fn zk_named_a_zero(n: usize, edges: &[u8], letters: &[u8], value: &mut u64) -> u32
-    ensures { λ r. ⌜ PackedValue (NamedAZero n (now (edges .entry)) (now (letters .entry))) (now (value .entry)) (now (value .exit)) r ⌝ }
+    ensures { λ r. ⌜ PackedValue (AZero (carbonTable (now (letters .entry))) n (now (edges .entry))) (now (value .entry)) (now (value .exit)) r ⌝ }
 {
     valued(named::carbon::a_zero(n, edges, letters), value)
 }
@@ -265,7 +268,7 @@ pub extern "C" fn zk_named_cam_by_code(
     out: &mut [u8],
     pairs: &mut usize,
 ) -> u32
-    ensures { λ r. ⌜ PackedAnswer (λ o. Reporting (NamedCamByCode n (now (edges .entry)) (now (letters .entry)) (now (out .entry)) (now (out .exit))) (centredPairs n (now (edges .entry))) o (now (pairs .exit))) r ⌝ }
+    ensures { λ r. ⌜ PackedAnswer (λ o. Reporting (CamByCode (carbonTable (now (letters .entry))) n (now (edges .entry)) (now (out .entry)) (now (out .exit))) (centredPairs n (now (edges .entry))) o (now (pairs .exit))) r ⌝ }
 {
     let r = named::carbon::cam_by_code(n, edges, letters, out);
     *pairs = r.pairs;
@@ -281,7 +284,7 @@ pub extern "C" fn zk_named_zero_a_by_code(
     value: &mut u64,
     pairs: &mut usize,
 ) -> u32
-    ensures { λ r. ⌜ PackedValue (λ o. Reporting (NamedZeroAByCode n (now (edges .entry)) (now (letters .entry))) (centredPairs n (now (edges .entry))) o (now (pairs .exit))) (now (value .entry)) (now (value .exit)) r ⌝ }
+    ensures { λ r. ⌜ PackedValue (λ o. Reporting (ZeroAByCode (carbonTable (now (letters .entry))) n (now (edges .entry))) (centredPairs n (now (edges .entry))) o (now (pairs .exit))) (now (value .entry)) (now (value .exit)) r ⌝ }
 {
     let r = named::carbon::zero_a_by_code(n, edges, letters);
     *pairs = r.pairs;
@@ -297,7 +300,7 @@ pub extern "C" fn zk_named_a_zero_by_code(
     value: &mut u64,
     pairs: &mut usize,
 ) -> u32
-    ensures { λ r. ⌜ PackedValue (λ o. Reporting (NamedAZeroByCode n (now (edges .entry)) (now (letters .entry))) (centredPairs n (now (edges .entry))) o (now (pairs .exit))) (now (value .entry)) (now (value .exit)) r ⌝ }
+    ensures { λ r. ⌜ PackedValue (λ o. Reporting (AZeroByCode (carbonTable (now (letters .entry))) n (now (edges .entry))) (centredPairs n (now (edges .entry))) o (now (pairs .exit))) (now (value .entry)) (now (value .exit)) r ⌝ }
 {
     let r = named::carbon::a_zero_by_code(n, edges, letters);
     *pairs = r.pairs;
@@ -313,7 +316,7 @@ pub extern "C" fn zk_named_plain_line(
     out: &mut [u8],
     pairs: &mut usize,
 ) -> u32
-    ensures { λ r. ⌜ PackedAnswer (λ o. Reporting (NamedPlainLine n (now (edges .entry)) (now (letters .entry)) (now (out .entry)) (now (out .exit))) (centredPairs n (now (edges .entry))) o (now (pairs .exit))) r ⌝ }
+    ensures { λ r. ⌜ PackedAnswer (λ o. Reporting (WriteLine (carbonTable (now (letters .entry))) n (now (edges .entry)) (now (out .entry)) (now (out .exit))) (centredPairs n (now (edges .entry))) o (now (pairs .exit))) r ⌝ }
 {
     let r = named::carbon::plain_line(n, edges, letters, out);
     *pairs = r.pairs;

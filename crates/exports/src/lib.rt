@@ -25,6 +25,7 @@ ghost use Rattle.zurkhovel.specs.document.Bits.{Pack, Unpack, Whole, Unwhole, I
 ghost use Rattle.zurkhovel.specs.document.Matrix.{DecodeCam, DecodeZeroA, DecodeAZero, Cam, ZeroA, AZero, CamByCode, ZeroAByCode, AZeroByCode};
 ghost use Rattle.zurkhovel.specs.document.Alike.{EqualVertices};
 ghost use Rattle.zurkhovel.specs.document.Lines.{ReadLine, WriteLine, ReadText, ListText};
+ghost use Rattle.zurkhovel.specs.document.InEdition.{edgeTable};
 ghost use Rattle.texts.specs.document.Demand.{Counted};
 ghost use Rattle.exports.specs.document.Packing.{packed, truth, withList, held, PackedAnswer, PackedFinding, PackedMapping, PackedValue};
 
@@ -320,7 +321,7 @@ pub extern "C" fn zk_check_renumbering(
 
 #[no_mangle]
 pub extern "C" fn zk_pack(n: usize, edges: &[u8], root: usize, out: &mut [u8]) -> u32
-    ensures { λ r. ⌜ PackedAnswer (Pack 1 n (now (edges .entry)) root (now (out .entry)) (now (out .exit))) r ⌝ }
+    ensures { λ r. ⌜ PackedAnswer (Pack (edgeTable 1) n (now (edges .entry)) root (now (out .entry)) (now (out .exit))) r ⌝ }
 {
     let r = zurkhovel::bit_tuple::pack(1, n, edges, root, out);
     let answer = r.answer;
@@ -335,7 +336,7 @@ pub extern "C" fn zk_pack_edition(
     root: usize,
     out: &mut [u8],
 ) -> u32
-    ensures { λ r. ⌜ PackedAnswer (Pack edition n (now (edges .entry)) root (now (out .entry)) (now (out .exit))) r ⌝ }
+    ensures { λ r. ⌜ PackedAnswer (Pack (edgeTable edition) n (now (edges .entry)) root (now (out .entry)) (now (out .exit))) r ⌝ }
 {
     let r = zurkhovel::bit_tuple::pack(edition, n, edges, root, out);
     let answer = r.answer;
@@ -351,7 +352,7 @@ pub extern "C" fn zk_pack_pairs(
     out: &mut [u8],
     pairs: &mut usize,
 ) -> u32
-    ensures { λ r. ⌜ PackedAnswer (λ o. Reporting (Pack edition n (now (edges .entry)) root (now (out .entry)) (now (out .exit))) (atRoot n (now (edges .entry)) root) o (now (pairs .exit))) r ⌝ }
+    ensures { λ r. ⌜ PackedAnswer (λ o. Reporting (Pack (edgeTable edition) n (now (edges .entry)) root (now (out .entry)) (now (out .exit))) (atRoot n (now (edges .entry)) root) o (now (pairs .exit))) r ⌝ }
 {
     let r = zurkhovel::bit_tuple::pack(edition, n, edges, root, out);
     *pairs = r.pairs;
@@ -374,7 +375,7 @@ pub extern "C" fn zk_whole(
     root: usize,
     value: &mut u64,
 ) -> u32
-    ensures { λ r. ⌜ PackedValue (Whole edition n (now (edges .entry)) root) (now (value .entry)) (now (value .exit)) r ⌝ }
+    ensures { λ r. ⌜ PackedValue (Whole (edgeTable edition) n (now (edges .entry)) root) (now (value .entry)) (now (value .exit)) r ⌝ }
 {
     let r = zurkhovel::bit_tuple::whole(edition, n, edges, root);
     let answer = r.answer;
@@ -390,7 +391,7 @@ pub extern "C" fn zk_whole_pairs(
     value: &mut u64,
     pairs: &mut usize,
 ) -> u32
-    ensures { λ r. ⌜ PackedValue (λ o. Reporting (Whole edition n (now (edges .entry)) root) (atRoot n (now (edges .entry)) root) o (now (pairs .exit))) (now (value .entry)) (now (value .exit)) r ⌝ }
+    ensures { λ r. ⌜ PackedValue (λ o. Reporting (Whole (edgeTable edition) n (now (edges .entry)) root) (atRoot n (now (edges .entry)) root) o (now (pairs .exit))) (now (value .entry)) (now (value .exit)) r ⌝ }
 {
     let r = zurkhovel::bit_tuple::whole(edition, n, edges, root);
     *pairs = r.pairs;
@@ -413,7 +414,7 @@ pub extern "C" fn zk_fraction(
     root: usize,
     value: &mut f64,
 ) -> u32
-    ensures { λ r. ⌜ PackedValue (InFraction edition n (now (edges .entry)) root) (now (value .entry)) (now (value .exit)) r ⌝ }
+    ensures { λ r. ⌜ PackedValue (InFraction (edgeTable edition) n (now (edges .entry)) root) (now (value .entry)) (now (value .exit)) r ⌝ }
 {
     let r = zurkhovel::bit_tuple::fraction(edition, n, edges, root);
     let answer = r.answer;
@@ -429,7 +430,7 @@ pub extern "C" fn zk_fraction_pairs(
     value: &mut f64,
     pairs: &mut usize,
 ) -> u32
-    ensures { λ r. ⌜ PackedValue (λ o. Reporting (InFraction edition n (now (edges .entry)) root) (atRoot n (now (edges .entry)) root) o (now (pairs .exit))) (now (value .entry)) (now (value .exit)) r ⌝ }
+    ensures { λ r. ⌜ PackedValue (λ o. Reporting (InFraction (edgeTable edition) n (now (edges .entry)) root) (atRoot n (now (edges .entry)) root) o (now (pairs .exit))) (now (value .entry)) (now (value .exit)) r ⌝ }
 {
     let r = zurkhovel::bit_tuple::fraction(edition, n, edges, root);
     *pairs = r.pairs;
@@ -446,28 +447,28 @@ pub extern "C" fn zk_unfraction(edition: usize, x: f64, out: &mut [u8]) -> u32
 
 #[no_mangle]
 pub extern "C" fn zk_cam(edition: usize, n: usize, edges: &[u8], out: &mut [u8]) -> u32
-    ensures { λ r. ⌜ PackedAnswer (Cam edition n (now (edges .entry)) (now (out .entry)) (now (out .exit))) r ⌝ }
+    ensures { λ r. ⌜ PackedAnswer (Cam (edgeTable edition) n (now (edges .entry)) (now (out .entry)) (now (out .exit))) r ⌝ }
 {
     answered(zurkhovel::matrix::cam(edition, n, edges, out))
 }
 
 #[no_mangle]
 pub extern "C" fn zk_zero_a(edition: usize, n: usize, edges: &[u8], value: &mut u64) -> u32
-    ensures { λ r. ⌜ PackedValue (ZeroA edition n (now (edges .entry))) (now (value .entry)) (now (value .exit)) r ⌝ }
+    ensures { λ r. ⌜ PackedValue (ZeroA (edgeTable edition) n (now (edges .entry))) (now (value .entry)) (now (value .exit)) r ⌝ }
 {
     valued(zurkhovel::matrix::zero_a(edition, n, edges), value)
 }
 
 #[no_mangle]
 pub extern "C" fn zk_a_zero(edition: usize, n: usize, edges: &[u8], value: &mut u64) -> u32
-    ensures { λ r. ⌜ PackedValue (AZero edition n (now (edges .entry))) (now (value .entry)) (now (value .exit)) r ⌝ }
+    ensures { λ r. ⌜ PackedValue (AZero (edgeTable edition) n (now (edges .entry))) (now (value .entry)) (now (value .exit)) r ⌝ }
 {
     valued(zurkhovel::matrix::a_zero(edition, n, edges), value)
 }
 
 #[no_mangle]
 pub extern "C" fn zk_cam_by_code(edition: usize, n: usize, edges: &[u8], out: &mut [u8]) -> u32
-    ensures { λ r. ⌜ PackedAnswer (CamByCode edition n (now (edges .entry)) (now (out .entry)) (now (out .exit))) r ⌝ }
+    ensures { λ r. ⌜ PackedAnswer (CamByCode (edgeTable edition) n (now (edges .entry)) (now (out .entry)) (now (out .exit))) r ⌝ }
 {
     let r = zurkhovel::matrix::cam_by_code(edition, n, edges, out);
     let answer = r.answer;
@@ -482,7 +483,7 @@ pub extern "C" fn zk_cam_by_code_pairs(
     out: &mut [u8],
     pairs: &mut usize,
 ) -> u32
-    ensures { λ r. ⌜ PackedAnswer (λ o. Reporting (CamByCode edition n (now (edges .entry)) (now (out .entry)) (now (out .exit))) (centredPairs n (now (edges .entry))) o (now (pairs .exit))) r ⌝ }
+    ensures { λ r. ⌜ PackedAnswer (λ o. Reporting (CamByCode (edgeTable edition) n (now (edges .entry)) (now (out .entry)) (now (out .exit))) (centredPairs n (now (edges .entry))) o (now (pairs .exit))) r ⌝ }
 {
     let r = zurkhovel::matrix::cam_by_code(edition, n, edges, out);
     *pairs = r.pairs;
@@ -492,7 +493,7 @@ pub extern "C" fn zk_cam_by_code_pairs(
 
 #[no_mangle]
 pub extern "C" fn zk_zero_a_by_code(edition: usize, n: usize, edges: &[u8], value: &mut u64) -> u32
-    ensures { λ r. ⌜ PackedValue (ZeroAByCode edition n (now (edges .entry))) (now (value .entry)) (now (value .exit)) r ⌝ }
+    ensures { λ r. ⌜ PackedValue (ZeroAByCode (edgeTable edition) n (now (edges .entry))) (now (value .entry)) (now (value .exit)) r ⌝ }
 {
     let r = zurkhovel::matrix::zero_a_by_code(edition, n, edges);
     let answer = r.answer;
@@ -507,7 +508,7 @@ pub extern "C" fn zk_zero_a_by_code_pairs(
     value: &mut u64,
     pairs: &mut usize,
 ) -> u32
-    ensures { λ r. ⌜ PackedValue (λ o. Reporting (ZeroAByCode edition n (now (edges .entry))) (centredPairs n (now (edges .entry))) o (now (pairs .exit))) (now (value .entry)) (now (value .exit)) r ⌝ }
+    ensures { λ r. ⌜ PackedValue (λ o. Reporting (ZeroAByCode (edgeTable edition) n (now (edges .entry))) (centredPairs n (now (edges .entry))) o (now (pairs .exit))) (now (value .entry)) (now (value .exit)) r ⌝ }
 {
     let r = zurkhovel::matrix::zero_a_by_code(edition, n, edges);
     *pairs = r.pairs;
@@ -517,7 +518,7 @@ pub extern "C" fn zk_zero_a_by_code_pairs(
 
 #[no_mangle]
 pub extern "C" fn zk_a_zero_by_code(edition: usize, n: usize, edges: &[u8], value: &mut u64) -> u32
-    ensures { λ r. ⌜ PackedValue (AZeroByCode edition n (now (edges .entry))) (now (value .entry)) (now (value .exit)) r ⌝ }
+    ensures { λ r. ⌜ PackedValue (AZeroByCode (edgeTable edition) n (now (edges .entry))) (now (value .entry)) (now (value .exit)) r ⌝ }
 {
     let r = zurkhovel::matrix::a_zero_by_code(edition, n, edges);
     let answer = r.answer;
@@ -532,7 +533,7 @@ pub extern "C" fn zk_a_zero_by_code_pairs(
     value: &mut u64,
     pairs: &mut usize,
 ) -> u32
-    ensures { λ r. ⌜ PackedValue (λ o. Reporting (AZeroByCode edition n (now (edges .entry))) (centredPairs n (now (edges .entry))) o (now (pairs .exit))) (now (value .entry)) (now (value .exit)) r ⌝ }
+    ensures { λ r. ⌜ PackedValue (λ o. Reporting (AZeroByCode (edgeTable edition) n (now (edges .entry))) (centredPairs n (now (edges .entry))) o (now (pairs .exit))) (now (value .entry)) (now (value .exit)) r ⌝ }
 {
     let r = zurkhovel::matrix::a_zero_by_code(edition, n, edges);
     *pairs = r.pairs;
@@ -602,7 +603,7 @@ pub extern "C" fn zk_read_line_edition(edition: usize, text: &[u8], out: &mut [u
 
 #[no_mangle]
 pub extern "C" fn zk_write_line(n: usize, edges: &[u8], out: &mut [u8]) -> u32
-    ensures { λ r. ⌜ PackedAnswer (WriteLine 1 n (now (edges .entry)) (now (out .entry)) (now (out .exit))) r ⌝ }
+    ensures { λ r. ⌜ PackedAnswer (WriteLine (edgeTable 1) n (now (edges .entry)) (now (out .entry)) (now (out .exit))) r ⌝ }
 {
     let r = zurkhovel::text::write_line(1, n, edges, out);
     let answer = r.answer;
@@ -616,7 +617,7 @@ pub extern "C" fn zk_write_line_edition(
     edges: &[u8],
     out: &mut [u8],
 ) -> u32
-    ensures { λ r. ⌜ PackedAnswer (WriteLine edition n (now (edges .entry)) (now (out .entry)) (now (out .exit))) r ⌝ }
+    ensures { λ r. ⌜ PackedAnswer (WriteLine (edgeTable edition) n (now (edges .entry)) (now (out .entry)) (now (out .exit))) r ⌝ }
 {
     let r = zurkhovel::text::write_line(edition, n, edges, out);
     let answer = r.answer;
@@ -631,7 +632,7 @@ pub extern "C" fn zk_write_line_pairs(
     out: &mut [u8],
     pairs: &mut usize,
 ) -> u32
-    ensures { λ r. ⌜ PackedAnswer (λ o. Reporting (WriteLine edition n (now (edges .entry)) (now (out .entry)) (now (out .exit))) (centredPairs n (now (edges .entry))) o (now (pairs .exit))) r ⌝ }
+    ensures { λ r. ⌜ PackedAnswer (λ o. Reporting (WriteLine (edgeTable edition) n (now (edges .entry)) (now (out .entry)) (now (out .exit))) (centredPairs n (now (edges .entry))) o (now (pairs .exit))) r ⌝ }
 {
     let r = zurkhovel::text::write_line(edition, n, edges, out);
     *pairs = r.pairs;

@@ -27,14 +27,12 @@ use Rattle.edge_list.specs.document.Letters.{row20-edges, letterRows, carbonRow
 use Rattle.edge_list.specs.Letters.{letters-accepted}
 use Rattle.form.specs.document.Labelled.{row14ₗ}
 use Rattle.lettered_check.specs.document.Lettered.{marksOf, namedDigitRows, letteredCodeRows, letteredFormRows}
-use Rattle.adjacency.specs.document.Adjacency.{row14-physical}
 use Rattle.renumber.specs.document.Map.{Entry, row5-map, row19}
 use Rattle.renumber.specs.document.Kept.{row18-kept, keptRows}
 use Rattle.renumber.specs.Exactly.{map-sizes}
 use Rattle.texts.specs.document.Text.{through, Shaped, Where, ofLine, lineRows}
 use Rattle.texts.specs.document.Lent.{lineRow15}
 use Rattle.named_lines.specs.document.Named.{Parts, NamedFormed, carried, namedLines, namedTable, namedLent}
-use Rattle.named.specs.document.Carbon.{namedPhysicalRows}
 use Rattle.named.specs.document.Same.{namedListRows}
 use Rattle.named.specs.Accepted.{skeleton-of}
 
@@ -59,11 +57,6 @@ module _ {most : ℕ} (h : most ≤ size) where
   carbon-bounded N E r s =
       bounded-both (letterRows most valence N E r s) (row14-atom s ∷ []) (letters-bounded N E r s)
       (λ k. bounded-rows refl ((λ p a. omega (arith, a .1, letters-accepted most valence N E r s .0 k .2 .many, at-most (others k))), tt))
-
-  pub physical-bounded : (N : ℕ) (E s : List ℕ) → Bounded (namedPhysicalRows most N E s)
-  physical-bounded N E s =
-      bounded-both (carbonRows most valence N E 1 s) (row14-physical N E ∷ []) (carbon-bounded N E 1 s)
-      (λ k. bounded-rows refl ((λ p a. omega (arith, a .1, at-most (others k))), tt))
 
 -- ---- digits
 

@@ -13,6 +13,9 @@ use Rattle.edge_list.specs.Theorems.{accepted}
 use Rattle.edition.specs.document.Edition.{neighboursIn}
 use Rattle.edition.specs.Laws.{edition-clear}
 use Rattle.zurkhovel.specs.document.InEdition.{edgeTable}
+use Rattle.zurkhovel.specs.Tabled.{Tabled}
+use Rattle.named.specs.document.Carbon.{carbonTable}
+use Rattle.named.specs.Bounds.{carbon-bounded}
 
 -- the same table behind another front
 pub moved :
@@ -38,3 +41,12 @@ module _ {most : ℕ} (N : ℕ) (E : List ℕ) (r : ℕ) (s : List ℕ) (k : Cle
 
   pub answers-carbon : {A : Type 0} {Right : A → Type 0} {o : Outcome A} → Answered (edgeTable 1 most N E r ++ zs) Right o → Answered (carbonRows most valence N E r s ++ zs) Right o
   answers-carbon g = moved (edgeTable 1 most N E r) (carbonRows most valence N E r s) zs (plain-clear N E r s k) k g
+
+-- the table of carbon alone accepts skeletons, and what it refuses with fits into bytes
+pub of-carbon : (s : List ℕ) → Tabled (carbonTable s) valence
+of-carbon s =
+    record {
+      skeleton = λ {most} N E r k. letters-accepted most valence N E r s .0 (carbon-accepted most valence N E r s .0 k .0) .0;
+      root = λ {most} N E r k. letters-accepted most valence N E r s .0 (carbon-accepted most valence N E r s .0 k .0) .1;
+      bounded = λ h N E r. carbon-bounded h N E r s;
+    }

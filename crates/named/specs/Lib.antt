@@ -5,7 +5,6 @@ pub mod Two
 pub mod Carbon
 pub mod Bounds
 pub mod Places
-pub mod PlacesCarbon
 pub mod Spelled
 pub mod Decoded
 pub mod Round

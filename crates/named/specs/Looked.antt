@@ -4,38 +4,32 @@ use mathlib.Core.Path.{subst}
 use mathlib.Core.List.{List, [], _∷_}
 use Prim.Native.Nat.{ℕ, _+_, _*_, _≤_}
 use native.Mathlib.Omega.{arith}
-use lib.Ieee.{Float}
 use lib.ListN.{length}
 use Rattle.refusal.specs.document.Table.{Clear, OutcomeOf, Outcome, gives, kept, short}
 use Rattle.refusal.specs.document.Both.{TwoOutputs}
-use Rattle.refusal.specs.Laws.{clear-left}
-use Rattle.refusal.specs.Giving.{gave, gave-value}
+use Rattle.refusal.specs.Giving.{gave}
 use Rattle.refusal.specs.Both.{gave-both}
 use Rattle.refusal.specs.Lists.{lists-clear, maps-clear}
 use Rattle.limits.specs.document.Limits.{size, valence}
-use Rattle.skeleton.specs.document.Skeleton.{IsSkeleton}
 use Rattle.skeleton.specs.document.Atom.{atomAt}
 use Rattle.skeleton.specs.document.AtomMarks.{atoms}
 use Rattle.numbering.specs.document.Pairs.{rootedPairsₗ}
-use Rattle.numbering.specs.Bound.{pairs-bound, pairsₗ-bound}
+use Rattle.numbering.specs.Bound.{pairsₗ-bound}
 use Rattle.numbering.specs.Numbers.{pairsₗ}
 use Rattle.numbering.specs.Pairs.{pairs-countedₗ}
-use Rattle.letters.specs.document.Letters.{row14-atom}
-use Rattle.edge_list.specs.document.Letters.{letterRows, carbonRows}
-use Rattle.edge_list.specs.Letters.{letters-accepted}
+use Rattle.edge_list.specs.document.Letters.{letterRows}
 use Rattle.form.specs.document.Labelled.{nTupleₗ, centredₗ}
-use Rattle.form_coder.specs.document.Pairs.{centredPairs, centredRoots, nTupleRoots}
-use Rattle.form_coder.specs.Sums.{over-middles-bound, over-widest-bound, centred-bound}
+use Rattle.form_coder.specs.document.Pairs.{centredRoots, nTupleRoots}
+use Rattle.form_coder.specs.Sums.{over-middles-bound, over-widest-bound}
 use Rattle.renumber.specs.document.Kept.{HandedKept}
 use Rattle.zurkhovel.specs.document.Same.{Finding}
 use Rattle.zurkhovel.specs.document.Maps.{MapOutcome}
-use Rattle.zurkhovel.specs.document.Reported.{Reporting, atRoot, coded, not-coded, mostPairs}
+use Rattle.zurkhovel.specs.document.Reported.{Reporting, coded, not-coded, mostPairs}
 use Rattle.zurkhovel.specs.Looked.{reported-most}
 use Rattle.named.specs.document.Codes.{NamedRootedCode, NamedFormCode, namedAtRoot, namedWidest, namedMiddles}
 use Rattle.named.specs.document.Same.{namedListRows, NamedSameSkeleton, NamedHandOut, namedOfBoth}
 use Rattle.named.specs.document.Text.{NamedWriteLine}
 use Rattle.named.specs.document.Alike.{NamedEqualVertices}
-use Rattle.named.specs.document.Carbon.{NamedPack, NamedWhole, NamedFraction, NamedCamByCode, NamedZeroAByCode, NamedAZeroByCode, NamedPlainLine}
 use Rattle.named.specs.Accepted.{skeleton-of, tree-of, root-of}
 
 -- ---- of an accepted list
@@ -54,10 +48,6 @@ module _ (N : ℕ) (E s : List ℕ) where
 
   pub accepted-named-n-tuple : Clear (namedListRows N E s) → (n k : ℕ) → namedWidest N E s n → nTupleRoots N E k → n ≤ k * mostPairs valence N
   accepted-named-n-tuple c n k x y = over-widest-bound (at-most 1 c) x y
-
-  -- a list of carbon alone is a skeleton
-  carbon-skeleton : {most r : ℕ} → Clear (carbonRows most valence N E r s) → IsSkeleton most valence N E × ((1 ≤ r) × (r ≤ N))
-  carbon-skeleton {most} {r} k = let z = letters-accepted most valence N E r s .0 (clear-left (letterRows most valence N E r s) (row14-atom s ∷ []) k) in (z .0, z .1)
 
   -- ---- what the calls report
 
@@ -79,37 +69,6 @@ module _ (N : ℕ) (E s : List ℕ) where
   pub looked-named-equal-vertices :
       (old new : List ℕ) (o : Outcome ℕ) (n k : ℕ) → Reporting (NamedEqualVertices N E s old new) (namedMiddles N E s) o n → centredRoots N E k → n ≤ k * mostPairs valence N
   looked-named-equal-vertices old new o n k g y = reported-most (k * mostPairs valence N) n (λ a p x. accepted-named-centred (gave p .0) n k x y) o g
-
-  -- of carbon alone, at a root
-  carbon-root : {most r : ℕ} → Clear (carbonRows most valence N E r s) → {n : ℕ} → atRoot N E r n → n ≤ mostPairs valence N
-  carbon-root {most} {r} k x = let (sk, (a, b)) = carbon-skeleton k in rw x (pairs-bound most valence N E r sk a b)
-
-  -- and over the middles
-  carbon-middles : {most : ℕ} → Clear (carbonRows most valence N E 1 s) → (n k : ℕ) → centredPairs N E n → centredRoots N E k → n ≤ k * mostPairs valence N
-  carbon-middles {most} c n k x y = centred-bound most valence N E (carbon-skeleton c .0) n k x y
-
-  pub looked-named-pack : (r : ℕ) (old new : List ℕ) (o : Outcome ℕ) (n : ℕ) → Reporting (NamedPack N E s r old new) (atRoot N E r) o n → n ≤ mostPairs valence N
-  looked-named-pack r old new o n = reported-most (mostPairs valence N) n (λ a p. carbon-root (gave p .0)) o
-
-  pub looked-named-whole : (r : ℕ) (o : Outcome ℕ) (n : ℕ) → Reporting (NamedWhole N E s r) (atRoot N E r) o n → n ≤ mostPairs valence N
-  looked-named-whole r o n = reported-most (mostPairs valence N) n (λ a p. carbon-root (gave-value p .0)) o
-
-  pub looked-named-fraction : (r : ℕ) (o : Outcome Float) (n : ℕ) → Reporting (NamedFraction N E s r) (atRoot N E r) o n → n ≤ mostPairs valence N
-  looked-named-fraction r o n = reported-most (mostPairs valence N) n (λ a p. carbon-root (gave-value p .0)) o
-
-  pub looked-named-cam-by-code :
-      (old new : List ℕ) (o : Outcome ℕ) (n k : ℕ) → Reporting (NamedCamByCode N E s old new) (centredPairs N E) o n → centredRoots N E k → n ≤ k * mostPairs valence N
-  looked-named-cam-by-code old new o n k g y = reported-most (k * mostPairs valence N) n (λ a p x. carbon-middles (gave p .0) n k x y) o g
-
-  pub looked-named-zero-a-by-code : (o : Outcome ℕ) (n k : ℕ) → Reporting (NamedZeroAByCode N E s) (centredPairs N E) o n → centredRoots N E k → n ≤ k * mostPairs valence N
-  looked-named-zero-a-by-code o n k g y = reported-most (k * mostPairs valence N) n (λ a p x. carbon-middles (gave-value p .0) n k x y) o g
-
-  pub looked-named-a-zero-by-code : (o : Outcome ℕ) (n k : ℕ) → Reporting (NamedAZeroByCode N E s) (centredPairs N E) o n → centredRoots N E k → n ≤ k * mostPairs valence N
-  looked-named-a-zero-by-code o n k g y = reported-most (k * mostPairs valence N) n (λ a p x. carbon-middles (gave-value p .0) n k x y) o g
-
-  pub looked-named-plain-line :
-      (old new : List ℕ) (o : Outcome ℕ) (n k : ℕ) → Reporting (NamedPlainLine N E s old new) (centredPairs N E) o n → centredRoots N E k → n ≤ k * mostPairs valence N
-  looked-named-plain-line old new o n k g y = reported-most (k * mostPairs valence N) n (λ a p x. carbon-middles (gave p .0) n k x y) o g
 
 -- ---- of two lists
 

@@ -1,37 +1,31 @@
 -- Read from its promise alone, every public call on skeletons with named atoms has one possible result and one possible state of what it is lent, as in `One` of the crate `zurkhovel`. r, s: the call's own results; new, new′:
 -- what was lent, after it. Of a call that also reports how many pairs it looked at, r and s are its answers. Assumes nothing.
 --
--- In order: what is right is one; codes; two lists; lines; equal vertices; the forms that take carbon only.
+-- In order: what is right is one; codes; two lists; lines; equal vertices. The forms that take carbon only are in `OneBits`, `OneMatrix` and `OneText` of the crate `zurkhovel`, over any table.
 use mathlib.Core.Path.{_≡_, refl, sym, ap, ap₂, _∙_, subst}
 use mathlib.Core.List.{List, [], _∷_}
 use Prim.Native.Nat.{ℕ}
-use Rattle.refusal.specs.document.Table.{Clear, Answered}
+use Rattle.refusal.specs.document.Table.{Clear}
 use Rattle.refusal.specs.document.Both.{TwoOutputs}
-use Rattle.refusal.specs.document.Outcome.{told, numbered}
+use Rattle.refusal.specs.document.Outcome.{told}
 use Rattle.refusal.specs.declared.Answer.{Answer}
-use Rattle.refusal.specs.declared.Number.{Number}
-use Rattle.refusal.specs.Apart.{told-both, numbered-apart}
-use Rattle.refusal.specs.Laws.{clear-left, one-accepted, one-result}
-use Rattle.refusal.specs.Giving.{one-given, one-clear}
+use Rattle.refusal.specs.Apart.{told-both}
+use Rattle.refusal.specs.Laws.{one-result}
+use Rattle.refusal.specs.Giving.{one-clear}
 use Rattle.refusal.specs.Both.{one-both}
 use Rattle.refusal.specs.Lists.{one-handed-out}
 use Rattle.limits.specs.document.Limits.{size, valence}
-use Rattle.skeleton.specs.document.Skeleton.{IsTree}
 use Rattle.skeleton.specs.document.Label.{digits}
 use Rattle.skeleton.specs.document.Atom.{atomAt}
 use Rattle.skeleton.specs.document.AtomMarks.{atoms}
-use Rattle.letters.specs.document.Letters.{lettersOf, row14-atom}
-use Rattle.edge_list.specs.document.Letters.{letterRows, carbonRows}
-use Rattle.edge_list.specs.Letters.{letters-accepted}
+use Rattle.letters.specs.document.Letters.{lettersOf}
+use Rattle.edge_list.specs.document.Letters.{letterRows}
 use Rattle.form.specs.document.Labelled.{nTupleₗ, centredₗ}
 use Rattle.form.specs.Labelled.{IsFormₗ, n-tuple-formₗ, centred-formₗ}
 use Rattle.form.specs.Forms.{centred-form}
 use Rattle.lines.specs.document.Line.{line}
-use Rattle.bits.specs.Written.{packed-again, number-again}
-use Rattle.fraction.specs.Back.{fraction-again}
 use Rattle.fraction.specs.document.Outcome as fraction
 use Rattle.fraction.specs.Apart as apart
-use Rattle.fraction.specs.declared.Fraction.{Fraction}
 use Rattle.orbits.specs.document.Carried.{ClassesOfₗ}
 use Rattle.orbits.specs.Appearance.{one-numbering}
 use Rattle.renumber.specs.Kept.{one-handed-kept}
@@ -42,18 +36,14 @@ use Rattle.named_lines.specs.NamedSound.{named-once}
 use Rattle.listing_text.specs.Theorems as Listing
 use Rattle.zurkhovel.specs.document.Same.{said}
 use Rattle.zurkhovel.specs.document.Maps.{mapped}
-use Rattle.zurkhovel.specs.document.Matrix.{ByCode}
 use Rattle.zurkhovel.specs.declared.codes.Verdict.{Verdict}
 use Rattle.zurkhovel.specs.declared.maps.Mapping.{Mapping}
 use Rattle.zurkhovel.specs.One.{one-check, one-found, said-apart}
 use Rattle.zurkhovel.specs.OneMaps.{mapped-apart}
-use Rattle.zurkhovel.specs.OneBits.{one-value}
-use Rattle.zurkhovel.specs.OneMatrix.{one-by-code}
 use Rattle.named.specs.document.Codes.{Spelled, NamedForm, NamedCheckCode, NamedDecodeCode, NamedDecodeForm, NamedCheckEdges, NamedRootedCode, NamedFormCode}
 use Rattle.named.specs.document.Same.{namedListRows, NamedSameSkeleton, NamedHandOut, NamedCheckRenumbering}
 use Rattle.named.specs.document.Text.{NamedWriteLine, NamedReadLine, NamedReadText, NamedListText}
 use Rattle.named.specs.document.Alike.{NamedEqualVertices}
-use Rattle.named.specs.document.Carbon.{NamedPack, NamedWhole, NamedFraction, NamedCam, NamedZeroA, NamedAZero, NamedCamByCode, NamedZeroAByCode, NamedAZeroByCode, NamedPlainLine}
 use Rattle.named.specs.Accepted.{tree-of}
 use Rattle.named.specs.Two.{only-code, kept-codes}
 
@@ -165,48 +155,3 @@ one-named-read-text t rec lets num pla rec₁ lets₁ num₁ pla₁ rec₂ lets�
 
 pub one-named-list : (t old new new′ : List ℕ) (from n m : ℕ) → NamedListText t old new from n → NamedListText t old new′ from m → (n ≡ m) × (new ≡ new′)
 one-named-list t old new new′ from n m a b = Listing.only-piece (namedLines size namedTable) named-once t old new new′ from n m a b
-
--- ---- the forms that take carbon only
-
-module _ (N : ℕ) (E s : List ℕ) where
-  -- a list of carbon alone is a tree
-  carbon-tree : {most root : ℕ} → Clear (carbonRows most valence N E root s) → IsTree N E
-  carbon-tree {most} {root} k = letters-accepted most valence N E root s .0 (clear-left (letterRows most valence N E root s) (row14-atom s ∷ []) k) .0 .tree
-
-  pub one-named-pack : (root : ℕ) (old new new′ : List ℕ) (r q : Answer) → NamedPack N E s root old new (told r) → NamedPack N E s root old new′ (told q) → (r ≡ q) × (new ≡ new′)
-  one-named-pack root old new new′ r q a b = told-both r q (one-given (λ c d x y. packed-again x y) a b)
-
-  pub one-named-whole : (root : ℕ) (r q : Number) → NamedWhole N E s root (numbered r) → NamedWhole N E s root (numbered q) → r ≡ q
-  one-named-whole root r q a b = numbered-apart r q (one-value (λ x y u v. number-again u v) a b)
-
-  pub one-named-fraction : (root : ℕ) (r q : Fraction) → NamedFraction N E s root (fraction.toldFraction r) → NamedFraction N E s root (fraction.toldFraction q) → r ≡ q
-  one-named-fraction root r q a b = apart.told-apart r q (one-value (λ x y u v. fraction-again u v) a b)
-
-  pub one-named-cam : (old new new′ : List ℕ) (r q : Answer) → NamedCam N E s old new (told r) → NamedCam N E s old new′ (told q) → (r ≡ q) × (new ≡ new′)
-  one-named-cam old new new′ r q a b = told-both r q (one-given (λ c d x y. x ∙ sym y) a b)
-
-  pub one-named-zero-a : (r q : Number) → NamedZeroA N E s (numbered r) → NamedZeroA N E s (numbered q) → r ≡ q
-  one-named-zero-a r q a b = numbered-apart r q (one-value (λ x y u v. u ∙ sym v) a b)
-
-  pub one-named-a-zero : (r q : Number) → NamedAZero N E s (numbered r) → NamedAZero N E s (numbered q) → r ≡ q
-  one-named-a-zero r q a b = numbered-apart r q (one-value (λ x y u v. u ∙ sym v) a b)
-
-  -- a number by code
-  one-by-code-value :
-      {most : ℕ} {of : List ℕ → ℕ} (r q : Number) → Answered (carbonRows most valence N E 1 s) (ByCode of N E) (numbered r)
-      → Answered (carbonRows most valence N E 1 s) (ByCode of N E) (numbered q) → r ≡ q
-  one-by-code-value r q a b = numbered-apart r q (one-accepted (λ k x y u v. (one-by-code (carbon-tree k) x y u v, refl)) a b .0)
-
-  pub one-named-cam-by-code :
-      (old new new′ : List ℕ) (r q : Answer) → NamedCamByCode N E s old new (told r) → NamedCamByCode N E s old new′ (told q) → (r ≡ q) × (new ≡ new′)
-  one-named-cam-by-code old new new′ r q a b = told-both r q (one-clear (λ k. one-by-code (carbon-tree k)) a b)
-
-  pub one-named-zero-a-by-code : (r q : Number) → NamedZeroAByCode N E s (numbered r) → NamedZeroAByCode N E s (numbered q) → r ≡ q
-  one-named-zero-a-by-code r q a b = one-by-code-value r q a b
-
-  pub one-named-a-zero-by-code : (r q : Number) → NamedAZeroByCode N E s (numbered r) → NamedAZeroByCode N E s (numbered q) → r ≡ q
-  one-named-a-zero-by-code r q a b = one-by-code-value r q a b
-
-  pub one-named-plain-line : (old new new′ : List ℕ) (r q : Answer) → NamedPlainLine N E s old new (told r) → NamedPlainLine N E s old new′ (told q) → (r ≡ q) × (new ≡ new′)
-  one-named-plain-line old new new′ r q a b =
-      told-both r q (one-clear (λ k l m (c, x, o) (d, y, p). o ∙ ap line (centred-form .one (carbon-tree k) x y) ∙ sym p) a b)

@@ -7,35 +7,26 @@ use Prim.Native.Nat.{ℕ}
 use lib.ListN.{length}
 use Rattle.refusal.specs.document.Table.{Clear, Gives, Promise, gives, kept, short}
 use Rattle.refusal.specs.document.Both.{TwoOutputs, GivesBoth, shortBoth}
-use Rattle.refusal.specs.document.Outcome.{told, numbered}
+use Rattle.refusal.specs.document.Outcome.{told}
 use Rattle.refusal.specs.Laws.{clear-left}
-use Rattle.refusal.specs.Giving.{gave, gave-value}
+use Rattle.refusal.specs.Giving.{gave}
 use Rattle.refusal.specs.Lists.{lists-clear, maps-clear}
-use Rattle.fraction.specs.document.Outcome.{toldFraction}
-use Rattle.limits.specs.document.Limits.{valence}
 use Rattle.skeleton.specs.document.Atom.{atomAt}
 use Rattle.skeleton.specs.document.AtomMarks.{atoms}
-use Rattle.letters.specs.document.Letters.{row14-atom}
-use Rattle.edge_list.specs.document.Letters.{letterRows, carbonRows}
-use Rattle.edge_list.specs.Letters.{letters-accepted}
 use Rattle.form.specs.document.Labelled.{nTupleₗ, centredₗ}
-use Rattle.form_coder.specs.document.Pairs.{centredPairs}
 use Rattle.form_coder.specs.Sums.{one-over-middles, one-over-widest}
 use Rattle.renumber.specs.document.Kept.{HandedKept}
 use Rattle.zurkhovel.specs.document.Same.{said}
 use Rattle.zurkhovel.specs.document.Maps.{mapped}
-use Rattle.zurkhovel.specs.document.Reported.{Reporting, atRoot}
+use Rattle.zurkhovel.specs.document.Reported.{Reporting}
 use Rattle.zurkhovel.specs.declared.reported.Reported.{Reported}
-use Rattle.zurkhovel.specs.declared.reported.ReportedNumber.{ReportedNumber}
-use Rattle.zurkhovel.specs.declared.reported.ReportedFraction.{ReportedFraction}
 use Rattle.zurkhovel.specs.declared.reported.ReportedVerdict.{ReportedVerdict}
 use Rattle.zurkhovel.specs.declared.reported.ReportedMapping.{ReportedMapping}
-use Rattle.zurkhovel.specs.OneReported.{OneCount, one-written, one-valued, one-exact, one-verdict, one-mapping, one-root, one-sum}
+use Rattle.zurkhovel.specs.OneReported.{OneCount, one-written, one-verdict, one-mapping, one-sum}
 use Rattle.named.specs.document.Codes.{NamedRootedCode, NamedFormCode, namedAtRoot, namedWidest, namedMiddles}
 use Rattle.named.specs.document.Same.{namedListRows, NamedSameSkeleton, NamedHandOut, namedOfBoth}
 use Rattle.named.specs.document.Text.{NamedWriteLine}
 use Rattle.named.specs.document.Alike.{NamedEqualVertices}
-use Rattle.named.specs.document.Carbon.{NamedPack, NamedWhole, NamedFraction, NamedCamByCode, NamedZeroAByCode, NamedAZeroByCode, NamedPlainLine}
 use Rattle.named.specs.Accepted.{tree-of}
 use Rattle.named.specs.One as answers
 
@@ -54,11 +45,6 @@ module _ (N : ℕ) (E s : List ℕ) where
     where
       by : {Kept : ℕ → TwoOutputs → Type 0} {new : TwoOutputs} → Promise (namedListRows N E s ++ shortBoth Right old) Kept old new (gives a) → (n m : ℕ) → namedMiddles N E s n → namedMiddles N E s m → n ≡ m
       by (kept c w) = one-middles (clear-left (namedListRows N E s) (shortBoth Right old) c)
-
-  -- of carbon alone
-  carbon-middles : {most : ℕ} → Clear (carbonRows most valence N E 1 s) → (n m : ℕ) → centredPairs N E n → centredPairs N E m → n ≡ m
-  carbon-middles {most} k n m x y =
-      one-over-middles (letters-accepted most valence N E 1 s .0 (clear-left (letterRows most valence N E 1 s) (row14-atom s ∷ []) k) .0 .tree) x y
 
   -- ---- the calls
 
@@ -86,43 +72,6 @@ module _ (N : ℕ) (E s : List ℕ) where
       (old new new′ : List ℕ) (r q : Reported) → Reporting (NamedEqualVertices N E s old new) (namedMiddles N E s) (told (r .answer)) (r .pairs)
       → Reporting (NamedEqualVertices N E s old new′) (namedMiddles N E s) (told (q .answer)) (q .pairs) → (r ≡ q) × (new ≡ new′)
   one-named-equal-vertices-reported old new new′ = one-written (answers.one-named-equal-vertices N E s old new new′) middles-written
-
-  -- ---- of carbon alone
-
-  pub one-named-pack-reported :
-      (root : ℕ) (old new new′ : List ℕ) (r q : Reported) → Reporting (NamedPack N E s root old new) (atRoot N E root) (told (r .answer)) (r .pairs)
-      → Reporting (NamedPack N E s root old new′) (atRoot N E root) (told (q .answer)) (q .pairs) → (r ≡ q) × (new ≡ new′)
-  one-named-pack-reported root old new new′ = one-written (answers.one-named-pack N E s root old new new′) (λ a p. one-root N E root)
-
-  pub one-named-whole-reported :
-      (root : ℕ) (r q : ReportedNumber) → Reporting (NamedWhole N E s root) (atRoot N E root) (numbered (r .answer)) (r .pairs)
-      → Reporting (NamedWhole N E s root) (atRoot N E root) (numbered (q .answer)) (q .pairs) → r ≡ q
-  one-named-whole-reported root = one-valued (answers.one-named-whole N E s root) (λ a p. one-root N E root)
-
-  pub one-named-fraction-reported :
-      (root : ℕ) (r q : ReportedFraction) → Reporting (NamedFraction N E s root) (atRoot N E root) (toldFraction (r .answer)) (r .pairs)
-      → Reporting (NamedFraction N E s root) (atRoot N E root) (toldFraction (q .answer)) (q .pairs) → r ≡ q
-  one-named-fraction-reported root = one-exact (answers.one-named-fraction N E s root) (λ a p. one-root N E root)
-
-  pub one-named-cam-by-code-reported :
-      (old new new′ : List ℕ) (r q : Reported) → Reporting (NamedCamByCode N E s old new) (centredPairs N E) (told (r .answer)) (r .pairs)
-      → Reporting (NamedCamByCode N E s old new′) (centredPairs N E) (told (q .answer)) (q .pairs) → (r ≡ q) × (new ≡ new′)
-  one-named-cam-by-code-reported old new new′ = one-written (answers.one-named-cam-by-code N E s old new new′) (λ a p. carbon-middles (gave p .0))
-
-  pub one-named-zero-a-by-code-reported :
-      (r q : ReportedNumber) → Reporting (NamedZeroAByCode N E s) (centredPairs N E) (numbered (r .answer)) (r .pairs)
-      → Reporting (NamedZeroAByCode N E s) (centredPairs N E) (numbered (q .answer)) (q .pairs) → r ≡ q
-  one-named-zero-a-by-code-reported = one-valued (answers.one-named-zero-a-by-code N E s) (λ a p. carbon-middles (gave-value p .0))
-
-  pub one-named-a-zero-by-code-reported :
-      (r q : ReportedNumber) → Reporting (NamedAZeroByCode N E s) (centredPairs N E) (numbered (r .answer)) (r .pairs)
-      → Reporting (NamedAZeroByCode N E s) (centredPairs N E) (numbered (q .answer)) (q .pairs) → r ≡ q
-  one-named-a-zero-by-code-reported = one-valued (answers.one-named-a-zero-by-code N E s) (λ a p. carbon-middles (gave-value p .0))
-
-  pub one-named-plain-line-reported :
-      (old new new′ : List ℕ) (r q : Reported) → Reporting (NamedPlainLine N E s old new) (centredPairs N E) (told (r .answer)) (r .pairs)
-      → Reporting (NamedPlainLine N E s old new′) (centredPairs N E) (told (q .answer)) (q .pairs) → (r ≡ q) × (new ≡ new′)
-  one-named-plain-line-reported old new new′ = one-written (answers.one-named-plain-line N E s old new new′) (λ a p. carbon-middles (gave p .0))
 
 -- ---- of two lists
 

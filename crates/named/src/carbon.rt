@@ -12,11 +12,14 @@ ghost use Rattle.refusal.specs.document.Outcome.{told, numbered};
 ghost use Rattle.fraction.specs.document.Outcome.{toldFraction};
 ghost use Rattle.form_coder.specs.document.Pairs.{centredPairs};
 ghost use Rattle.zurkhovel.specs.document.Reported.{Reporting, atRoot};
-ghost use Rattle.named.specs.document.Carbon.{NamedPack, NamedWhole, NamedFraction, NamedCam, NamedZeroA, NamedAZero, NamedCamByCode, NamedZeroAByCode, NamedAZeroByCode, NamedPlainLine};
+ghost use Rattle.zurkhovel.specs.document.Bits.{Pack, Whole, InFraction};
+ghost use Rattle.zurkhovel.specs.document.Matrix.{Cam, ZeroA, AZero, CamByCode, ZeroAByCode, AZeroByCode};
+ghost use Rattle.zurkhovel.specs.document.Lines.{WriteLine};
+ghost use Rattle.named.specs.document.Carbon.{carbonTable};
 
 // The packed form of the rooted code at a vertex.
 pub fn pack(n: usize, edges: &[u8], letters: &[u8], root: usize, out: &mut [u8]) -> Reported
-    ensures { λ r. ⌜ Reporting (NamedPack n (now (edges .entry)) (now (letters .entry)) root (now (out .entry)) (now (out .exit))) (atRoot n (now (edges .entry)) root) (told (r .answer)) (r .pairs) ⌝ }
+    ensures { λ r. ⌜ Reporting (Pack (carbonTable (now (letters .entry))) n (now (edges .entry)) root (now (out .entry)) (now (out .exit))) (atRoot n (now (edges .entry)) root) (told (r .answer)) (r .pairs) ⌝ }
 {
     if let Check::Refuse(k, p) = edge_list::check_carbon(SIZE, VALENCE, n, edges, root, letters) {
         return Reported {
@@ -29,7 +32,7 @@ pub fn pack(n: usize, edges: &[u8], letters: &[u8], root: usize, out: &mut [u8])
 
 // The whole number of the rooted code at a vertex.
 pub fn whole(n: usize, edges: &[u8], letters: &[u8], root: usize) -> ReportedNumber
-    ensures { λ r. ⌜ Reporting (NamedWhole n (now (edges .entry)) (now (letters .entry)) root) (atRoot n (now (edges .entry)) root) (numbered (r .answer)) (r .pairs) ⌝ }
+    ensures { λ r. ⌜ Reporting (Whole (carbonTable (now (letters .entry))) n (now (edges .entry)) root) (atRoot n (now (edges .entry)) root) (numbered (r .answer)) (r .pairs) ⌝ }
 {
     if let Check::Refuse(k, p) = edge_list::check_carbon(
         limits::WHOLE,
@@ -49,7 +52,7 @@ pub fn whole(n: usize, edges: &[u8], letters: &[u8], root: usize) -> ReportedNum
 
 // The fraction of the rooted code at a vertex.
 pub fn fraction(n: usize, edges: &[u8], letters: &[u8], root: usize) -> ReportedFraction
-    ensures { λ r. ⌜ Reporting (NamedFraction n (now (edges .entry)) (now (letters .entry)) root) (atRoot n (now (edges .entry)) root) (toldFraction (r .answer)) (r .pairs) ⌝ }
+    ensures { λ r. ⌜ Reporting (InFraction (carbonTable (now (letters .entry))) n (now (edges .entry)) root) (atRoot n (now (edges .entry)) root) (toldFraction (r .answer)) (r .pairs) ⌝ }
 {
     if let Check::Refuse(k, p) = edge_list::check_carbon(
         limits::FRACTION,
@@ -69,7 +72,7 @@ pub fn fraction(n: usize, edges: &[u8], letters: &[u8], root: usize) -> Reported
 
 // The CAM in the caller's numbering.
 pub fn cam(n: usize, edges: &[u8], letters: &[u8], out: &mut [u8]) -> Answer
-    ensures { λ r. ⌜ NamedCam n (now (edges .entry)) (now (letters .entry)) (now (out .entry)) (now (out .exit)) (told r) ⌝ }
+    ensures { λ r. ⌜ Cam (carbonTable (now (letters .entry))) n (now (edges .entry)) (now (out .entry)) (now (out .exit)) (told r) ⌝ }
 {
     if let Check::Refuse(k, p) = edge_list::check_carbon(SIZE, VALENCE, n, edges, 1, letters) {
         return Answer::Refused(k, p);
@@ -79,7 +82,7 @@ pub fn cam(n: usize, edges: &[u8], letters: &[u8], out: &mut [u8]) -> Answer
 
 // The 0A in the caller's numbering.
 pub fn zero_a(n: usize, edges: &[u8], letters: &[u8]) -> Number
-    ensures { λ r. ⌜ NamedZeroA n (now (edges .entry)) (now (letters .entry)) (numbered r) ⌝ }
+    ensures { λ r. ⌜ ZeroA (carbonTable (now (letters .entry))) n (now (edges .entry)) (numbered r) ⌝ }
 {
     if let Check::Refuse(k, p) = edge_list::check_carbon(
         limits::ZERO_A,
@@ -96,7 +99,7 @@ pub fn zero_a(n: usize, edges: &[u8], letters: &[u8]) -> Number
 
 // The A0 in the caller's numbering.
 pub fn a_zero(n: usize, edges: &[u8], letters: &[u8]) -> Number
-    ensures { λ r. ⌜ NamedAZero n (now (edges .entry)) (now (letters .entry)) (numbered r) ⌝ }
+    ensures { λ r. ⌜ AZero (carbonTable (now (letters .entry))) n (now (edges .entry)) (numbered r) ⌝ }
 {
     if let Check::Refuse(k, p) = edge_list::check_carbon(
         limits::A_ZERO,
@@ -113,7 +116,7 @@ pub fn a_zero(n: usize, edges: &[u8], letters: &[u8]) -> Number
 
 // The CAM by code.
 pub fn cam_by_code(n: usize, edges: &[u8], letters: &[u8], out: &mut [u8]) -> Reported
-    ensures { λ r. ⌜ Reporting (NamedCamByCode n (now (edges .entry)) (now (letters .entry)) (now (out .entry)) (now (out .exit))) (centredPairs n (now (edges .entry))) (told (r .answer)) (r .pairs) ⌝ }
+    ensures { λ r. ⌜ Reporting (CamByCode (carbonTable (now (letters .entry))) n (now (edges .entry)) (now (out .entry)) (now (out .exit))) (centredPairs n (now (edges .entry))) (told (r .answer)) (r .pairs) ⌝ }
 {
     if let Check::Refuse(k, p) = edge_list::check_carbon(SIZE, VALENCE, n, edges, 1, letters) {
         return Reported {
@@ -126,7 +129,7 @@ pub fn cam_by_code(n: usize, edges: &[u8], letters: &[u8], out: &mut [u8]) -> Re
 
 // The 0A by code.
 pub fn zero_a_by_code(n: usize, edges: &[u8], letters: &[u8]) -> ReportedNumber
-    ensures { λ r. ⌜ Reporting (NamedZeroAByCode n (now (edges .entry)) (now (letters .entry))) (centredPairs n (now (edges .entry))) (numbered (r .answer)) (r .pairs) ⌝ }
+    ensures { λ r. ⌜ Reporting (ZeroAByCode (carbonTable (now (letters .entry))) n (now (edges .entry))) (centredPairs n (now (edges .entry))) (numbered (r .answer)) (r .pairs) ⌝ }
 {
     if let Check::Refuse(k, p) = edge_list::check_carbon(
         limits::ZERO_A,
@@ -146,7 +149,7 @@ pub fn zero_a_by_code(n: usize, edges: &[u8], letters: &[u8]) -> ReportedNumber
 
 // The A0 by code.
 pub fn a_zero_by_code(n: usize, edges: &[u8], letters: &[u8]) -> ReportedNumber
-    ensures { λ r. ⌜ Reporting (NamedAZeroByCode n (now (edges .entry)) (now (letters .entry))) (centredPairs n (now (edges .entry))) (numbered (r .answer)) (r .pairs) ⌝ }
+    ensures { λ r. ⌜ Reporting (AZeroByCode (carbonTable (now (letters .entry))) n (now (edges .entry))) (centredPairs n (now (edges .entry))) (numbered (r .answer)) (r .pairs) ⌝ }
 {
     if let Check::Refuse(k, p) = edge_list::check_carbon(
         limits::A_ZERO,
@@ -166,7 +169,7 @@ pub fn a_zero_by_code(n: usize, edges: &[u8], letters: &[u8]) -> ReportedNumber
 
 // The plain line of the centred code.
 pub fn plain_line(n: usize, edges: &[u8], letters: &[u8], out: &mut [u8]) -> Reported
-    ensures { λ r. ⌜ Reporting (NamedPlainLine n (now (edges .entry)) (now (letters .entry)) (now (out .entry)) (now (out .exit))) (centredPairs n (now (edges .entry))) (told (r .answer)) (r .pairs) ⌝ }
+    ensures { λ r. ⌜ Reporting (WriteLine (carbonTable (now (letters .entry))) n (now (edges .entry)) (now (out .entry)) (now (out .exit))) (centredPairs n (now (edges .entry))) (told (r .answer)) (r .pairs) ⌝ }
 {
     if let Check::Refuse(k, p) = edge_list::check_carbon(SIZE, VALENCE, n, edges, 1, letters) {
         return Reported {

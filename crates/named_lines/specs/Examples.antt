@@ -21,7 +21,6 @@ use Rattle.lines.specs.document.Line.{front, row3-line, row5-line}
 use Rattle.named_lines.specs.document.Named.{Named, namedBody, Parts, NamedFormed, Matches, row21, carried, namedLines}
 use Rattle.named_lines.specs.document.NamedDemand.{namedKind}
 use Rattle.named_lines.specs.NamedSound.{named-once}
-use Rattle.named_lines.specs.NamedDemanded.{AcceptedLine}
 
 -- methanol, 2 10 OC 1 0 1
 methanol : namedBody (record { digits = 1 ∷ 0 ∷ []; letters = 79 ∷ 67 ∷ [] }) ≡ 50 ∷ 32 ∷ 49 ∷ 48 ∷ 32 ∷ 79 ∷ 67 ∷ 32 ∷ 49 ∷ 32 ∷ 48 ∷ 32 ∷ 49 ∷ []
@@ -86,8 +85,10 @@ digitBytes = (1 ∷ 0 ∷ replicate 126 7) ++ (0 ∷ replicate 63 7)
 abbrev letterBytes : List ℕ
 letterBytes = (79 ∷ 67 ∷ replicate 126 7) ++ (67 ∷ replicate 63 7)
 
+-- whoever wrote the lines
 two-named :
-    handedOut (namedKind AcceptedLine) (0 ∷ 21 ∷ 0 ∷ []) (2 ∷ 0 ∷ 1 ∷ []) (digitBytes ∷ letterBytes ∷ [])
+    (Gives : List ℕ → Named → Type 0)
+    → handedOut (namedKind Gives) (0 ∷ 21 ∷ 0 ∷ []) (2 ∷ 0 ∷ 1 ∷ []) (digitBytes ∷ letterBytes ∷ [])
     ≡ record { digits = 1 ∷ 0 ∷ []; letters = 79 ∷ 67 ∷ [] } ∷ record { digits = 0 ∷ []; letters = 67 ∷ [] } ∷ []
 unfolding handedOut
-two-named = refl
+two-named Gives = refl

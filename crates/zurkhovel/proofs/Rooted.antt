@@ -25,7 +25,7 @@ use Rattle.zurkhovel.specs.document.Reported.{Reports, Reporting, atRoot
 use Rattle.zurkhovel.specs.declared.reported.Reported.{Reported}
 use Rattle.zurkhovel.specs.Rooting.{Rooted}
 use Rattle.zurkhovel.specs.Accepted.{skeleton-of, root-of, rooted-size}
-use Rattle.zurkhovel.proofs.Behind.{behind}
+use Rattle.refusal.specs.Behind.{behind}
 use Rattle.edition.specs.document.Edition.{neighboursIn}
 use Rattle.zurkhovel.specs.document.InEdition.{edgeTable}
 

@@ -1,8 +1,9 @@
 -- `exports::atoms::zk_named_cam` keeps its promise. Assumes nothing.
 use borrow.Author.Needs.{needs}
-use Rattle.named.specs.PlacesCarbon.{places-named-cam}
+use Rattle.zurkhovel.specs.PlacesMatrix.{places-cam}
+use Rattle.named.specs.Carbon.{of-carbon}
 use Rattle.exports.proofs.atoms.zk_named_cam.Statement.{statement}
 use Rattle.exports.proofs.atoms.zk_named_cam.Tie as tie
 
 pub zk-named-cam-spec : {M : Type 1} → statement M
-zk-named-cam-spec = tie.close (tie.spec (λ c κs. search needs) (λ c κs. search (needs, places-named-cam)) (λ c. search needs) (λ c. search needs))
+zk-named-cam-spec = tie.close (tie.spec (λ c κs. search needs) (λ c κs. search (needs, places-cam, of-carbon)) (λ c. search needs) (λ c. search needs))

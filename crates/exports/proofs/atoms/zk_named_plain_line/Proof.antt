@@ -1,8 +1,9 @@
 -- `exports::atoms::zk_named_plain_line` keeps its promise. Assumes nothing.
 use borrow.Author.Needs.{needs}
-use Rattle.named.specs.PlacesCarbon.{places-named-plain-line}
+use Rattle.zurkhovel.specs.PlacesText.{places-write-line}
+use Rattle.named.specs.Carbon.{of-carbon}
 use Rattle.exports.proofs.atoms.zk_named_plain_line.Statement.{statement}
 use Rattle.exports.proofs.atoms.zk_named_plain_line.Tie as tie
 
 pub zk-named-plain-line-spec : {M : Type 1} → statement M
-zk-named-plain-line-spec = tie.close (tie.spec (λ c κs. search needs) (λ c κs. search (needs, places-named-plain-line)) (λ c. search needs) (λ c. search needs))
+zk-named-plain-line-spec = tie.close (tie.spec (λ c κs. search needs) (λ c κs. search (needs, places-write-line, of-carbon)) (λ c. search needs) (λ c. search needs))

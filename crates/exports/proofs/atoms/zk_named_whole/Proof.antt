@@ -1,8 +1,9 @@
 -- `exports::atoms::zk_named_whole` keeps its promise. Assumes nothing.
 use borrow.Author.Needs.{needs}
-use Rattle.named.specs.PlacesCarbon.{places-named-whole}
+use Rattle.zurkhovel.specs.PlacesBits.{places-whole}
+use Rattle.named.specs.Carbon.{of-carbon}
 use Rattle.exports.proofs.atoms.zk_named_whole.Statement.{statement}
 use Rattle.exports.proofs.atoms.zk_named_whole.Tie as tie
 
 pub zk-named-whole-spec : {M : Type 1} → statement M
-zk-named-whole-spec = tie.close (tie.spec (λ c κs. search needs) (λ c κs. search (needs, places-named-whole)) (λ c. search needs))
+zk-named-whole-spec = tie.close (tie.spec (λ c κs. search needs) (λ c κs. search (needs, places-whole, of-carbon)) (λ c. search needs))
