@@ -9,7 +9,7 @@ use Prim.Native.Nat.{ℕ}
 use Rattle.refusal.specs.document.Both.{TwoOutputs}
 use Rattle.skeleton.specs.document.AtomMarks.{atoms}
 use Rattle.form.specs.document.Labelled.{nTupleₗ, centredₗ}
-use Rattle.zurkhovel.specs.document.Reported.{Reporting}
+use Rattle.refusal.specs.document.Reported.{Reporting}
 use Rattle.named.specs.document.Codes.{NamedCheckCode, NamedDecodeCode, NamedDecodeForm, NamedCheckEdges, NamedRootedCode, NamedFormCode, namedAtRoot, namedWidest, namedMiddles}
 use Rattle.named.specs.document.Same.{NamedSameSkeleton, NamedHandOut, NamedCheckRenumbering, namedOfBoth}
 use Rattle.named.specs.document.Text.{NamedWriteLine, NamedReadLine}

@@ -12,7 +12,7 @@ use Rattle.refusal.specs.document.Outcome.{told, numbered}
 use Rattle.fraction.specs.document.Outcome.{toldFraction}
 use Rattle.form.specs.document.Form.{nTuple, centred}
 use Rattle.form_coder.specs.document.Pairs.{centredPairs, nTuplePairs}
-use Rattle.zurkhovel.specs.declared.reported.Reported.{Reported}
+use Rattle.refusal.specs.declared.Reported.{Reported}
 use Rattle.zurkhovel.specs.declared.reported.ReportedNumber.{ReportedNumber}
 use Rattle.zurkhovel.specs.declared.reported.ReportedFraction.{ReportedFraction}
 use Rattle.zurkhovel.specs.declared.reported.ReportedVerdict.{ReportedVerdict}
@@ -24,7 +24,8 @@ use Rattle.zurkhovel.specs.document.Bits.{Pack, Whole, InFraction}
 use Rattle.zurkhovel.specs.document.Matrix.{CamByCode, ZeroAByCode, AZeroByCode}
 use Rattle.zurkhovel.specs.document.Alike.{EqualVertices}
 use Rattle.zurkhovel.specs.document.Lines.{WriteLine}
-use Rattle.zurkhovel.specs.document.Reported.{Reporting, atRoot, OfBoth}
+use Rattle.refusal.specs.document.Reported.{Reporting}
+use Rattle.zurkhovel.specs.document.Reported.{atRoot, OfBoth}
 use Rattle.zurkhovel.specs.OneReported as calls
 use Rattle.zurkhovel.specs.document.InEdition.{EdgeTable}
 use Rattle.zurkhovel.specs.Tabled.{Tabled}

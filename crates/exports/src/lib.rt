@@ -17,7 +17,8 @@ ghost use Rattle.refusal.specs.document.Small.{byteValues, Small, SmallOf, Smal
 ghost use Rattle.fraction.specs.document.Outcome.{toldFraction};
 ghost use Rattle.form.specs.document.Form.{nTuple, centred};
 ghost use Rattle.form_coder.specs.document.Pairs.{centredPairs, nTuplePairs};
-ghost use Rattle.zurkhovel.specs.document.Reported.{Reporting, atRoot, OfBoth};
+ghost use Rattle.refusal.specs.document.Reported.{Reporting};
+ghost use Rattle.zurkhovel.specs.document.Reported.{atRoot, OfBoth};
 ghost use Rattle.zurkhovel.specs.document.Codes.{CheckCode, DecodeCode, DecodeForm, CheckEdges, RootedCode, FormCode};
 ghost use Rattle.zurkhovel.specs.document.Same.{SameSkeleton, said};
 ghost use Rattle.zurkhovel.specs.document.Maps.{mapped, HandOut, CheckRenumbering};

@@ -1,6 +1,7 @@
 // One worked example for each public call in edition 1, as docs/CALLS.md shows it.
 use fraction::Fraction;
 use refusal::Answer;
+use refusal::Reported;
 use shown::answer;
 use shown::front;
 use shown::given;
@@ -14,7 +15,6 @@ use shown::value;
 use shown::valued;
 use zurkhovel::codes::Verdict;
 use zurkhovel::maps::Mapping;
-use zurkhovel::reported::Reported;
 use zurkhovel::reported::ReportedNumber;
 
 // A call with N, an edge list and a root.

@@ -10,7 +10,7 @@ use Rattle.refusal.specs.Giving.{written}
 use Rattle.skeleton.specs.document.Label.{digits}
 use Rattle.skeleton.specs.document.AtomMarks.{atoms}
 use Rattle.letters.specs.document.Letters.{lettersOf}
-use Rattle.zurkhovel.specs.document.Reported.{Reports, Reporting}
+use Rattle.refusal.specs.document.Reported.{Reports, Reporting}
 use Rattle.named.specs.document.Codes.{Spelled}
 use Rattle.named.specs.Accepted.{digits-many, letters-many}
 

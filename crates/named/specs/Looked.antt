@@ -24,7 +24,8 @@ use Rattle.form_coder.specs.Sums.{over-middles-bound, over-widest-bound}
 use Rattle.renumber.specs.document.Kept.{HandedKept}
 use Rattle.zurkhovel.specs.document.Same.{Finding}
 use Rattle.zurkhovel.specs.document.Maps.{MapOutcome}
-use Rattle.zurkhovel.specs.document.Reported.{Reporting, coded, not-coded, mostPairs}
+use Rattle.refusal.specs.document.Reported.{Reporting}
+use Rattle.zurkhovel.specs.document.Reported.{coded, not-coded, mostPairs}
 use Rattle.zurkhovel.specs.Looked.{reported-most}
 use Rattle.named.specs.document.Codes.{NamedRootedCode, NamedFormCode, namedAtRoot, namedWidest, namedMiddles}
 use Rattle.named.specs.document.Same.{namedListRows, NamedSameSkeleton, NamedHandOut, namedOfBoth}

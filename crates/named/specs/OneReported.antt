@@ -18,8 +18,8 @@ use Rattle.form_coder.specs.Sums.{one-over-middles, one-over-widest}
 use Rattle.renumber.specs.document.Kept.{HandedKept}
 use Rattle.zurkhovel.specs.document.Same.{said}
 use Rattle.zurkhovel.specs.document.Maps.{mapped}
-use Rattle.zurkhovel.specs.document.Reported.{Reporting}
-use Rattle.zurkhovel.specs.declared.reported.Reported.{Reported}
+use Rattle.refusal.specs.document.Reported.{Reporting}
+use Rattle.refusal.specs.declared.Reported.{Reported}
 use Rattle.zurkhovel.specs.declared.reported.ReportedVerdict.{ReportedVerdict}
 use Rattle.zurkhovel.specs.declared.reported.ReportedMapping.{ReportedMapping}
 use Rattle.zurkhovel.specs.OneReported.{OneCount, one-written, one-verdict, one-mapping, one-sum}

@@ -4,7 +4,7 @@ use limits::SIZE;
 use limits::VALENCE;
 use refusal::Answer;
 use refusal::Check;
-use zurkhovel::reported::Reported;
+use refusal::Reported;
 ghost use mathlib.Core.Path.{_≡_};
 ghost use mathlib.Core.List.{[]};
 ghost use Prim.Native.Nat.{_≤_};
@@ -17,7 +17,7 @@ ghost use Rattle.skeleton.specs.document.AtomMarks as names;
 ghost use Rattle.skeleton.specs.Label.{IsRootedₗ};
 ghost use Rattle.orbits.specs.document.Carried.{ClassesOfₗ};
 ghost use Rattle.orbits.specs.Classes.{classesₗ};
-ghost use Rattle.zurkhovel.specs.document.Reported.{Reporting};
+ghost use Rattle.refusal.specs.document.Reported.{Reporting};
 ghost use Rattle.named.specs.document.Codes.{namedMiddles};
 ghost use Rattle.named.specs.document.Alike.{NamedEqualVertices};
 
@@ -49,5 +49,5 @@ pub fn equal_vertices(n: usize, edges: &[u8], letters: &[u8], out: &mut [u8]) ->
     }
     let mut marks = [0u8; SIZE];
     let looked = marked::centred(n, edges, letters, &mut marks);
-    zurkhovel::reported::report(classed(&marks[..n], out), looked)
+    refusal::report(classed(&marks[..n], out), looked)
 }

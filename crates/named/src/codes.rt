@@ -7,8 +7,8 @@ use limits::VALENCE;
 use refusal::Answer;
 use refusal::Check;
 use refusal::Lists;
+use refusal::Reported;
 use zurkhovel::codes::Verdict;
-use zurkhovel::reported::Reported;
 use zurkhovel::reported::ReportedVerdict;
 ghost use mathlib.Core.Path.{_≡_};
 ghost use mathlib.Core.List.{[]};
@@ -23,7 +23,7 @@ ghost use Rattle.skeleton.specs.document.AtomMarks as names;
 ghost use Rattle.form.specs.document.Labelled.{nTupleₗ, centredₗ};
 ghost use Rattle.refusal.specs.document.Table.{Clear};
 ghost use Rattle.zurkhovel.specs.document.Same.{said};
-ghost use Rattle.zurkhovel.specs.document.Reported.{Reporting};
+ghost use Rattle.refusal.specs.document.Reported.{Reporting};
 ghost use Rattle.named.specs.document.Codes.{NamedCheckCode, NamedDecodeCode, NamedDecodeForm, NamedCheckEdges, NamedRootedCode, NamedFormCode, namedAtRoot, namedWidest, namedMiddles};
 ghost use Rattle.named.specs.document.Same.{namedListRows, NamedSameSkeleton, namedOfBoth};
 
@@ -60,7 +60,7 @@ pub fn rooted_code(
     }
     let mut marks = [0u8; SIZE];
     let looked = marked::rooted(n, edges, letters, root, &mut marks);
-    zurkhovel::reported::report(marked::spell(&marks[..n], out, spelling), looked)
+    refusal::report(marked::spell(&marks[..n], out, spelling), looked)
 }
 
 // The N-tuple code.
@@ -81,7 +81,7 @@ pub fn n_tuple_code(
     }
     let mut marks = [0u8; SIZE];
     let looked = marked::n_tuple(n, edges, letters, &mut marks);
-    zurkhovel::reported::report(marked::spell(&marks[..n], out, spelling), looked)
+    refusal::report(marked::spell(&marks[..n], out, spelling), looked)
 }
 
 // The centred code.
@@ -102,7 +102,7 @@ pub fn centred_code(
     }
     let mut marks = [0u8; SIZE];
     let looked = marked::centred(n, edges, letters, &mut marks);
-    zurkhovel::reported::report(marked::spell(&marks[..n], out, spelling), looked)
+    refusal::report(marked::spell(&marks[..n], out, spelling), looked)
 }
 
 // The edges of digits that end, and their letters.

@@ -8,7 +8,7 @@ use zurkhovel::maps::Mapping;
 use zurkhovel::reported::ReportedMapping;
 ghost use Rattle.refusal.specs.document.Table.{Clear};
 ghost use Rattle.zurkhovel.specs.document.Maps.{mapped};
-ghost use Rattle.zurkhovel.specs.document.Reported.{Reporting};
+ghost use Rattle.refusal.specs.document.Reported.{Reporting};
 ghost use Rattle.named.specs.document.Same.{namedListRows, NamedHandOut, NamedCheckRenumbering, namedOfBoth};
 
 // The renumbering of two accepted edge lists. Lists of different sizes are not coded.

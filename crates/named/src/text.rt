@@ -5,7 +5,7 @@ use limits::VALENCE;
 use lines::Progress;
 use refusal::Answer;
 use refusal::Check;
-use zurkhovel::reported::Reported;
+use refusal::Reported;
 ghost use mathlib.Core.Path.{_≡_};
 ghost use mathlib.Core.List.{[]};
 ghost use Prim.Native.Nat.{_≤_};
@@ -18,7 +18,7 @@ ghost use Rattle.skeleton.specs.document.AtomMarks as names;
 ghost use Rattle.letters.specs.document.Letters.{lettersOf};
 ghost use Rattle.texts.specs.document.Numerals.{Digits};
 ghost use Rattle.named_lines.specs.document.Named.{namedLine};
-ghost use Rattle.zurkhovel.specs.document.Reported.{Reporting};
+ghost use Rattle.refusal.specs.document.Reported.{Reporting};
 ghost use Rattle.named.specs.document.Codes.{namedMiddles};
 ghost use Rattle.named.specs.document.Text.{NamedWriteLine, NamedReadLine, NamedReadText, NamedListText};
 
@@ -59,7 +59,7 @@ pub fn write_line(n: usize, edges: &[u8], letters: &[u8], out: &mut [u8]) -> Rep
     }
     let mut marks = [0u8; SIZE];
     let looked = marked::centred(n, edges, letters, &mut marks);
-    zurkhovel::reported::report(line(&marks[..n], out), looked)
+    refusal::report(line(&marks[..n], out), looked)
 }
 
 // A text, line after line: for each line 64 bytes of `records`, 64 of `letters`, one number and one place. It stops where the text ends, or

@@ -6,3 +6,4 @@ pub mod Lowest
 pub mod Small
 pub mod Lists
 pub mod Both
+pub mod Reported

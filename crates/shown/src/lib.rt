@@ -2,7 +2,7 @@
 use libc::STDOUT_FILENO;
 use refusal::Answer;
 use refusal::Number;
-use zurkhovel::reported::Reported;
+use refusal::Reported;
 use zurkhovel::reported::ReportedNumber;
 
 pub fn text(s: &[u8]) {

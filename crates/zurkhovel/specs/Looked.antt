@@ -23,7 +23,8 @@ use Rattle.zurkhovel.specs.document.Bits.{Pack, Whole, InFraction}
 use Rattle.zurkhovel.specs.document.Matrix.{CamByCode, ZeroAByCode, AZeroByCode}
 use Rattle.zurkhovel.specs.document.Lines.{WriteLine}
 use Rattle.zurkhovel.specs.document.Alike.{EqualVertices}
-use Rattle.zurkhovel.specs.document.Reported.{Reporting, atRoot, OfBoth, coded, not-coded, mostPairs}
+use Rattle.refusal.specs.document.Reported.{Reporting}
+use Rattle.zurkhovel.specs.document.Reported.{atRoot, OfBoth, coded, not-coded, mostPairs}
 use Rattle.zurkhovel.specs.Tabled.{Tabled, in-edition}
 use Rattle.zurkhovel.specs.Theorems.{verdict-lists}
 use Rattle.zurkhovel.specs.Threes.{handed-lists}

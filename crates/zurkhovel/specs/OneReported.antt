@@ -19,7 +19,7 @@ use Rattle.form_coder.specs.document.Pairs.{centredPairs, nTuplePairs}
 use Rattle.form_coder.specs.Sums.{one-over-middles, one-over-widest}
 use Rattle.zurkhovel.specs.declared.codes.Verdict.{Verdict}
 use Rattle.zurkhovel.specs.declared.maps.Mapping.{Mapping}
-use Rattle.zurkhovel.specs.declared.reported.Reported.{Reported}
+use Rattle.refusal.specs.declared.Reported.{Reported}
 use Rattle.zurkhovel.specs.declared.reported.ReportedNumber.{ReportedNumber}
 use Rattle.zurkhovel.specs.declared.reported.ReportedFraction.{ReportedFraction}
 use Rattle.zurkhovel.specs.declared.reported.ReportedVerdict.{ReportedVerdict}
@@ -31,7 +31,8 @@ use Rattle.zurkhovel.specs.document.Bits.{Pack, Whole, InFraction}
 use Rattle.zurkhovel.specs.document.Matrix.{CamByCode, ZeroAByCode, AZeroByCode}
 use Rattle.zurkhovel.specs.document.Lines.{WriteLine}
 use Rattle.zurkhovel.specs.document.Alike.{EqualVertices}
-use Rattle.zurkhovel.specs.document.Reported.{Reports, Reporting, atRoot, SumOfBoth, OfBoth, coded, not-coded}
+use Rattle.refusal.specs.document.Reported.{Reports, Reporting}
+use Rattle.zurkhovel.specs.document.Reported.{atRoot, SumOfBoth, OfBoth, coded, not-coded}
 use Rattle.zurkhovel.specs.Tabled.{Tabled, in-edition}
 use Rattle.zurkhovel.specs.Theorems.{verdict-lists}
 use Rattle.zurkhovel.specs.Threes.{handed-lists}

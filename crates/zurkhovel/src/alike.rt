@@ -1,13 +1,13 @@
 // Equal vertices. A plain skeleton's atoms are all carbon.
 use super::editions;
-use super::reported::Reported;
 use limits::SIZE;
 use refusal::Answer;
 use refusal::Check;
+use refusal::Reported;
 ghost use Rattle.refusal.specs.document.Outcome.{told};
 ghost use Rattle.form_coder.specs.document.Pairs.{centredPairs};
 ghost use Rattle.zurkhovel.specs.document.Alike.{EqualVertices};
-ghost use Rattle.zurkhovel.specs.document.Reported.{Reporting};
+ghost use Rattle.refusal.specs.document.Reported.{Reporting};
 
 // The class of each vertex, in the centred code's numbering: one for two vertices that a renumbering of the skeleton onto itself carries to one
 // another.

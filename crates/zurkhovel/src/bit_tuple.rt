@@ -1,15 +1,15 @@
 // The bit-tuple: packed bytes, a whole number, a fraction.
 use super::editions;
 use super::reported::Looked;
-use super::reported::Reported;
 use super::reported::ReportedFraction;
 use super::reported::ReportedNumber;
-use super::reported::report;
 use fraction::Fraction;
 use limits::SIZE;
 use refusal::Answer;
 use refusal::Check;
 use refusal::Number;
+use refusal::Reported;
+use refusal::report;
 ghost use mathlib.Core.Path.{_≡_};
 ghost use mathlib.Core.List.{[]};
 ghost use Prim.Native.Nat.{_≤_};
@@ -19,7 +19,8 @@ ghost use Rattle.refusal.specs.document.Outcome.{told, numbered};
 ghost use Rattle.limits.specs.document.Limits.{size};
 ghost use Rattle.fraction.specs.document.Outcome as fraction;
 ghost use Rattle.zurkhovel.specs.Rooting.{Rooting, Readable, EdgesOf};
-ghost use Rattle.zurkhovel.specs.document.Reported.{Reporting, atRoot};
+ghost use Rattle.refusal.specs.document.Reported.{Reporting};
+ghost use Rattle.zurkhovel.specs.document.Reported.{atRoot};
 ghost use Rattle.zurkhovel.specs.document.Bits.{Pack, Unpack, Whole, Unwhole, InFraction, Unfraction};
 ghost use Rattle.zurkhovel.specs.document.InEdition.{edgeTable};
 

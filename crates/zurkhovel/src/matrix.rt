@@ -1,12 +1,12 @@
 // CAM, 0A and A0.
 use super::editions;
 use super::reported::Looked;
-use super::reported::Reported;
 use super::reported::ReportedNumber;
 use limits::SIZE;
 use refusal::Answer;
 use refusal::Check;
 use refusal::Number;
+use refusal::Reported;
 ghost use mathlib.Core.Path.{_≡_};
 ghost use Prim.Native.Nat.{_-_, _*_, _≤_, _<_};
 ghost use lib.ListN.{length};
@@ -17,7 +17,7 @@ ghost use Rattle.limits.specs.Width.{width};
 ghost use Rattle.skeleton.specs.document.Skeleton.{IsSkeleton};
 ghost use Rattle.adjacency.specs.document.Adjacency as adjacency;
 ghost use Rattle.form_coder.specs.document.Pairs.{centredPairs};
-ghost use Rattle.zurkhovel.specs.document.Reported.{Reporting};
+ghost use Rattle.refusal.specs.document.Reported.{Reporting};
 ghost use Rattle.zurkhovel.specs.Rooting.{LaysCam, ListingByCode};
 ghost use Rattle.zurkhovel.specs.document.InEdition.{edgeTable, physicalTable};
 ghost use Rattle.zurkhovel.specs.document.Matrix.{DecodeCam, DecodeZeroA, DecodeAZero, Cam, ZeroA, AZero, CamByCode, ZeroAByCode, AZeroByCode};

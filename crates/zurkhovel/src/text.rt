@@ -1,14 +1,14 @@
 // Lines: one, and a text of them.
 use super::editions;
-use super::reported::Reported;
 use limits::SIZE;
 use limits::VALENCE;
 use lines::Progress;
 use refusal::Answer;
 use refusal::Check;
+use refusal::Reported;
 ghost use Rattle.refusal.specs.document.Outcome.{told};
 ghost use Rattle.form_coder.specs.document.Pairs.{centredPairs};
-ghost use Rattle.zurkhovel.specs.document.Reported.{Reporting};
+ghost use Rattle.refusal.specs.document.Reported.{Reporting};
 ghost use Rattle.zurkhovel.specs.document.Lines.{ReadLine, WriteLine, ReadText, ListText};
 ghost use Rattle.zurkhovel.specs.document.InEdition.{edgeTable};
 ghost use Rattle.texts.specs.document.Demand.{Counted};

@@ -10,7 +10,8 @@ use Rattle.digit_code.specs.declared.Order.{Order}
 use Rattle.digit_code.specs.Compare.{same?, told-same}
 use Rattle.refusal.specs.document.Table.{gives}
 use Rattle.refusal.specs.Giving.{written-room, written-length}
-use Rattle.zurkhovel.specs.document.Reported.{Reporting, coded, not-coded}
+use Rattle.refusal.specs.document.Reported.{Reporting}
+use Rattle.zurkhovel.specs.document.Reported.{coded, not-coded}
 use Rattle.named.specs.document.Same.{NamedSameSkeleton, namedOfBoth}
 use Rattle.named.specs.Accepted.{few}
 use Rattle.named.specs.Two.{named-few}

@@ -1,8 +1,8 @@
--- `zurkhovel::reported::report` meets its contract. Assumes nothing.
+-- `refusal::report` meets its contract. Assumes nothing.
 use mathlib.Core.Path.{refl, sym}
 use borrow.Author.Needs.{needs}
-use Rattle.zurkhovel.proofs.reported.report.Statement.{statement}
-use Rattle.zurkhovel.proofs.reported.report.Tie as tie
+use Rattle.refusal.proofs.report.Statement.{statement}
+use Rattle.refusal.proofs.report.Tie as tie
 
 pub report-spec : {M : Type 1} → statement M
 report-spec =
