@@ -83,11 +83,11 @@ enum-told-4 c = search needs
 
 allow-requires : tie.Need-allow-requires
 allow-requires c κs =
-    let j = c .before .before .before in
-    let m = j .before .before .before in
+    let joined = c .before .before .before in
+    let m = joined .before .before .before in
     let s = m .before .before .before in
     let p = s .before .before .before .before .before .before in
-    (few (p .args .edges .now) (p .args .letters .now) (p .pre .0) (was-clear (s .sizes .ensures) (m .before .enum-told2 .given .1)) (was-clear (m .as-many .ensures) (j .before .enum-told3 .given .1)), refl)
+    (few (p .args .edges .now) (p .args .letters .now) (p .pre .0) (was-clear (s .sizes .ensures) (m .before .enum-told2 .given .1)) (was-clear (m .as-many .ensures) (joined .before .enum-told3 .given .1)), refl)
 
 degrees-requires : tie.Need-degrees-requires
 degrees-requires c κs = search needs
