@@ -35,5 +35,6 @@ module _ {T : EdgeTable} {R : ℕ} (t : Tabled T R) where
   pub places-write-line : (N : ℕ) (E old new : List ℕ) (o : Outcome ℕ) → WriteLine T N E old new o → SmallAnswer o
   places-write-line N E old new o g =
       small-written (t .bounded (omega arith) N E 1) (λ k l (c, x, q).
-      let x′ = t .skeleton N E 1 k in
-      omega (arith, ap length q, line-short c (omega (arith, form-size centred centred-form N E c (x′ .tree) x, x′ .few)))) g
+      let s = t .skeleton N E 1 k in
+      let h = form-size centred centred-form N E c (s .tree) x in
+      omega (arith, ap length q, h, s .few, line-short c (omega (arith, h, s .few)))) g
