@@ -5,7 +5,7 @@
  *
  * Each call is made on ample memory first. Then all that it is lent ends at a page that cannot be touched, and then begins behind one: a byte read or written
  * outside ends the program with 1, and so does another answer, other bytes in an output, or one that was changed where nothing is given: after a refusal, and behind a
- * result. Where a call has two outputs, each is lent in all four lengths with each of the other's. Compiled with -DHEAP, what is lent is a heap block of the very size
+ * result. Where a call has two outputs, the second has one of the four lengths by chance. Compiled with -DHEAP, what is lent is a heap block of the very size
  * instead, its outputs not set, for valgrind to watch over. */
 #define _DEFAULT_SOURCE
 #include <setjmp.h>
@@ -482,7 +482,7 @@ static void try_call(const struct call *call) {
     _Alignas(uint64_t) static uint8_t ample[OUTPUTS][MOST];
     struct given g = make(call->kind, call->most, call->named);
     size_t needed[OUTPUTS];
-    unsigned second = call->output == CODED || call->output == DECODED ? ROOMS : 1;
+    int second = call->output == CODED || call->output == DECODED;
     name_now = call->name;
     given_now = &g;
     for (unsigned o = 0; o < OUTPUTS; o++)
@@ -496,8 +496,8 @@ static void try_call(const struct call *call) {
             compare(call, &g, (const size_t[OUTPUTS]){call->output == VALUE ? 8 : 0}, side);
             continue;
         }
-        for (unsigned k = 0; k < ROOMS * second; k++)
-            compare(call, &g, (const size_t[OUTPUTS]){room(needed[RESULT], k / second), second == 1 ? 0 : room(needed[SPELLING], k % ROOMS)}, side);
+        for (unsigned k = 0; k < ROOMS; k++)
+            compare(call, &g, (const size_t[OUTPUTS]){room(needed[RESULT], k), second ? room(needed[SPELLING], (unsigned)below(ROOMS)) : 0}, side);
     }
     given_now = NULL;
 }
