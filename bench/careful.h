@@ -24,7 +24,8 @@ struct tree {
 /* The atom of a letter: 0, 1 and 2 for C, N and O, so it may have 4 less that many neighbours; 3 for any other byte. With a named atom a vertex has the mark 4 times its
  * digit plus the atom. */
 static inline unsigned atom_of(uint8_t letter) {
-    return letter == 'C' ? 0 : letter == 'N' ? 1 : letter == 'O' ? 2 : 3;
+    static const uint8_t below[256] = {['C'] = 3, ['N'] = 2, ['O'] = 1};
+    return 3u - below[letter];
 }
 
 /* The tree of an edge list: rows 22, 3 and 5 to 9. */
