@@ -4,25 +4,19 @@ use super::refusals::read;
 use super::written::line;
 use shown::answer;
 use shown::both;
+use shown::both_reported;
 use shown::given;
 use shown::lettered;
 use shown::number;
 use shown::reported;
 use shown::text;
-use zurkhovel::reported::Reported;
-
-// A code with its letters, of a call that reports.
-fn coded(r: Reported, out: &[u8], spelling: &[u8], n: usize) {
-    let a = r.answer;
-    both(a, out, spelling, n);
-}
 
 fn centred(n: usize, edges: &[u8], letters: &[u8]) {
     let mut out = [0u8; 6];
     let mut spelling = [0u8; 6];
     lettered(b"centred_code", n, edges, letters);
     let a = named::codes::centred_code(n, edges, letters, &mut out, &mut spelling);
-    coded(a, &out, &spelling, n);
+    both_reported(a, &out, &spelling, n);
 }
 
 // Of a chain of six, at a vertex.
@@ -33,7 +27,7 @@ fn rooted(edges: &[u8], letters: &[u8], v: usize) {
     text(b", ");
     number(v as u64);
     let a = named::codes::rooted_code(6, edges, letters, v, &mut out, &mut spelling);
-    coded(a, &out, &spelling, 6);
+    both_reported(a, &out, &spelling, 6);
 }
 
 // At the two middles of the chain; and what its digits are by themselves.

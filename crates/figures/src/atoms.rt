@@ -10,13 +10,13 @@ use super::calls::told;
 use super::calls::verdict;
 use shown::answer;
 use shown::both;
+use shown::both_reported;
 use shown::given;
 use shown::lettered;
 use shown::number;
 use shown::spelled;
 use shown::text;
 use shown::value;
-use zurkhovel::reported::Reported;
 
 fn code(digits: &[u8], letters: &[u8]) {
     spelled(b"check_code", digits, letters);
@@ -70,19 +70,13 @@ fn lists() {
     list(6, &[1, 2, 1, 3, 1, 4, 1, 5, 1, 6], b"NCCCCC");
 }
 
-// The answer of a call that gives a code and reports, and what it reports.
-fn coded(name: &[u8], r: Reported, out: &[u8], spelling: &[u8], n: usize) {
-    let a = r.answer;
-    both(a, out, spelling, n);
-    looked(name, r.pairs);
-}
-
 fn centred_of(n: usize, edges: &[u8], letters: &[u8]) {
     let mut out = [0u8; 64];
     let mut spelling = [0u8; 64];
     lettered(b"centred_code", n, edges, letters);
     let a = named::codes::centred_code(n, edges, letters, &mut out, &mut spelling);
-    coded(b"named centred_code", a, &out, &spelling, n);
+    both_reported(a, &out, &spelling, n);
+    looked(b"named centred_code", a.pairs);
 }
 
 // Of a chain of six.
@@ -92,10 +86,12 @@ fn coded_of(edges: &[u8], letters: &[u8]) {
     lettered(b"rooted_code", 6, edges, letters);
     text(b", 4");
     let a = named::codes::rooted_code(6, edges, letters, 4, &mut out, &mut spelling);
-    coded(b"named rooted_code", a, &out, &spelling, 6);
+    both_reported(a, &out, &spelling, 6);
+    looked(b"named rooted_code", a.pairs);
     lettered(b"n_tuple_code", 6, edges, letters);
     let b = named::codes::n_tuple_code(6, edges, letters, &mut out, &mut spelling);
-    coded(b"named n_tuple_code", b, &out, &spelling, 6);
+    both_reported(b, &out, &spelling, 6);
+    looked(b"named n_tuple_code", b.pairs);
     centred_of(6, edges, letters);
 }
 

@@ -141,6 +141,12 @@ pub fn reported(r: Reported, out: &[u8]) {
     answer(a, out);
 }
 
+// The same with letters.
+pub fn both_reported(r: Reported, out: &[u8], spelling: &[u8], n: usize) {
+    let a = r.answer;
+    both(a, out, spelling, n);
+}
+
 // The same of a number.
 pub fn valued(r: ReportedNumber) {
     let a = r.answer;
