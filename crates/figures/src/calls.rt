@@ -1,5 +1,6 @@
 // One worked example for each public call in edition 1, as docs/CALLS.md shows it.
 use fraction::Fraction;
+use lines::Progress;
 use refusal::Answer;
 use refusal::Reported;
 use shown::answer;
@@ -15,7 +16,10 @@ use shown::value;
 use shown::valued;
 use zurkhovel::codes::Verdict;
 use zurkhovel::maps::Mapping;
+use zurkhovel::reported::ReportedFraction;
+use zurkhovel::reported::ReportedMapping;
 use zurkhovel::reported::ReportedNumber;
+use zurkhovel::reported::ReportedVerdict;
 
 // A call with N, an edge list and a root.
 fn rooted(name: &[u8], n: usize, edges: &[u8], root: usize) {
@@ -25,7 +29,7 @@ fn rooted(name: &[u8], n: usize, edges: &[u8], root: usize) {
 }
 
 // How many pairs of digits a call reports that it looked at.
-fn looked(name: &[u8], pairs: usize) {
+pub(crate) fn looked(name: &[u8], pairs: usize) {
     text(name);
     text(b" looked at ");
     number(pairs as u64);
@@ -33,13 +37,27 @@ fn looked(name: &[u8], pairs: usize) {
 }
 
 // The answer of a call that reports, and what it reports.
-fn told(name: &[u8], r: Reported, out: &[u8]) {
+pub(crate) fn told(name: &[u8], r: Reported, out: &[u8]) {
     reported(r, out);
     looked(name, r.pairs);
 }
 
-fn asked(name: &[u8], r: ReportedNumber) {
+pub(crate) fn asked(name: &[u8], r: ReportedNumber) {
     valued(r);
+    looked(name, r.pairs);
+}
+
+// The fraction of 002's example.
+pub(crate) fn exact(name: &[u8], r: ReportedFraction) {
+    let c = r.answer;
+    match c {
+        Fraction::Exact(x) => {
+            if x == 0.926025390625 {
+                text(b" = Exact(0.926025390625)\n");
+            }
+        }
+        Fraction::Refused(k, p) => refused(k, p),
+    }
     looked(name, r.pairs);
 }
 
@@ -97,25 +115,37 @@ fn refused_of(list: u8, k: u8, p: usize) {
     text(b")\n");
 }
 
-pub(crate) fn same_in(edition: usize, n1: usize, edges1: &[u8], n2: usize, edges2: &[u8]) {
-    sized(b"same_skeleton", n1, edges1);
-    sized(b",", n2, edges2);
-    let r = zurkhovel::codes::same_skeleton(edition, n1, edges1, n2, edges2);
+pub(crate) fn verdict(name: &[u8], r: ReportedVerdict) {
     let a = r.answer;
     match a {
         Verdict::Same => text(b" = Same\n"),
         Verdict::Different => text(b" = Different\n"),
         Verdict::Refused(list, k, p) => refused_of(list, k, p),
     }
-    looked(b"same_skeleton", r.pairs);
+    looked(name, r.pairs);
+}
+
+pub(crate) fn same_in(edition: usize, n1: usize, edges1: &[u8], n2: usize, edges2: &[u8]) {
+    sized(b"same_skeleton", n1, edges1);
+    sized(b",", n2, edges2);
+    verdict(
+        b"same_skeleton",
+        zurkhovel::codes::same_skeleton(edition, n1, edges1, n2, edges2),
+    );
 }
 
 // An answer about a map, and what was written.
-fn mapped(a: Mapping, out: &[u8]) {
+pub(crate) fn mapped(a: Mapping, out: &[u8]) {
     match a {
         Mapping::Done(n) => answer(Answer::Done(n), out),
         Mapping::Refused(list, k, p) => refused_of(list, k, p),
     }
+}
+
+pub(crate) fn map_told(name: &[u8], r: ReportedMapping, out: &[u8]) {
+    let a = r.answer;
+    mapped(a, out);
+    looked(name, r.pairs);
 }
 
 fn handed(edges1: &[u8], edges2: &[u8]) {
@@ -123,9 +153,7 @@ fn handed(edges1: &[u8], edges2: &[u8]) {
     sized(b"renumbering", 4, edges1);
     sized(b",", 4, edges2);
     let r = zurkhovel::maps::renumbering(1, 4, edges1, 4, edges2, &mut out);
-    let a = r.answer;
-    mapped(a, &out);
-    looked(b"renumbering", r.pairs);
+    map_told(b"renumbering", r, &out);
 }
 
 fn judged(edges1: &[u8], edges2: &[u8], map: &[u8]) {
@@ -156,17 +184,7 @@ fn bits_of(edges: &[u8]) {
     rooted(b"whole", 8, edges, 1);
     asked(b"whole", zurkhovel::bit_tuple::whole(1, 8, edges, 1));
     rooted(b"fraction", 8, edges, 1);
-    let r = zurkhovel::bit_tuple::fraction(1, 8, edges, 1);
-    let c = r.answer;
-    match c {
-        Fraction::Exact(x) => {
-            if x == 0.926025390625 {
-                text(b" = Exact(0.926025390625)\n");
-            }
-        }
-        Fraction::Refused(k, p) => refused(k, p),
-    }
-    looked(b"fraction", r.pairs);
+    exact(b"fraction", zurkhovel::bit_tuple::fraction(1, 8, edges, 1));
 }
 
 fn bits_read() {
@@ -231,6 +249,21 @@ fn line(edges: &[u8]) {
     answer(b, &out);
 }
 
+// How far a reader of three lines got, their numbers and their places.
+pub(crate) fn progress(p: Progress, numbers: &[u8; 3], places: &[usize; 3]) {
+    text(b" = lines ");
+    number(p.lines as u64);
+    text(b", at ");
+    number(p.at as u64);
+    given(b"; numbers", numbers);
+    text(b"; places ");
+    number(places[0] as u64);
+    text(b" ");
+    number(places[1] as u64);
+    text(b" ");
+    number(places[2] as u64);
+}
+
 // Three lines, the second of which is no centred code.
 fn lines() {
     let mut records = [0u8; 192];
@@ -243,17 +276,8 @@ fn lines() {
         &mut numbers,
         &mut places,
     );
-    text(b"read_text of the lines '6 220010', '6 311000' and '1 0' = lines ");
-    number(p.lines as u64);
-    text(b", at ");
-    number(p.at as u64);
-    given(b"; numbers", &numbers);
-    text(b"; places ");
-    number(places[0] as u64);
-    text(b" ");
-    number(places[1] as u64);
-    text(b" ");
-    number(places[2] as u64);
+    text(b"read_text of the lines '6 220010', '6 311000' and '1 0'");
+    progress(p, &numbers, &places);
     text(b"\n");
     let t = zurkhovel::text::count(&numbers);
     given(b"count", &numbers);
@@ -264,10 +288,9 @@ fn lines() {
     text(b"\n");
 }
 
-// The listing of the same three lines, from a byte on.
-fn listing(from: usize, out: &mut [u8]) {
-    let n = zurkhovel::text::list(b"6 220010\n6 311000\n1 0\n", from, out);
-    text(b"list of the lines '6 220010', '6 311000' and '1 0' from ");
+// The n bytes that a listing has from a byte on.
+pub(crate) fn piece(from: usize, out: &[u8], n: usize) {
+    text(b" from ");
     number(from as u64);
     text(b", lent ");
     number(out.len() as u64);
@@ -276,6 +299,13 @@ fn listing(from: usize, out: &mut [u8]) {
     text(b";");
     front(out, n);
     text(b"\n");
+}
+
+// The listing of the same three lines, from a byte on.
+fn listing(from: usize, out: &mut [u8]) {
+    let n = zurkhovel::text::list(b"6 220010\n6 311000\n1 0\n", from, out);
+    text(b"list of the lines '6 220010', '6 311000' and '1 0'");
+    piece(from, out, n);
 }
 
 fn listings() {
