@@ -6,4 +6,4 @@ use Rattle.exports.proofs.zk_pack_edition.Statement.{statement}
 use Rattle.exports.proofs.zk_pack_edition.Tie as tie
 
 pub zk-pack-edition-spec : {M : Type 1} → statement M
-zk-pack-edition-spec = tie.close (tie.spec (λ c κs. search needs) (λ c κs. search (needs, places-pack, in-edition)) (λ c. search needs) (λ c. search needs))
+zk-pack-edition-spec = tie.close (tie.spec (λ c κs. search needs) (λ c κs. let h = places-pack (in-edition (c .before .before .before .before .before .before .args .edition)) in search (needs, h)) (λ c. search needs) (λ c. search needs))

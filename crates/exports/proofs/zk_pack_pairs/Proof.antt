@@ -6,4 +6,4 @@ use Rattle.exports.proofs.zk_pack_pairs.Statement.{statement}
 use Rattle.exports.proofs.zk_pack_pairs.Tie as tie
 
 pub zk-pack-pairs-spec : {M : Type 1} → statement M
-zk-pack-pairs-spec = tie.close (tie.spec (λ c κs. search needs) (λ c κs. search (needs, places-pack, in-edition)) (λ c. search needs) (λ c. search needs))
+zk-pack-pairs-spec = tie.close (tie.spec (λ c κs. search needs) (λ c κs. let h = places-pack (in-edition (c .before .before .before .before .before .before .args .edition)) in search (needs, h)) (λ c. search needs) (λ c. search needs))

@@ -1,4 +1,5 @@
 -- `exports::atoms::zk_named_plain_line` keeps its promise. Assumes nothing.
+use denote.Ref.{now}
 use borrow.Author.Needs.{needs}
 use Rattle.zurkhovel.specs.PlacesText.{places-write-line}
 use Rattle.named.specs.Carbon.{of-carbon}
@@ -6,4 +7,4 @@ use Rattle.exports.proofs.atoms.zk_named_plain_line.Statement.{statemen
 use Rattle.exports.proofs.atoms.zk_named_plain_line.Tie as tie
 
 pub zk-named-plain-line-spec : {M : Type 1} → statement M
-zk-named-plain-line-spec = tie.close (tie.spec (λ c κs. search needs) (λ c κs. search (needs, places-write-line, of-carbon)) (λ c. search needs) (λ c. search needs))
+zk-named-plain-line-spec = tie.close (tie.spec (λ c κs. search needs) (λ c κs. let h = places-write-line (of-carbon (now (c .before .before .before .before .before .before .before .args .letters))) in search (needs, h)) (λ c. search needs) (λ c. search needs))
