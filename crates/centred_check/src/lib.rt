@@ -4,7 +4,6 @@
 use digit_code::Order;
 use digit_code::compare;
 use limits::ATOMS;
-use limits::BONDS;
 use limits::SIZE;
 use refusal::Check;
 ghost use mathlib.Core.Path.{_≡_};
@@ -27,7 +26,7 @@ ghost use Rattle.digit_code.specs.Right.{Rightₗ};
 ghost use Rattle.digit_code.specs.Compare.{lex, pairsOf, further};
 ghost use Rattle.form.specs.document.Form.{centred, row14-form, formRows};
 ghost use Rattle.form.specs.document.Labelled.{centredₗ, row14ₗ};
-ghost use Rattle.centred_check.specs.Kinds.{kinds, limits, unit};
+ghost use Rattle.centred_check.specs.Kinds.{kinds, unit};
 ghost use Rattle.centred_check.specs.Middle.{top, rest, turned, branch, Middle};
 ghost use Rattle.centred_check.specs.Skip.{Skips};
 ghost use Rattle.centred_check.specs.Stack.{Branches};
@@ -37,13 +36,6 @@ ghost use Rattle.centred_check.specs.Spot.{Spot};
 
 // Places for where the trees on the stack begin, one for each, and one more for where the digits end. No place of the stack has this number.
 pub const STARTS: usize = SIZE + 1;
-
-// How many neighbours the vertex of mark m may have.
-pub fn most(named: bool, limit: u8, m: u8) -> u8
-    ensures { λ r. ⌜ r ≡ limits named limit m ⌝ }
-{
-    if named { BONDS - m % ATOMS } else { limit }
-}
 
 // How far the mark of a vertex with one child more is from a mark.
 fn step(named: bool) -> u8
@@ -127,12 +119,12 @@ fn rooted(
     at: usize,
 ) -> bool
     requires { ⌜ now ds ≡ digits (kinds named .arity) (now code) ⌝ }
-    requires { ⌜ Scan (kinds named) (limits named limit) (now code) (now hs) (now starts) 1 at ⌝ }
+    requires { ⌜ Scan (kinds named) (λ m. limit) (now code) (now hs) (now starts) 1 at ⌝ }
     requires { ⌜ length (now code) ≤ size ⌝ }
-    ensures { λ r. ⌜ Tells (Rightₗ (kinds named .arity) (limits named limit) size (now (code .entry))) r ⌝ }
+    ensures { λ r. ⌜ Tells (Rightₗ (kinds named .arity) (λ m. limit) size (now (code .entry))) r ⌝ }
 {
     let k = ds[0];
-    if most(named, limit, code[0]) < k {
+    if limit < k {
         return false;
     }
     if at + k as usize != SIZE {
@@ -158,7 +150,7 @@ pub fn scan(
     requires { ⌜ 1 ≤ limit ⌝ }
     requires { ⌜ length (now hs) ≡ size ⌝ }
     requires { ⌜ length (now starts) ≡ suc size ⌝ }
-    ensures { λ r. ⌜ Scanned (kinds named) (limits named limit) (now (code .entry)) (now (hs .exit)) r ⌝ }
+    ensures { λ r. ⌜ Scanned (kinds named) (λ m. limit) (now (code .entry)) (now (hs .exit)) r ⌝ }
 {
     let n = code.len();
     if n == 0 {
@@ -173,7 +165,7 @@ pub fn scan(
     while 1 < i {
         i -= 1;
         let k = ds[i];
-        if most(named, limit, code[i]) <= k {
+        if limit <= k {
             return STARTS;
         }
         let end = at + k as usize;
@@ -391,28 +383,6 @@ pub fn judged(named: bool, ds: &[u8], code: &[u8], hs: &[u8], from: usize) -> Ch
         return Check::Passed;
     }
     Check::Refuse(14, 0)
-}
-
-// 14: a right code of marks that is not the centred one; the digits `ds` tell how many children each mark has.
-pub fn centred_marks(named: bool, limit: u8, ds: &[u8], code: &[u8]) -> Check
-    requires { ⌜ now ds ≡ digits (kinds named .arity) (now code) ⌝ }
-    requires { ⌜ 1 ≤ limit ⌝ }
-    requires { ⌜ Rightₗ (kinds named .arity) (limits named limit) size (now code) ⌝ }
-    ensures { λ r. ⌜ Answers (row14ₗ (kinds named) (centredₗ (kinds named)) (now (code .entry)) ∷ []) r ⌝ }
-{
-    let mut hs = [0u8; SIZE];
-    let mut starts = [0u8; STARTS];
-    let from = scan(named, limit, ds, code, &mut hs, &mut starts);
-    judged(named, ds, code, &hs, from)
-}
-
-// The same of a plain code, whose marks are its digits.
-pub fn centred(limit: u8, code: &[u8]) -> Check
-    requires { ⌜ 1 ≤ limit ⌝ }
-    requires { ⌜ Clear (codeRows size limit (now code)) ⌝ }
-    ensures { λ r. ⌜ Answers (row14-form centred (now (code .entry)) ∷ []) r ⌝ }
-{
-    centred_marks(false, limit, code, code)
 }
 
 // Digits lent by themselves that are to be a centred code: 3, 10 to 13, and 14. Which of 3 to 13 a wrong code has is looked for again.

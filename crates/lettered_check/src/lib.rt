@@ -2,7 +2,6 @@
 // letters in one pass, and a right code is told by `centred_check` in another; only what is none is looked at row by row.
 use centred_check::STARTS;
 use centred_check::judged;
-use centred_check::most;
 use centred_check::scan;
 use limits::ATOMS;
 use limits::BONDS;
@@ -13,7 +12,7 @@ ghost use mathlib.Core.Path.{_≡_};
 ghost use mathlib.Core.List.{[], _∷_, _++_};
 ghost use Prim.Native.Nat.{_≤_};
 ghost use lib.ListN.{length, take};
-ghost use Rattle.refusal.specs.document.Table.{row3};
+ghost use Rattle.refusal.specs.document.Table.{Clear, row3};
 ghost use Rattle.refusal.specs.Checks.{Answers};
 ghost use Rattle.limits.specs.document.Limits.{size, valence};
 ghost use Rattle.digit_code.specs.Digits.{digits};
@@ -34,7 +33,7 @@ fn bonded(ds: &[u8], code: &[u8]) -> Check
 {
     let mut p = 1;
     while p <= code.len() {
-        let limit = most(true, BONDS, code[p - 1]);
+        let limit = BONDS - code[p - 1] % ATOMS;
         if digit_code::top(limit, p) < ds[p - 1] {
             return Check::Refuse(20, p);
         }
@@ -61,11 +60,12 @@ fn refused(ds: &[u8], code: &[u8]) -> Check
     digit_code::ordered_marks(true, ds, code)
 }
 
-// Digits and their marks that are to be a centred code: 10, 20, 11 to 13, and 14.
+// Digits and their marks that are to be a centred code, where 20 does not apply: 10, 11 to 13, and 14.
 fn check_marks(ds: &[u8], code: &[u8]) -> Check
     requires { ⌜ now ds ≡ digits (atoms .arity) (now code) ⌝ }
     requires { ⌜ 1 ≤ length (now ds) ⌝ }
     requires { ⌜ length (now ds) ≤ size ⌝ }
+    requires { ⌜ Clear (row20 atoms bonds (now code) ∷ []) ⌝ }
     ensures { λ r. ⌜ Answers (namedDigitRows valence (now (ds .entry)) (now (code .entry)) ++ (row14ₗ atoms (centredₗ atoms) (now (code .entry)) ∷ [])) r ⌝ }
 {
     let mut hs = [0u8; SIZE];
@@ -77,22 +77,40 @@ fn check_marks(ds: &[u8], code: &[u8]) -> Check
     judged(true, ds, code, &hs, from)
 }
 
-// The marks of digits and letters, to the start of what is lent; false where a digit is above VALENCE.
-fn marks(ds: &[u8], letters: &[u8], out: &mut [u8]) -> bool
+// How digits stand to the limits of their letters.
+enum Caps {
+    // A digit is above VALENCE, and there are no marks.
+    High,
+    // One is above what its atom allows.
+    Crowded,
+    // None is.
+    Kept,
+}
+
+// The marks of digits and letters, to the start of what is lent, unless a digit is above VALENCE.
+fn marks(ds: &[u8], letters: &[u8], out: &mut [u8]) -> Caps
     requires { ⌜ length (now letters) ≡ length (now ds) ⌝ }
     requires { ⌜ length (now ds) ≤ length (now out) ⌝ }
     ensures { λ r. ⌜ Made (now (ds .entry)) (now (letters .entry)) (now (out .entry)) (now (out .exit)) r ⌝ }
 {
+    let mut kept = true;
     let mut i = 0;
     while i < ds.len() {
         let k = ds[i];
         if VALENCE < k {
-            return false;
+            return Caps::High;
         }
-        out[i] = ATOMS * k + letters::ranked(letters[i]);
+        let r = letters::ranked(letters[i]);
         i += 1;
+        if digit_code::top(BONDS - r, i) < k {
+            kept = false;
+        }
+        out[i - 1] = ATOMS * k + r;
     }
-    true
+    if kept {
+        return Caps::Kept;
+    }
+    Caps::Crowded
 }
 
 // Digits with a letter for each that are to be a centred code: 3, 10, 20, 11 to 13, and 14.
@@ -104,10 +122,11 @@ pub fn check(ds: &[u8], letters: &[u8]) -> Check
         return Check::Refuse(k, p);
     }
     let mut ms = [0u8; SIZE];
-    if !marks(ds, letters, &mut ms) {
-        return digit_code::capped(VALENCE, ds);
+    match marks(ds, letters, &mut ms) {
+        Caps::High => digit_code::capped(VALENCE, ds),
+        Caps::Crowded => refused(ds, &ms[..ds.len()]),
+        Caps::Kept => check_marks(ds, &ms[..ds.len()]),
     }
-    check_marks(ds, &ms[..ds.len()])
 }
 
 // 2, 3 and 21 of digits and letters that are lent by themselves.
@@ -133,10 +152,11 @@ pub fn check_rooted(ds: &[u8], letters: &[u8], ms: &mut [u8]) -> Check
     if let Check::Refuse(k, p) = lent(ds, letters) {
         return Check::Refuse(k, p);
     }
-    if !marks(ds, letters, ms) {
-        return digit_code::capped(VALENCE, ds);
+    match marks(ds, letters, ms) {
+        Caps::High => digit_code::capped(VALENCE, ds),
+        Caps::Crowded => refused(ds, &ms[..ds.len()]),
+        Caps::Kept => refused(ds, &ms[..ds.len()]),
     }
-    refused(ds, &ms[..ds.len()])
 }
 
 // The same where the marks are not asked for.

@@ -1,19 +1,17 @@
 -- `lettered_check::bonded` meets its contract: the loop keeps that row 20 applies to no mark passed. Assumes nothing.
 use mathlib.Core.Path.{_≡_, ap, _∙_}
-use mathlib.Core.Bool.{true}
-use Prim.Native.Nat.{ℕ, _+_, _-_, _/_, _%_, _≤_, _<_}
+use Prim.Native.Nat.{ℕ, _+_, _-_, _/_, _≤_, _<_}
 use native.Mathlib.Omega.{arith}
 use borrow.Author.Count.{below-more}
-use borrow.Author.Needs.{needs}
 use lib.ListN.{length, getD}
 use Rattle.refusal.specs.Checks.{passes, fails}
 use Rattle.refusal.specs.Laws.{clear-one, first-place}
 use Rattle.digit_code.specs.document.Code.{digit, cap}
 use Rattle.digit_code.specs.Two.{as-long, digit-at}
 use Rattle.skeleton.specs.document.Label.{row20}
-use Rattle.skeleton.specs.document.Atom.{named, bonds}
+use Rattle.skeleton.specs.document.Atom.{bonds}
 use Rattle.skeleton.specs.document.AtomMarks.{atoms}
-use Rattle.centred_check.specs.Kinds.{limits-some}
+use Rattle.lettered_check.specs.Rows.{bonded, bonds-are}
 use Rattle.lettered_check.proofs.bonded.Statement.{statement}
 use Rattle.lettered_check.proofs.bonded.Tie as tie
 
@@ -28,15 +26,10 @@ start c = c .before .before .before
 
 -- what the mark's atom allows was told, and how much that is at its place
 abbrev turn : tie.After-top Inv-loop μ-loop → tie.At-loop Inv-loop μ-loop
-turn c = c .before .before .before .before
+turn c = c .before .before .before
 
-allowed : (c : tie.After-most Inv-loop μ-loop) → 1 ≤ c .most .result
-allowed c =
-    let l = c .before .before .before in
-    omega (arith, c .most .ensures, limits-some true 4 (getD (start l .args .code .now) (l .loop .p - 1) 0) (omega arith))
-
-told : (c : tie.After-top Inv-loop μ-loop) → c .top .result ≡ cap (bonds (named (digit (start (turn c) .args .code .now) (turn c .loop .p) % 3))) (turn c .loop .p)
-told c = c .top .ensures ∙ ap (λ (m : ℕ). cap m (turn c .loop .p)) (c .before .most .ensures)
+told : (c : tie.After-top Inv-loop μ-loop) → c .top .result ≡ cap (bonded (digit (start (turn c) .args .code .now) (turn c .loop .p))) (turn c .loop .p)
+told c = c .top .ensures ∙ ap (λ (m : ℕ). cap m (turn c .loop .p)) (bonds-are (digit (start (turn c) .args .code .now) (turn c .loop .p)))
 
 -- the digit is what its mark tells
 counts : (c : tie.At-loop Inv-loop μ-loop) → c .loop .p ≤ length (start c .args .code .now)
@@ -52,10 +45,10 @@ bonded-spec =
     (λ c. (omega arith, (omega arith, λ q l a. omega arith)))
     (λ c. omega arith)
     (λ c. omega arith)
-    (λ c κs. search needs)
-    (λ c κs. allowed c)
     (λ c. omega arith)
-    (λ c. let l = c .before .before .before .before .before in omega (arith, as-long (atoms .arity) (start l .args .code .now) (start l .pre)))
+    (λ c κs. omega arith)
+    (λ c. omega arith)
+    (λ c. let l = c .before .before .before .before in omega (arith, as-long (atoms .arity) (start l .args .code .now) (start l .pre)))
     (λ c.
     fails
     (first-place

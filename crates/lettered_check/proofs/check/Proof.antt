@@ -3,19 +3,22 @@ use mathlib.Core.Path.{_≡_, sym, ap, _∙_, subst}
 use mathlib.Core.List.{List, [], _∷_, _++_}
 use Prim.Native.Nat.{ℕ}
 use borrow.Author.Needs.{needs}
-use borrow.Author.Tests.{not-true, not-false}
-use lib.ListN.{length, take}
+use lib.ListN.{length, take, replicate}
+use Rattle.laws.specs.document.Laid.{laidOver}
 use Rattle.laws.specs.Laying.{laid-front}
 use Rattle.refusal.specs.document.Table.{Clear, row3}
 use Rattle.refusal.specs.Checks.{Answers}
-use Rattle.refusal.specs.Laws.{stops, goes-on, was-clear, at-least, at-most}
+use Rattle.refusal.specs.declared.Check.{Check}
+use Rattle.refusal.specs.Laws.{stops, goes-on, was-clear, clear-left, others, at-least, at-most}
 use Rattle.limits.specs.document.Limits.{size, valence}
 use Rattle.digit_code.specs.Digits.{digits}
+use Rattle.skeleton.specs.document.Label.{row20}
+use Rattle.skeleton.specs.document.Atom.{bonds}
 use Rattle.skeleton.specs.document.AtomMarks.{atoms}
 use Rattle.form.specs.document.Labelled.{centredₗ, row14ₗ}
 use Rattle.lettered_check.specs.document.Lettered.{marksOf, namedDigitRows}
 use Rattle.lettered_check.specs.Lettered.{marks-digits, length-marks}
-use Rattle.lettered_check.specs.Rows.{ends-there}
+use Rattle.lettered_check.specs.Rows.{letteredRows, ends-there}
 use Rattle.lettered_check.proofs.check.Statement.{statement}
 use Rattle.lettered_check.proofs.check.Tie as tie
 
@@ -24,35 +27,38 @@ sizes : (c : tie.After-ms) → Clear (row3 size (length (c .before .before .befo
 sizes c = was-clear (c .before .before .before .sized .ensures) (c .before .enum-told .given .1)
 
 -- and their marks were made
-abbrev filled : tie.Else1 → tie.After-ms
-filled c = c .before .before .before
+module _ (m : tie.After-marks) where
+  abbrev filled : tie.After-ms
+  filled = m .before
 
-abbrev start : tie.Else1 → tie.Start
-start c = filled c .before .before .before .before .before .before
+  abbrev start : tie.Start
+  start = filled .before .before .before .before .before .before
 
-abbrev Marks : tie.Else1 → Type 0
-Marks c = take (length (start c .args .ds .now)) (c .before .before .marks .last .1 .1 .0) ≡ marksOf (start c .args .ds .now) (start c .args .letters .now)
+  abbrev ms : List ℕ
+  ms = marksOf (start .args .ds .now) (start .args .letters .now)
 
-are-marks : (c : tie.Else1) → Marks c
-are-marks c =
-    laid-front _ _ _ _ (c .before .before .marks .ensures .written (not-false _ (c .if1 .left)))
-    (length-marks (start c .args .ds .now) (start c .args .letters .now) (start c .pre))
+  -- where they stand in what was lent
+  abbrev front : List ℕ
+  front = take (length (start .args .ds .now)) (m .marks .last .1 .1 .0)
 
-check-marks-requires : tie.Need-check-marks-requires
-check-marks-requires c κs =
-    let e = c .before in
-    let s = start e in (
-      marks-digits (s .args .ds .now) (s .args .letters .now) (s .pre) ∙ ap (digits (atoms .arity)) (sym (are-marks e)),
-      (at-least (sizes (filled e)), at-most (sizes (filled e))),
-    )
+  are-marks : m .marks .last .1 .1 .0 ≡ laidOver ms (replicate size 0) → front ≡ ms
+  are-marks w = laid-front _ _ _ _ w (length-marks (start .args .ds .now) (start .args .letters .now) (start .pre))
 
-returns-3 : tie.Need-returns-3
-returns-3 c =
-    let e = c .before .before in
-    let s = start e in
-    goes-on (filled e .before .before .before .sized .ensures) (filled e .before .enum-told .given .1)
-    (subst (λ (ms : List ℕ). Answers (namedDigitRows valence (s .args .ds .now) ms ++ (row14ₗ atoms (centredₗ atoms) ms ∷ [])) (c .check-marks .result)) (are-marks e)
-    (c .check-marks .ensures))
+  as-many : front ≡ ms → length (start .args .ds .now) ≡ length front
+  as-many e = sym (ap length e ∙ length-marks (start .args .ds .now) (start .args .letters .now) (start .pre))
+
+  told : front ≡ ms → start .args .ds .now ≡ digits (atoms .arity) front
+  told e = marks-digits (start .args .ds .now) (start .args .letters .now) (start .pre) ∙ ap (digits (atoms .arity)) (sym e)
+
+  -- behind the check of the size
+  behind : {r : Check} → Answers (letteredRows valence (start .args .ds .now) (start .args .letters .now)) r → Answers (row3 size (length (start .args .ds .now)) ∷ letteredRows valence (start .args .ds .now) (start .args .letters .now)) r
+  behind a = goes-on (filled .before .before .before .sized .ensures) (filled .before .enum-told .given .1) a
+
+crowded : (c : tie.After-enum-told3) → let m = c .before .before .before in front m ≡ ms m
+crowded c = let m = c .before .before .before in are-marks m (m .marks .ensures .crowded (c .enum-told3 .given .1) .0)
+
+kept : (c : tie.After-enum-told4) → let m = c .before .before .before in front m ≡ ms m
+kept c = let m = c .before .before .before in are-marks m (m .marks .ensures .kept (c .enum-told4 .given .1) .0)
 
 pub check-spec : {M : Type 1} → statement M
 check-spec =
@@ -64,14 +70,20 @@ check-spec =
     (λ c. search needs)
     (λ c. search needs)
     (λ c κs. (c .before .before .before .before .before .before .pre, at-most (sizes c)))
+    (λ c. search needs)
     (λ c κs. search needs)
-    (λ c. let m = c .before .before .before in
-    let f = m .before in
-    goes-on (f .before .before .before .sized .ensures) (f .before .enum-told .given .1)
-    (ends-there _ (m .marks .ensures .high (not-true _ (c .before .if1 .taken))) (c .capped .ensures)))
-    (λ c. let m = at-most (sizes (filled c)) in search needs)
-    (λ c. let e = c .before in
-    let s = start e in
-    sym (ap length (are-marks e) ∙ length-marks (s .args .ds .now) (s .args .letters .now) (s .pre)))
-    check-marks-requires
-    returns-3)
+    (λ c. search needs)
+    (λ c. let m = at-most (sizes (filled (c .before .before .before))) in search needs)
+    (λ c. let e = c .before in as-many (e .before .before .before) (crowded e))
+    (λ c κs. let e = c .before in let m = e .before .before .before in (told m (crowded e), at-most (sizes (filled m))))
+    (λ c. search needs)
+    (λ c. let m = at-most (sizes (filled (c .before .before .before))) in search needs)
+    (λ c. let e = c .before in as-many (e .before .before .before) (kept e))
+    (λ c κs. let e = c .before in let m = e .before .before .before in let k = sizes (filled m) in
+    (told m (kept e), (at-least k, (at-most k, subst (λ (l : List ℕ). Clear (row20 atoms bonds l ∷ [])) (sym (kept e)) (m .marks .ensures .kept (e .enum-told4 .given .1) .1)))))
+    (λ c. let e = c .before in let m = e .before .before .before in behind m (ends-there _ (m .marks .ensures .high (e .enum-told2 .given .1)) (c .capped .ensures)))
+    (λ c. let e = c .before .before in let m = e .before .before .before in
+    let n = m .marks .ensures .crowded (e .enum-told3 .given .1) .1 in
+    behind m (ends-there _ (λ k. n (clear-left (row20 atoms bonds (ms m) ∷ []) _ (others k))) (subst (λ (l : List ℕ). Answers (namedDigitRows valence (start m .args .ds .now) l) (c .refused .result)) (crowded e) (c .refused .ensures))))
+    (λ c. let e = c .before .before in let m = e .before .before .before in
+    behind m (subst (λ (l : List ℕ). Answers (namedDigitRows valence (start m .args .ds .now) l ++ (row14ₗ atoms (centredₗ atoms) l ∷ [])) (c .check-marks .result)) (kept e) (c .check-marks .ensures))))

@@ -4,47 +4,66 @@ use mathlib.Core.List.{List}
 use Prim.Native.Nat.{ℕ, _≤_}
 use native.Mathlib.Omega.{arith}
 use borrow.Author.Needs.{needs}
-use borrow.Author.Tests.{not-true, not-false}
 use lib.ListN.{length, take}
+use Rattle.laws.specs.document.Laid.{laidOver}
 use Rattle.laws.specs.Laying.{laid-front}
 use Rattle.refusal.specs.Checks.{Answers}
+use Rattle.refusal.specs.declared.Check.{Check}
+use Rattle.refusal.specs.declared.Check.the-variants.{Passed}
 use Rattle.refusal.specs.Laws.{stops, goes-on, was-clear, never, others, at-most}
 use Rattle.limits.specs.document.Limits.{size, valence}
 use Rattle.digit_code.specs.Digits.{digits}
 use Rattle.skeleton.specs.document.AtomMarks.{atoms}
 use Rattle.letters.specs.Lettered.{so-many}
-use Rattle.lettered_check.specs.document.Lettered.{marksOf, namedDigitRows}
+use Rattle.lettered_check.specs.document.Lettered.{marksOf, namedDigitRows, letteredCodeRows}
 use Rattle.lettered_check.specs.Lettered.{marks-digits, length-marks}
 use Rattle.lettered_check.specs.Rows.{ends-there}
 use Rattle.lettered_check.proofs.check_rooted.Statement.{statement}
 use Rattle.lettered_check.proofs.check_rooted.Tie as tie
 
--- the marks were made
-abbrev start : tie.Else1 → tie.Start
-start c = c .before .before .before .before .before .before .before .before .before .before .before
+-- digits and letters were found to be as many, and at most 64; their marks were made
+module _ (m : tie.After-marks) where
+  abbrev checked : tie.After-lent
+  checked = m .before .before .before .before
 
--- digits and letters were found to be as many, and at most 64
-lent-right : (c : tie.Else1) → (length (start c .args .letters .now) ≡ length (start c .args .ds .now)) × (length (start c .args .ds .now) ≤ size)
-lent-right c =
-    let k = was-clear (c .before .before .before .before .before .before .before .lent .ensures) (c .before .before .before .before .before .enum-told .given .1) in
-    (so-many (length (start c .args .ds .now)) (start c .args .letters .now) (never (others (others k))), at-most (others k))
+  abbrev start : tie.Start
+  start = checked .before .before .before .before
 
-abbrev Marks : tie.Else1 → Type 0
-Marks c = take (length (start c .args .ds .now)) (c .before .before .before .marks .last .1 .1 .0) ≡ marksOf (start c .args .ds .now) (start c .args .letters .now)
+  lent-right : (length (start .args .letters .now) ≡ length (start .args .ds .now)) × (length (start .args .ds .now) ≤ size)
+  lent-right =
+      let k = was-clear (checked .lent .ensures) (m .before .before .enum-told .given .1) in
+      (so-many (length (start .args .ds .now)) (start .args .letters .now) (never (others (others k))), at-most (others k))
 
-are-marks : (c : tie.Else1) → Marks c
-are-marks c =
-    laid-front _ _ _ _ (c .before .before .before .marks .ensures .written (not-false _ (c .if1 .left)))
-    (length-marks (start c .args .ds .now) (start c .args .letters .now) (lent-right c .0))
+  abbrev ms : List ℕ
+  ms = marksOf (start .args .ds .now) (start .args .letters .now)
 
-returns-3 : tie.Need-returns-3
-returns-3 c =
-    let e = c .before .before in
-    let s = start e in (
-      goes-on (e .before .before .before .before .before .before .before .lent .ensures) (e .before .before .before .before .before .enum-told .given .1)
-          (subst (λ (ms : List ℕ). Answers (namedDigitRows valence (s .args .ds .now) ms) (c .refused .result)) (are-marks e) (c .refused .ensures)),
-      λ q. are-marks e,
-    )
+  -- where they stand in what was lent
+  abbrev front : List ℕ
+  front = take (length (start .args .ds .now)) (m .marks .last .1 .1 .0)
+
+  are-marks : m .marks .last .1 .1 .0 ≡ laidOver ms (start .args .ms .now) → front ≡ ms
+  are-marks w = laid-front _ _ _ _ w (length-marks (start .args .ds .now) (start .args .letters .now) (lent-right .0))
+
+  as-many : front ≡ ms → length (start .args .ds .now) ≡ length front
+  as-many e = sym (ap length e ∙ length-marks (start .args .ds .now) (start .args .letters .now) (lent-right .0))
+
+  told : front ≡ ms → (start .args .ds .now ≡ digits (atoms .arity) front) × (length (start .args .ds .now) ≤ size)
+  told e = (marks-digits (start .args .ds .now) (start .args .letters .now) (lent-right .0) ∙ ap (digits (atoms .arity)) (sym e), lent-right .1)
+
+  -- behind what was checked before
+  judged :
+      {r : Check} (e : front ≡ ms) → Answers (namedDigitRows valence (start .args .ds .now) front) r
+      → Answers (letteredCodeRows size valence (start .args .ds .now) (start .args .letters .now)) r × (r ≡ Passed → front ≡ ms)
+  judged {r} e a = (
+    goes-on (checked .lent .ensures) (m .before .before .enum-told .given .1) (subst (λ (l : List ℕ). Answers (namedDigitRows valence (start .args .ds .now) l) r) e a),
+    λ q. e,
+  )
+
+crowded : (c : tie.After-enum-told3) → let m = c .before .before .before .before in front m ≡ ms m
+crowded c = let m = c .before .before .before .before in are-marks m (m .marks .ensures .crowded (c .enum-told3 .given .1) .0)
+
+kept : (c : tie.After-enum-told4) → let m = c .before .before .before .before in front m ≡ ms m
+kept c = let m = c .before .before .before .before in are-marks m (m .marks .ensures .kept (c .enum-told4 .given .1) .0)
 
 pub check-rooted-spec : {M : Type 1} → statement M
 check-rooted-spec =
@@ -57,19 +76,24 @@ check-rooted-spec =
     (λ c κs. let k = was-clear (c .before .before .before .lent .ensures) (c .before .enum-told .given .1) in
     let s = c .before .before .before .before .before .before .before in
     (so-many (length (s .args .ds .now)) (s .args .letters .now) (never (others (others k))), omega (arith, at-most (others k), s .pre)))
+    (λ c. search needs)
     (λ c κs. search needs)
     (λ c. search needs)
-    (λ c. let m = c .before .before .before .before in
-    let high = m .marks .ensures .high (not-true _ (c .before .if1 .taken)) in (
-      goes-on (m .before .before .before .before .lent .ensures) (m .before .before .enum-told .given .1) (ends-there _ high (c .capped .ensures)),
-      λ e. absurd (high (was-clear (c .capped .ensures) e)),
-    ))
-    (λ c. let k : length (start c .args .ds .now) ≤ size = lent-right c .1 in let p : size ≤ length (start c .args .ms .now) = start c .pre in search needs)
-    (λ c. let e = c .before in
-    let s = start e in
-    sym (ap length (are-marks e) ∙ length-marks (s .args .ds .now) (s .args .letters .now) (lent-right e .0)))
-    (λ c κs. let e = c .before in
-    let s = start e in
-    (marks-digits (s .args .ds .now) (s .args .letters .now) (lent-right e .0) ∙ ap (digits (atoms .arity)) (sym (are-marks e)), lent-right e .1))
+    (λ c. let m = c .before .before .before .before in let k = lent-right m .1 in let p : size ≤ length (start m .args .ms .now) = start m .pre in search needs)
+    (λ c. let e = c .before in as-many (e .before .before .before .before) (crowded e))
+    (λ c κs. let e = c .before in told (e .before .before .before .before) (crowded e))
     (λ c. search needs)
-    returns-3)
+    (λ c. let m = c .before .before .before .before in let k = lent-right m .1 in let p : size ≤ length (start m .args .ms .now) = start m .pre in search needs)
+    (λ c. let e = c .before in as-many (e .before .before .before .before) (kept e))
+    (λ c κs. let e = c .before in told (e .before .before .before .before) (kept e))
+    (λ c. search needs)
+    (λ c. let e = c .before in
+    let m = e .before .before .before .before in
+    let high = m .marks .ensures .high (e .enum-told2 .given .1) in (
+      goes-on (checked m .lent .ensures) (m .before .before .enum-told .given .1) (ends-there _ high (c .capped .ensures)),
+      λ q. absurd (high (was-clear (c .capped .ensures) q)),
+    ))
+    (λ c. search needs)
+    (λ c. let e = c .before .before in judged (e .before .before .before .before) (crowded e) (c .refused .ensures))
+    (λ c. search needs)
+    (λ c. let e = c .before .before in judged (e .before .before .before .before) (kept e) (c .refused2 .ensures)))

@@ -1,27 +1,37 @@
--- `lettered_check::marks` meets its contract: the loop keeps that the marks of the digits passed are written. Assumes nothing.
-use mathlib.Core.Path.{_≡_, ap, _∙_, subst}
-use mathlib.Core.Bool.{true≢false, false≢true}
-use mathlib.Core.List.{List, map-id}
+-- `lettered_check::marks` meets its contract: the loop keeps that the marks of the digits passed are written, and how these stand to their letters' limits. Assumes nothing.
+use mathlib.Core.Path.{_≡_, sym, ap, _∙_, subst}
+use mathlib.Core.Logic.{⊎-elim}
+use mathlib.Core.Bool.{Bool, true, false, true≢false, false≢true}
+use mathlib.Core.List.{List, [], _∷_, map-id}
 use Prim.Native.Nat.{ℕ, _+_, _-_, _*_, _≤_, _<_}
 use native.Mathlib.Omega.{arith}
+use borrow.Author.Count.{below-more}
 use borrow.Author.Needs.{needs}
 use lib.ListN.{length, getD, set}
 use Rattle.laws.specs.document.Laid.{laidOver}
 use Rattle.laws.specs.Laying.{Mapped, mapped-none, mapped-more, mapped-all}
+use Rattle.refusal.specs.document.Table.{Clear}
+use Rattle.refusal.specs.Laws.{never, clear-one}
 use Rattle.limits.specs.document.Limits.{valence}
 use Rattle.skeleton.specs.Atoms.{rank-under}
-use Rattle.skeleton.specs.document.Atom.{atomOf}
+use Rattle.skeleton.specs.document.Label.{row20}
+use Rattle.skeleton.specs.document.Atom.{bonds, atomOf}
+use Rattle.skeleton.specs.document.AtomMarks.{atoms}
 use Rattle.lettered_check.specs.document.Lettered.{marksOf}
 use Rattle.lettered_check.specs.Lettered.{length-marks, mark-at}
-use Rattle.lettered_check.specs.Rows.{too-high}
+use Rattle.lettered_check.specs.Rows.{too-high, above-applies, within-passes, is-high, is-crowded, is-kept}
 use Rattle.lettered_check.proofs.marks.Statement.{statement}
 use Rattle.lettered_check.proofs.marks.Tie as tie
 
+-- how the digits before i stand to their letters' limits
+abbrev SoFar : List ℕ → Bool → ℕ → Type 0
+SoFar ms kept i = (kept ≡ true → (p : ℕ) → p < i + 1 → row20 atoms bonds ms .applies p → ⊥) × (kept ≡ false → Clear (row20 atoms bonds ms ∷ []) → ⊥)
+
 abbrev Inv-loop : tie.InvT-loop
-Inv-loop ds letters out₀ i₀ out i = Mapped (λ m. m) (marksOf ds letters) out₀ out i
+Inv-loop ds letters out₀ kept₀ i₀ out kept i = Mapped (λ m. m) (marksOf ds letters) out₀ out i × SoFar (marksOf ds letters) kept i
 
 abbrev μ-loop : tie.MeasureT-loop
-μ-loop ds letters out₀ i₀ out i = length ds - i
+μ-loop ds letters out₀ kept₀ i₀ out kept i = length ds - i
 
 abbrev lent : tie.After-slice-known Inv-loop μ-loop → tie.Start Inv-loop μ-loop
 lent c = c .before .before .before
@@ -40,16 +50,56 @@ turn c = c .before .before .before .before .before
 low : (c : tie.After-ranked Inv-loop μ-loop) → c .ranked .result < 3
 low c = omega (arith, c .ranked .ensures, rank-under (atomOf (getD (lent (turn c .before) .args .letters .now) (turn c .loop .i) 0)))
 
+-- and how the digit stands to its atom's limit
+abbrev ranked : tie.Joined2 Inv-loop μ-loop → tie.After-ranked Inv-loop μ-loop
+ranked c = c .before .before
+
+module _ (c : tie.Joined2 Inv-loop μ-loop) where
+  abbrev l : tie.At-loop Inv-loop μ-loop
+  l = turn (ranked c)
+
+  abbrev s : tie.Start Inv-loop μ-loop
+  s = lent (l .before)
+
+  abbrev ms : List ℕ
+  ms = marksOf (s .args .ds .now) (s .args .letters .now)
+
+  above : c .before .top .result < getD (s .args .ds .now) (l .loop .i) 0 → c .if2 .kept ≡ false → SoFar ms (c .if2 .kept) (l .loop .i + 1)
+  above t e = (
+    λ f. absurd (false≢true (sym e ∙ f)),
+    λ f k. never k (l .loop .i + 1) (above-applies (s .args .ds .now) (s .args .letters .now) (s .pre .0) (l .loop .i) (omega arith) (ranked c .ranked .ensures) (omega (arith, t, c .before .top .ensures))),
+  )
+
+  within : getD (s .args .ds .now) (l .loop .i) 0 ≤ c .before .top .result → c .if2 .kept ≡ l .loop .kept → SoFar ms (c .if2 .kept) (l .loop .i + 1)
+  within t e = (
+    λ f. below-more _ _ (l .loop .inv .1 .0 (sym e ∙ f)) (within-passes (s .args .ds .now) (s .args .letters .now) (s .pre .0) (l .loop .i) (omega arith) (ranked c .ranked .ensures) (λ g. let x : ⊥ = omega (arith, t, g, c .before .top .ensures) in x)),
+    λ f. l .loop .inv .1 .1 (sym e ∙ f),
+  )
+
+  sofar : SoFar ms (c .if2 .kept) (l .loop .i + 1)
+  sofar = ⊎-elim (λ (t, e). above (t .taken) e) (λ (t, e). within (t .left) e) (c .if2 .came)
+
 loop-again : tie.Need-loop-again Inv-loop μ-loop
 loop-again c =
-    let l = turn c in
+    let l = turn (ranked c) in
     let s = lent (l .before) in
     let ds = s .args .ds .now in
     let ls = s .args .letters .now in
     let e = mark-at ds ls (l .loop .i) (s .pre .0) (omega arith) in
-    let q : getD (marksOf ds ls) (l .loop .i) 0 ≡ 3 * getD ds (l .loop .i) 0 + c .ranked .result = omega (arith, e, c .ranked .ensures) in
-    subst (λ (m : ℕ). Mapped (λ m. m) (marksOf ds ls) (s .args .out .now) (set (l .loop .out) (l .loop .i) m) (l .loop .i + 1)) q
-    (mapped-more (λ m. m) (marksOf ds ls) (s .args .out .now) (room s) (l .loop .inv) (omega (arith, long s)))
+    let q : getD (marksOf ds ls) (l .loop .i) 0 ≡ 3 * getD ds (l .loop .i) 0 + ranked c .ranked .result = omega (arith, e, ranked c .ranked .ensures) in
+    let p : l .loop .i + 1 - 1 ≡ l .loop .i = omega arith in (
+      rw p (subst (λ (m : ℕ). Mapped (λ m. m) (marksOf ds ls) (s .args .out .now) (set (l .loop .out) (l .loop .i) m) (l .loop .i + 1)) q
+          (mapped-more (λ m. m) (marksOf ds ls) (s .args .out .now) (room s) (l .loop .inv .0) (omega (arith, long s)))),
+      sofar c,
+    )
+
+-- behind the loop all marks are written
+all : (c : tie.After-loop Inv-loop μ-loop) → let s = lent (c .before .before) in c .before .loop .out ≡ laidOver (marksOf (s .args .ds .now) (s .args .letters .now)) (s .args .out .now)
+all c =
+    let l = c .before in
+    let s = lent (l .before) in
+    let ms = marksOf (s .args .ds .now) (s .args .letters .now) in
+    mapped-all (λ m. m) ms (s .args .out .now) (room s) (l .loop .inv .0) (omega (arith, long s)) ∙ ap (λ (l : List ℕ). laidOver l (s .args .out .now)) (map-id ms)
 
 pub marks-spec : {M : Type 1} → statement M
 marks-spec =
@@ -57,24 +107,23 @@ marks-spec =
     (tie.spec
     Inv-loop
     μ-loop
-    (λ c. mapped-none (λ m. m) _ _ (room (lent c)))
+    (λ c. (mapped-none (λ m. m) _ _ (room (lent c)), ((λ e p l a. let x : ⊥ = omega (arith, a .0) in x), λ e. absurd (true≢false e))))
     (λ c. omega arith)
-    (λ c. c .before .before .before .loop .inv .long)
-    (λ c. let l = c .before .before .before in
-    record { written = λ e. absurd (false≢true e); high = λ e k. too-high valence (lent (l .before) .args .ds .now) (l .loop .i) (omega arith) (c .if1 .taken) k })
-    (λ c. omega (arith, c .if1 .left))
+    (λ c. c .before .before .before .loop .inv .0 .long)
+    (λ c. let l = c .before .before .before in is-high (too-high valence (lent (l .before) .args .ds .now) (l .loop .i) (omega arith) (c .if1 .taken)))
     (λ c. omega (arith, lent (c .before .before .before .before .before) .pre .0))
     (λ c κs. search needs)
-    (λ c. omega (arith, low c))
-    (λ c. let l = turn c in omega (arith, l .loop .inv .long, lent (l .before) .pre .1))
     (λ c. omega arith)
+    (λ c. omega (arith, low c))
+    (λ c κs. omega (arith, low c))
+    (λ c. omega (arith, ranked c .before .before .if1 .left))
+    (λ c. omega (arith, low (ranked c), ranked c .before .before .if1 .left))
+    (λ c. omega arith)
+    (λ c. let l = turn (ranked c) in omega (arith, l .loop .inv .0 .long, lent (l .before) .pre .1))
     (λ c. omega arith)
     loop-again
-    (λ c. c .before .loop .inv .long)
-    (λ c. let l = c .before in
-    let s = lent (l .before) in
-    let ms = marksOf (s .args .ds .now) (s .args .letters .now) in
-    record {
-      written = λ e. mapped-all (λ m. m) ms (s .args .out .now) (room s) (l .loop .inv) (omega (arith, long s)) ∙ ap (λ (l : List ℕ). laidOver l (s .args .out .now)) (map-id ms);
-      high = λ e. absurd (true≢false e);
-    }))
+    (λ c. c .before .before .loop .inv .0 .long)
+    (λ c. let l = c .before .before in let s = lent (l .before) in
+    is-kept (all (c .before)) (clear-one (λ p a. l .loop .inv .1 .0 (c .if3 .taken) p (omega (arith, a .1, long s)) a)))
+    (λ c. c .before .before .loop .inv .0 .long)
+    (λ c. is-crowded (all (c .before)) (c .before .before .loop .inv .1 .1 (c .if3 .left))))
