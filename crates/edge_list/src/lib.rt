@@ -12,7 +12,7 @@ ghost use mathlib.Core.List.{[], _∷_};
 ghost use Prim.Native.Nat.{ℕ, _≤_, _<_};
 ghost use lib.ListN.{length, replicate};
 ghost use Rattle.laws.specs.Tells.{Tells};
-ghost use Rattle.refusal.specs.document.Table.{Outside, row3};
+ghost use Rattle.refusal.specs.document.Table.{Clear, Outside, row3};
 ghost use Rattle.refusal.specs.Checks.{Answers};
 ghost use Rattle.limits.specs.document.Limits.{size};
 ghost use Rattle.limits.specs.Width.{width};
@@ -20,7 +20,7 @@ ghost use Rattle.skeleton.specs.document.Skeleton.{IsSkeleton};
 ghost use Rattle.skeleton.specs.document.Atom.{bonds, atomAt};
 ghost use Rattle.edge_list.specs.document.Edges.{Edge, firstEnd, secondEnd, row5-edges, row6, row7, row8, crowdedRow, row9, edgeRows};
 ghost use Rattle.edge_list.specs.document.Letters.{letterRows, carbonRows};
-ghost use Rattle.edge_list.specs.Limited.{Limited, Low};
+ghost use Rattle.edge_list.specs.Limited.{Limited};
 ghost use Rattle.edge_list.specs.Table.{Shaped, IsTable};
 ghost use Rattle.edge_list.specs.Parts.{Parted, Links, Top, Room, Added};
 
@@ -171,29 +171,29 @@ fn cycles(edges: &[u8]) -> Check
     Check::Passed
 }
 
-// Whether one of two counts is as high as it may be.
-fn full(k: u8, x: u8, l: u8, y: u8) -> bool
-    ensures { λ r. ⌜ Tells ((k ≤ x) ⊎ (l ≤ y)) r ⌝ }
+// Whether one of two has room for no edge more.
+fn full(x: u8, y: u8) -> bool
+    ensures { λ r. ⌜ Tells ((x ≡ 0) ⊎ (y ≡ 0)) r ⌝ }
 {
-    k <= x || l <= y
+    x == 0 || y == 0
 }
 
-// 9 or 20, as `number` says: an end that has as many edges as it may have, which `limits` tells.
-fn degrees(number: u8, limits: &[u8; BYTES], edges: &[u8]) -> Check
-    requires { ⌜ Low (now limits) ⌝ }
-    ensures { λ r. ⌜ ((limit : ℕ → ℕ) → Limited limit (now (limits .entry)) → Answers (crowdedRow number limit (now (edges .entry)) ∷ []) r) ⌝ }
+// 9 or 20, as `number` says: an end that has as many edges as it may have, which `room` tells. What is left of that room is written there.
+fn degrees(number: u8, room: &mut [u8; BYTES], edges: &[u8]) -> Check
+    requires { ⌜ length (now room) ≡ 256 ⌝ }
+    requires { ⌜ Clear (row7 (now edges) ∷ []) ⌝ }
+    ensures { λ r. ⌜ ((limit : ℕ → ℕ) → Limited limit (now (room .entry)) → Answers (crowdedRow number limit (now (edges .entry)) ∷ []) r) ⌝ }
 {
-    let mut count = [0u8; BYTES];
     let m = edges.len() / 2;
     let mut p: usize = 1;
     while p <= m {
         let a = one(edges, p);
         let b = other(edges, p);
-        if full(limits[a], count[a], limits[b], count[b]) {
+        if full(room[a], room[b]) {
             return Check::Refuse(number, p);
         }
-        count[a] += 1;
-        count[b] += 1;
+        room[a] -= 1;
+        room[b] -= 1;
         p += 1;
     }
     Check::Passed
@@ -213,8 +213,8 @@ fn joins(limit: u8, n: usize, edges: &[u8], root: usize) -> Check
     if let Check::Refuse(k, p) = cycles(edges) {
         return Check::Refuse(k, p);
     }
-    let limits = [limit; BYTES];
-    degrees(9, &limits, edges)
+    let mut room = [limit; BYTES];
+    degrees(9, &mut room, edges)
 }
 
 // Every refusal of an edge list of at most `most` vertices, each with at most `limit` neighbours. Where the caller names no root, vertex 1
@@ -230,13 +230,13 @@ pub fn check(most: usize, limit: u8, n: usize, edges: &[u8], root: usize) -> Che
 }
 
 // How many neighbours each vertex may have by its letter. Behind the letters stands carbon.
-fn allow(letters: &[u8], limits: &mut [u8; BYTES])
-    requires { ⌜ (length (now letters) ≤ size) × (now limits ≡ replicate 256 4) ⌝ }
-    ensures { λ _. ⌜ Low (now (limits .exit)) × Limited (λ v. bonds (atomAt (now (letters .entry)) v)) (now (limits .exit)) ⌝ }
+fn allow(letters: &[u8], room: &mut [u8; BYTES])
+    requires { ⌜ (length (now letters) ≤ size) × (now room ≡ replicate 256 4) ⌝ }
+    ensures { λ _. ⌜ Limited (λ v. bonds (atomAt (now (letters .entry)) v)) (now (room .exit)) ⌝ }
 {
     let mut v = 0;
     while v <= letters.len() {
-        limits[v] = letters::bonds_at(letters, v);
+        room[v] = letters::bonds_at(letters, v);
         v += 1;
     }
 }
@@ -265,9 +265,9 @@ pub fn check_letters(
     if let Check::Refuse(k, p) = joins(limit, n, edges, root) {
         return Check::Refuse(k, p);
     }
-    let mut limits = [BONDS; BYTES];
-    allow(letters, &mut limits);
-    degrees(20, &limits, edges)
+    let mut room = [BONDS; BYTES];
+    allow(letters, &mut room);
+    degrees(20, &mut room, edges)
 }
 
 // The same of a form that takes carbon only: behind all these 14 at another atom.

@@ -4,15 +4,15 @@ use native.Mathlib.Omega.{arith}
 use borrow.Author.Needs.{needs}
 use lib.ListN.{length}
 use Rattle.skeleton.specs.document.Atom.{bonds}
-use Rattle.edge_list.proofs.Allowing.{Allowing, allowing-none, allowing-more, allowing-all, allowing-low}
+use Rattle.edge_list.proofs.Allowing.{Allowing, allowing-none, allowing-more, allowing-all}
 use Rattle.edge_list.proofs.allow.Statement.{statement}
 use Rattle.edge_list.proofs.allow.Tie as tie
 
 abbrev Inv-loop : tie.InvT-loop
-Inv-loop letters limits₀ v₀ limits v = Allowing letters limits v
+Inv-loop letters room₀ v₀ room v = Allowing letters room v
 
 abbrev μ-loop : tie.MeasureT-loop
-μ-loop letters limits₀ v₀ limits v = length letters + 1 - v
+μ-loop letters room₀ v₀ room v = length letters + 1 - v
 
 pub allow-spec : {M : Type 1} → statement M
 allow-spec =
@@ -26,4 +26,4 @@ allow-spec =
     (λ c. let l = c .before .before in omega (arith, l .before .before .pre .0))
     (λ c. omega arith)
     (λ c. let l = c .before .before in allowing-more (l .loop .inv) (omega arith) (omega (arith, l .before .before .pre .0)) (c .bonds-at .ensures .0))
-    (λ c. let d = allowing-all (c .before .loop .inv) (omega arith) in (allowing-low (c .before .before .before .args .letters .now) d, d)))
+    (λ c. allowing-all (c .before .loop .inv) (omega arith)))

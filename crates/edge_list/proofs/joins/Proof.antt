@@ -1,7 +1,7 @@
 -- `edge_list::joins` meets its contract: a check that refuses answers for the whole table, and behind one that passes the rest does. Assumes nothing.
 use borrow.Author.Needs.{needs}
-use Rattle.refusal.specs.Laws.{stops, goes-on}
-use Rattle.edge_list.specs.Limited.{limited-all, low-all}
+use Rattle.refusal.specs.Laws.{stops, goes-on, was-clear}
+use Rattle.edge_list.specs.Limited.{limited-all}
 use Rattle.edge_list.proofs.joins.Statement.{statement}
 use Rattle.edge_list.proofs.joins.Tie as tie
 
@@ -50,7 +50,7 @@ enum-told-3 : tie.Need-enum-told-3
 enum-told-3 c = search needs
 
 degrees-requires : tie.Need-degrees-requires
-degrees-requires c κs = low-all _ (c .before .before .before .before .before .before .before .before .before .before .before .pre)
+degrees-requires c κs = let y = c .before .before .before in (limited-all (c .before .before .before .before .before .before .before .before .before .before .before .args .limit) .long, was-clear (y .before .before .before .loops .ensures) (y .before .enum-told2 .given .1))
 
 returns-4 : tie.Need-returns-4
 returns-4 c =
