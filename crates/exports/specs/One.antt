@@ -35,7 +35,7 @@ use Rattle.zurkhovel.specs.OneMaps as carried
 use Rattle.zurkhovel.specs.OneMatrix as matrix
 use Rattle.zurkhovel.specs.OneText as text
 use Rattle.zurkhovel.specs.document.InEdition.{EdgeTable}
-use Rattle.zurkhovel.specs.Tabled.{Tabled}
+use Rattle.zurkhovel.specs.document.Tabled.{Tabled}
 use Rattle.exports.specs.document.Packing.{packed, truth, withList, held, PackedAnswer, PackedFinding, PackedMapping, PackedValue}
 
 -- ---- each kind of answer

@@ -28,7 +28,7 @@ use Rattle.refusal.specs.document.Reported.{Reporting}
 use Rattle.zurkhovel.specs.document.Reported.{atRoot, OfBoth}
 use Rattle.zurkhovel.specs.OneReported as calls
 use Rattle.zurkhovel.specs.document.InEdition.{EdgeTable}
-use Rattle.zurkhovel.specs.Tabled.{Tabled}
+use Rattle.zurkhovel.specs.document.Tabled.{Tabled}
 use Rattle.exports.specs.document.Packing.{packed, truth, withList, held, PackedAnswer, PackedFinding, PackedMapping, PackedValue}
 use Rattle.exports.specs.One.{answer, value, exact, finding, mapping}
 

@@ -10,9 +10,9 @@ use native.Mathlib.Omega.{arith}
 use lib.ListN.{length}
 use Rattle.refusal.specs.document.Table.{Row, ofList, Clear, row3}
 use Rattle.refusal.specs.document.Lists.{listsRows, mapsRows}
-use Rattle.refusal.specs.document.Small.{byteValues, SmallOf}
+use Rattle.refusal.specs.document.Small.{byteValues, SmallOf, Bounded, BoundedBy}
 use Rattle.refusal.specs.Laws.{never, others, at-most, clear-one}
-use Rattle.refusal.specs.Bounded.{Bounded, BoundedBy, bounded-rows, bounded-both, at-0}
+use Rattle.refusal.specs.Bounded.{bounded-rows, bounded-both, at-0}
 use Rattle.refusal.specs.Lists as Lists
 use Rattle.refusal.specs.Lists.{below22, bounded-of, bounded-none, lists-clear}
 use Rattle.limits.specs.document.Limits.{size, valence}

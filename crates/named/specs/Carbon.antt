@@ -13,7 +13,7 @@ use Rattle.edge_list.specs.Theorems.{accepted}
 use Rattle.edition.specs.document.Edition.{neighboursIn}
 use Rattle.edition.specs.Laws.{edition-clear}
 use Rattle.zurkhovel.specs.document.InEdition.{edgeTable}
-use Rattle.zurkhovel.specs.Tabled.{Tabled}
+use Rattle.zurkhovel.specs.document.Tabled.{Tabled}
 use Rattle.named.specs.document.Carbon.{carbonTable}
 use Rattle.named.specs.Bounds.{carbon-bounded}
 

@@ -8,9 +8,9 @@ use lib.ListN.{length, take}
 use Rattle.laws.specs.document.Laid.{laidOver}
 use Rattle.laws.specs.Laying.{laid-front}
 use Rattle.refusal.specs.document.Table.{Row, Clear, First, FirstRefusal, Outcome, gives, refuses, Promise, kept, left}
-use Rattle.refusal.specs.document.Small.{byteValues, SmallAnswer}
+use Rattle.refusal.specs.document.Small.{byteValues, SmallAnswer, Bounded}
 use Rattle.refusal.specs.document.Both.{TwoOutputs, WritesBoth, shortFirst, shortSecond, shortBoth, GivesBoth}
-use Rattle.refusal.specs.Bounded.{Bounded, bounded-rows, bounded-both, small}
+use Rattle.refusal.specs.Bounded.{bounded-rows, bounded-both, small}
 use Rattle.refusal.specs.Laws.{one-accepted, never, others, clear-one, clear-both, clear-left, first-place, refusal-front, refusal-back}
 
 -- ---- it is one

@@ -15,11 +15,11 @@ use Rattle.refusal.specs.Checks.{Judges, both-pass, one-fails}
 use Rattle.refusal.specs.document.Table.{RowOf, Row, ofList, Clear, First, FirstRefusal, OutcomeOf, short}
 use Rattle.refusal.specs.document.Lowest.{both, Lowest, LowestWins}
 use Rattle.refusal.specs.document.Lists.{listsRows, mapsRows, OfLists, OfThree, HandsMap, HandsOut}
-use Rattle.refusal.specs.document.Small.{SmallOf}
+use Rattle.refusal.specs.document.Small.{SmallOf, Bounded, BoundedBy}
 use Rattle.refusal.specs.Laws.{one-accepted, clear-both, clear-left, clear-right, refusal-front, refusal-back, refusal-either, list-clear, list-refused, list-told}
 use Rattle.refusal.specs.Lowest.{both-left, both-right}
 use Rattle.refusal.specs.Giving.{one-written}
-use Rattle.refusal.specs.Bounded.{Bounded, BoundedBy, bounded-both}
+use Rattle.refusal.specs.Bounded.{bounded-both}
 
 -- what the check of two lists answered, as its caller learns it
 module _ {rs : List (RowOf (ℕ × ℕ))} where

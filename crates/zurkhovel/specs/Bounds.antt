@@ -13,9 +13,9 @@ use native.Mathlib.Omega.{arith}
 use lib.Ieee.{Float}
 use lib.ListN.{length, take, length-append, length-take}
 use Rattle.refusal.specs.document.Table.{Row, Clear, row3}
-use Rattle.refusal.specs.document.Small.{byteValues}
+use Rattle.refusal.specs.document.Small.{byteValues, Bounded}
 use Rattle.refusal.specs.Laws.{never, others, at-most}
-use Rattle.refusal.specs.Bounded.{Bounded, bounded-rows, bounded-both, at-0}
+use Rattle.refusal.specs.Bounded.{bounded-rows, bounded-both, at-0}
 use Rattle.limits.specs.document.Limits.{size, packedBytes, wholeSize, zeroSize, aSize}
 use Rattle.digit_code.specs.document.Code.{plain, digitRows, codeRows}
 use Rattle.digit_code.specs.Within.{larger-within}

@@ -5,9 +5,8 @@ use mathlib.Core.List.{List, [], _∷_}
 use Prim.Native.Nat.{ℕ, _≤_, _<_}
 use native.Mathlib.Omega.{arith}
 use Rattle.refusal.specs.document.Table.{ofList, First}
-use Rattle.refusal.specs.document.Small.{SmallOf}
+use Rattle.refusal.specs.document.Small.{SmallOf, BoundedBy}
 use Rattle.refusal.specs.Laws.{list-told}
-use Rattle.refusal.specs.Bounded.{BoundedBy}
 use Rattle.refusal.specs.Lists as Lists
 use Rattle.edition.specs.document.Edition.{row22}
 use Rattle.zurkhovel.specs.document.Same.{listRows, bothRows}

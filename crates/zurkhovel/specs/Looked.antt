@@ -25,7 +25,8 @@ use Rattle.zurkhovel.specs.document.Lines.{WriteLine}
 use Rattle.zurkhovel.specs.document.Alike.{EqualVertices}
 use Rattle.refusal.specs.document.Reported.{Reporting}
 use Rattle.zurkhovel.specs.document.Reported.{atRoot, OfBoth, coded, not-coded, mostPairs}
-use Rattle.zurkhovel.specs.Tabled.{Tabled, in-edition}
+use Rattle.zurkhovel.specs.document.Tabled.{Tabled}
+use Rattle.zurkhovel.specs.Tabled.{in-edition}
 use Rattle.zurkhovel.specs.Theorems.{verdict-lists}
 use Rattle.zurkhovel.specs.Threes.{handed-lists}
 use Rattle.limits.specs.document.Limits.{size}

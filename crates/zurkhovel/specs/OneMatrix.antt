@@ -16,7 +16,7 @@ use Rattle.refusal.specs.Giving.{one-given, one-clear}
 use Rattle.digit_code.specs.document.Code.{decode}
 use Rattle.skeleton.specs.document.Skeleton.{IsTree}
 use Rattle.form.specs.Forms.{centred-form}
-use Rattle.zurkhovel.specs.Tabled.{Tabled}
+use Rattle.zurkhovel.specs.document.Tabled.{Tabled}
 use Rattle.zurkhovel.specs.document.Matrix.{DecodeCam, DecodeZeroA, DecodeAZero, Cam, ZeroA, AZero, NumberedByCode, ByCode, CamByCode, ZeroAByCode, AZeroByCode}
 use Rattle.zurkhovel.specs.document.InEdition.{EdgeTable}
 

@@ -24,7 +24,8 @@ use Rattle.zurkhovel.specs.declared.text.Counts.{Counts}
 use Rattle.zurkhovel.specs.document.Lines.{ReadLine, WriteLine, ReadText, ListText}
 use Rattle.texts.specs.document.Demand.{Counted}
 use Rattle.zurkhovel.specs.document.Alike.{EqualVertices}
-use Rattle.zurkhovel.specs.Tabled.{Tabled, in-edition}
+use Rattle.zurkhovel.specs.document.Tabled.{Tabled}
+use Rattle.zurkhovel.specs.Tabled.{in-edition}
 use Rattle.zurkhovel.specs.document.InEdition.{EdgeTable}
 
 -- one area is one thing

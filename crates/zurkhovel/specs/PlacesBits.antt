@@ -21,7 +21,7 @@ use Rattle.bits.specs.Ends.{right-ends}
 use Rattle.bits.specs.Laws.{length-bits}
 use Rattle.bits.specs.Words.{length-word, length-bytes}
 use Rattle.zurkhovel.specs.document.Bits.{Pack, Whole, InFraction, Decodes, Unpack, Unwhole, Unfraction}
-use Rattle.zurkhovel.specs.Tabled.{Tabled}
+use Rattle.zurkhovel.specs.document.Tabled.{Tabled}
 use Rattle.zurkhovel.specs.Bounds.{packed-bounded, whole-bounded, fraction-bounded, fraction-long}
 use Rattle.zurkhovel.specs.Places.{edges-of}
 use Rattle.edition.specs.document.Edition.{neighboursIn}

@@ -9,8 +9,8 @@ use Prim.Native.Nat.{ℕ, _<_}
 use native.Mathlib.Omega.{arith}
 use lib.ListN.{length}
 use Rattle.refusal.specs.document.Table.{Row, ofList, Clear, short}
-use Rattle.refusal.specs.document.Small.{byteValues, Small, SmallOf}
-use Rattle.refusal.specs.Bounded.{Bounded, BoundedBy, bounded-rows, bounded-both, at-0, small}
+use Rattle.refusal.specs.document.Small.{byteValues, Small, SmallOf, Bounded, BoundedBy}
+use Rattle.refusal.specs.Bounded.{bounded-rows, bounded-both, at-0, small}
 use Rattle.limits.specs.document.Limits.{size}
 use Rattle.renumber.specs.document.Map.{row5-map, row18, row19, mapRows, HandedOut}
 use Rattle.renumber.specs.Exactly.{map-sizes}

@@ -18,7 +18,8 @@ use Rattle.adjacency.specs.Coded.{cam-length}
 use Rattle.adjacency.specs.Accepted.{aFront, a-long}
 use Rattle.zurkhovel.specs.document.Matrix.{DecodeCam, DecodeZeroA, DecodeAZero, Cam, ZeroA, AZero, CamByCode, ZeroAByCode, AZeroByCode}
 use Rattle.zurkhovel.specs.Bounds.{cam-bounded, zero-bounded, a-bounded}
-use Rattle.zurkhovel.specs.Tabled.{Tabled, physical-bounded}
+use Rattle.zurkhovel.specs.document.Tabled.{Tabled}
+use Rattle.zurkhovel.specs.Tabled.{physical-bounded}
 use Rattle.zurkhovel.specs.document.InEdition.{EdgeTable}
 use Rattle.edition.specs.document.Edition.{neighboursIn}
 

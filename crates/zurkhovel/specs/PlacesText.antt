@@ -17,7 +17,7 @@ use Rattle.zurkhovel.specs.document.Lines.{ReadLine, WriteLine}
 use Rattle.zurkhovel.specs.document.Alike.{EqualVertices}
 use Rattle.zurkhovel.specs.Bounds.{edges-bounded, line-digits, behindFront, line-bounded}
 use Rattle.zurkhovel.specs.Places.{form-few}
-use Rattle.zurkhovel.specs.Tabled.{Tabled}
+use Rattle.zurkhovel.specs.document.Tabled.{Tabled}
 use Rattle.zurkhovel.specs.document.InEdition.{EdgeTable}
 
 module _ (e : ℕ) where

@@ -1,24 +1,17 @@
--- What the theorems on promises over the table of an edge list ask of the table: it accepts skeletons, and what it refuses with fits into bytes. The tables of the
--- editions are such. Assumes nothing.
+-- The tables of the editions are such as the theorems on promises over a table ask for (`Tabled`). Assumes nothing.
 use mathlib.Core.Path.{refl}
 use mathlib.Core.List.{List, [], _∷_}
 use Prim.Native.Nat.{ℕ, _≤_}
 use native.Mathlib.Omega.{arith}
-use Rattle.refusal.specs.document.Table.{Clear}
-use Rattle.refusal.specs.Bounded.{Bounded, bounded-rows, bounded-both}
+use Rattle.refusal.specs.document.Small.{Bounded}
+use Rattle.refusal.specs.Bounded.{bounded-rows, bounded-both}
 use Rattle.limits.specs.document.Limits.{size}
-use Rattle.skeleton.specs.document.Skeleton.{IsSkeleton}
 use Rattle.adjacency.specs.document.Adjacency.{row14-physical}
 use Rattle.edition.specs.document.Edition.{neighboursIn}
 use Rattle.zurkhovel.specs.document.InEdition.{EdgeTable, physicalTable, edgeTable}
+use Rattle.zurkhovel.specs.document.Tabled.{Tabled}
 use Rattle.zurkhovel.specs.Accepted.{skeleton-of, root-of}
 use Rattle.zurkhovel.specs.Bounds.{edges-bounded}
-
--- R: how many neighbours a vertex may have
-pub record Tabled (T : EdgeTable) (R : ℕ) : Type 1 where
-  pub skeleton : {most : ℕ} (N : ℕ) (E : List ℕ) (r : ℕ) → Clear (T most N E r) → IsSkeleton most R N E
-  pub root : {most : ℕ} (N : ℕ) (E : List ℕ) (r : ℕ) → Clear (T most N E r) → (1 ≤ r) × (r ≤ N)
-  pub bounded : {most : ℕ} → most ≤ size → (N : ℕ) (E : List ℕ) (r : ℕ) → Bounded (T most N E r)
 
 pub in-edition : (e : ℕ) → Tabled (edgeTable e) (neighboursIn e)
 in-edition e = record { skeleton = λ N E r k. skeleton-of k; root = λ N E r k. root-of E k; bounded = edges-bounded e }
