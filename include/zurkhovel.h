@@ -35,7 +35,7 @@
 #include <stddef.h>
 #include <stdint.h>
 
-#define ZK_VERSION "0.7.0"
+#define ZK_VERSION "0.8.0"
 
 /* Sizes to lend, in bytes: with so much room no call answers 15, whatever it is handed. */
 #define ZK_DIGITS 64 /* the digits of a code or a line, or the classes of vertices: N */
