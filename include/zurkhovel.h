@@ -27,7 +27,7 @@
  * THREADS: no call keeps any state, allocates, or writes to anything but what is lent to it, so any number of threads may call at once on
  * memory that they do not share.
  *
- * STACK: no call touches more than 8,192 bytes of it. The most that was measured is 7,528, by zk_decode_n_tuple on a path of 64 vertices;
+ * STACK: no call touches more than 8,192 bytes of it. The most that was measured is 7,832, by zk_named_decode_n_tuple on a path of 64 vertices;
  * docs/BENCHMARKS.md has the others, call by call. */
 #ifndef ZURKHOVEL_H
 #define ZURKHOVEL_H
