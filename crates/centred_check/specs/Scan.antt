@@ -41,10 +41,6 @@ no-code c hs n = record { good = λ h. let z : ⊥ = omega arith in absurd z; ba
 pub is-code : {M : Marks} {limit : ℕ → ℕ} {c hs : List ℕ} {r : ℕ} → r ≤ size → Rightₗ (M .arity) limit size c → Branches M c hs r → Scanned M limit c hs r
 is-code h k b = record { good = λ g. (k, b); bad = λ g. let z : ⊥ = omega arith in absurd z }
 
--- a right code is found to be one
-pub right-scanned : {M : Marks} {limit : ℕ → ℕ} {c hs : List ℕ} {r : ℕ} → Scanned M limit c hs r → Rightₗ (M .arity) limit size c → r ≤ size
-right-scanned {r = r} s k = let n : size < r → ⊥ = λ h. s .bad h k in omega arith
-
 pub scan-start : (M : Marks) (limit : ℕ → ℕ) (c hs st : List ℕ) → 1 ≤ length c → length hs ≡ size → length st ≡ suc size → Scan M limit c hs (set st size (length c)) (length c) size
 scan-start M limit c hs st h k l = record {
   stacked = stack-start h k;

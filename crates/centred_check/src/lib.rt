@@ -16,16 +16,15 @@ ghost use mir.Val.{Fits};
 ghost use Rattle.laws.specs.document.Order.{_≽_};
 ghost use Rattle.laws.specs.Part.{part};
 ghost use Rattle.laws.specs.Tells.{Tells};
-ghost use Rattle.refusal.specs.document.Table.{Clear};
 ghost use Rattle.refusal.specs.Checks.{Answers};
 ghost use Rattle.limits.specs.document.Limits.{size};
-ghost use Rattle.digit_code.specs.document.Code.{plain, codes, codeRows};
+ghost use Rattle.digit_code.specs.document.Code.{plain, codes};
 ghost use Rattle.digit_code.specs.Digits.{digits};
 ghost use Rattle.digit_code.specs.Ends.{Ends};
 ghost use Rattle.digit_code.specs.Ordered.{Ordered};
 ghost use Rattle.digit_code.specs.Right.{Rightₗ};
 ghost use Rattle.digit_code.specs.Compare.{lex, pairsOf, further};
-ghost use Rattle.form.specs.document.Form.{centred, row14-form, formRows};
+ghost use Rattle.form.specs.document.Form.{centred, formRows};
 ghost use Rattle.form.specs.Labelled.{centredₗ, row14ₗ};
 ghost use Rattle.centred_check.specs.Kinds.{kinds, limits, unit};
 ghost use Rattle.centred_check.specs.Middle.{top, rest, turned, branch, Middle};
@@ -384,28 +383,6 @@ fn judged(named: bool, ds: &[u8], code: &[u8], hs: &[u8], from: usize) -> Check
         return Check::Passed;
     }
     Check::Refuse(14, 0)
-}
-
-// 14: a right code of marks that is not the centred one; the digits `ds` tell how many children each mark has.
-pub fn centred_marks(named: bool, limit: u8, ds: &[u8], code: &[u8]) -> Check
-    requires { ⌜ now ds ≡ digits (kinds named .arity) (now code) ⌝ }
-    requires { ⌜ 1 ≤ limit ⌝ }
-    requires { ⌜ Rightₗ (kinds named .arity) (limits named limit) size (now code) ⌝ }
-    ensures { λ r. ⌜ Answers (row14ₗ (kinds named) (centredₗ (kinds named)) (now (code .entry)) ∷ []) r ⌝ }
-{
-    let mut hs = [0u8; SIZE];
-    let mut starts = [0u8; STARTS];
-    let from = scan(named, limit, ds, code, &mut hs, &mut starts);
-    judged(named, ds, code, &hs, from)
-}
-
-// The same of a plain code, whose marks are its digits.
-pub fn centred(limit: u8, code: &[u8]) -> Check
-    requires { ⌜ 1 ≤ limit ⌝ }
-    requires { ⌜ Clear (codeRows size limit (now code)) ⌝ }
-    ensures { λ r. ⌜ Answers (row14-form centred (now (code .entry)) ∷ []) r ⌝ }
-{
-    centred_marks(false, limit, code, code)
 }
 
 // Digits lent by themselves that are to be a centred code: 3, 10 to 13, and 14. Which of 3 to 13 a wrong code has is looked for again.

@@ -1,6 +1,6 @@
 -- A text of lines, with what a line may be as the parameter. First what is to be believed: bytes, numbers as they are written, a line format and
 -- what its lines and texts are answered, reading into what is lent, and what damage can do; then what is asked of a format, the theorems, and the
--- laws behind them; then lines of parts set apart by spaces, and numbers of any length. Assumes nothing.
+-- laws behind them; then lines of parts set apart by spaces. Assumes nothing.
 pub mod Damage
 pub mod Sound
 pub mod Theorems
@@ -19,5 +19,4 @@ pub mod Turns
 pub mod Spaced
 pub mod Parted
 pub mod Numerals
-pub mod Numbers
 pub mod document

@@ -5,8 +5,6 @@
 use mathlib.Core.Path.{_≡_, refl}
 use mathlib.Core.List.{List, _∷_, _++_, map}
 use Prim.Native.Nat.{ℕ}
-use native.Mathlib.Omega.{arith}
-use lib.ListN.{length, drop-of-length-le}
 use Rattle.refusal.specs.document.Table.{Outcome, gives}
 use Rattle.texts.specs.document.Bytes.{Cut}
 use Rattle.texts.specs.document.Text.{Format, textOf, LineAnswers, TextAnswers}
@@ -18,7 +16,6 @@ use Rattle.texts.specs.Edits.{edit-of}
 use Rattle.texts.specs.Answered.{answer-moves}
 use Rattle.texts.specs.Texts.{texts-once, reads-back, recover}
 use Rattle.texts.specs.Taking.{read-once}
-use Rattle.texts.specs.FirstLines.{taken-all}
 use Rattle.texts.specs.Turns.{read-text-once}
 use Rattle.texts.specs.Robustness.{one-edit}
 
@@ -64,11 +61,3 @@ module _ {A F : Type 0} (format : Format A F) (sound : Sound format) where
       (cs : List A) (x y z u : List ℕ) (os : List (Outcome A)) → Accepted format cs → textOf (format .body) cs ≡ x ++ (10 ∷ y) → u ≡ z ++ (10 ∷ y)
       → TextAnswers format u os → Recovers format cs y z os
   recovers cs x y z u os a e q h = recover format sound cs x y z u a e q h
-
-  -- So it is for a reader of the whole changed text into lent areas: what it leaves there is of such answers.
-  pub one-byte-read :
-      (lent : Lent A) (cs : List A) (u : List ℕ) {recs recs′ : List (List ℕ)} {num pla num′ pla′ : List ℕ} {k at : ℕ}
-      (g : ReadsText format lent u recs num pla recs′ num′ pla′ k at) → at ≡ length u → Accepted format cs → Change (textOf (format .body) cs) u
-      → Robust cs (g .read .answers)
-  one-byte-read lent cs u {at = at} g e a c =
-      one-byte cs u (g .read .answers) a c (taken-all format (g .read .taken) (drop-of-length-le u {i = at} (omega arith)))
