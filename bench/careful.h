@@ -1,4 +1,4 @@
-/* A careful C implementation of nine of the library's calls, as a C programmer would ship it: the same inputs, the same checks, the same answer
+/* A careful C implementation of eleven of the library's calls, as a C programmer would ship it: the same inputs, the same checks, the same answer
  * in one whole number. A function that only looks returns the refusal number, 0 for none, and has `*place` for its place. The edition comes first in every call; what is
  * below takes the limit, how many neighbours a vertex may have. */
 #ifndef CAREFUL_H
@@ -20,6 +20,13 @@ struct tree {
     uint8_t degree[SIZE + 1];
     uint8_t near[SIZE + 1][WIDTH];
 };
+
+/* The atom of a letter: 0, 1 and 2 for C, N and O, so it may have 4 less that many neighbours; 3 for any other byte. With a named atom a vertex has the mark 4 times its
+ * digit plus the atom. */
+static inline unsigned atom_of(uint8_t letter) {
+    static const uint8_t below[256] = {['C'] = 3, ['N'] = 2, ['O'] = 1};
+    return 3u - below[letter];
+}
 
 /* The tree of an edge list: rows 22, 3 and 5 to 9. */
 uint32_t tree_read(size_t edition, struct tree *t, uint64_t n, const uint8_t *edges, size_t len, uint64_t root, uint64_t *place);
@@ -53,5 +60,10 @@ uint32_t c_renumbering(size_t edition, size_t n1, const uint8_t *e1, size_t l1, 
 uint32_t c_check_renumbering(size_t edition, size_t n1, const uint8_t *e1, size_t l1, size_t n2, const uint8_t *e2, size_t l2, const uint8_t *map, size_t len);
 uint32_t c_equal_vertices(size_t edition, size_t n, const uint8_t *edges, size_t len, uint8_t *out, size_t out_len, size_t *pairs);
 uint32_t c_pack(size_t edition, size_t n, const uint8_t *edges, size_t len, size_t root, uint8_t *out, size_t out_len, size_t *pairs);
+
+/* The calls on named atoms, which are of edition 1. */
+uint32_t c_named_centred_code(size_t n, const uint8_t *edges, size_t len, const uint8_t *letters, size_t letters_len, uint8_t *out, size_t out_len, uint8_t *out_letters,
+                              size_t out_letters_len, size_t *pairs);
+uint32_t c_named_read_line(const uint8_t *text, size_t len, uint8_t *out, size_t out_len, uint8_t *out_letters, size_t out_letters_len);
 
 #endif

@@ -20,13 +20,15 @@ struct input {
     uint8_t map[ZK_MAP]; /* from edges to other where they are the same tree, else each number once */
     uint8_t line[ZK_LINE];
     size_t line_len;
+    uint8_t letters[ZK_LETTERS], named_line[ZK_NAMED_LINE + 1]; /* of edges: an atom for each vertex, C for half of them and where it has four neighbours */
+    size_t named_len;
 };
 static struct input inputs[TREES];
 
 /* what a call gave: the answer as zurkhovel.h has it, what it wrote, and the pairs of digits that it looked at */
 struct result {
     uint32_t answer;
-    uint8_t out[ZK_LINE];
+    uint8_t out[ZK_LINE], letters[ZK_LETTERS];
     size_t pairs;
 };
 
@@ -86,6 +88,25 @@ static void shuffle(unsigned n, const uint8_t *from, uint8_t *edges) {
         if (below(2))
             swap(&edges[2 * p - 2], &edges[2 * p - 1]);
     }
+}
+
+/* the atoms of the first edge list, and its named line; in edition 2 it may have none */
+static void name_atoms(struct input *x) {
+    unsigned degree[SIZE + 1] = {0}, tally[3] = {0}, n = x->n;
+    for (unsigned i = 0; i < 2 * (n - 1); i++)
+        degree[x->edges[i]]++;
+    for (unsigned v = 1; v <= n; v++) {
+        unsigned atom = degree[v] > 3 || below(2) ? 0 : degree[v] == 3 || below(2) ? 1 : 2;
+        x->letters[v - 1] = (uint8_t)"CNO"[atom];
+        tally[atom]++;
+    }
+    uint8_t code[SIZE] = {0}, letters[SIZE];
+    size_t pairs;
+    memcpy(letters, x->letters, n);
+    c_named_centred_code(n, x->edges, 2 * (n - 1), x->letters, n, code, SIZE, letters, SIZE, &pairs);
+    for (unsigned i = 0; i < n; i++)
+        code[i] = (uint8_t)(code[i] + '0');
+    x->named_len = (size_t)snprintf((char *)x->named_line, sizeof x->named_line, "%u %.*s %.*s %u %u %u\n", n, (int)n, (char *)code, (int)n, (char *)letters, tally[0], tally[1], tally[2]);
 }
 
 static void make(struct input *x, unsigned n, int same) {
@@ -173,10 +194,25 @@ static void judged(enum side s, const struct input *x, struct result *r) {
         r->answer = c_check_renumbering(edition, x->n, x->edges, 2 * (x->n - 1), x->n, x->other, 2 * (x->n - 1), x->map, x->n);
 }
 
+static void named_centred(enum side s, const struct input *x, struct result *r) {
+    if (s == PROVED)
+        r->answer = zk_named_centred_code(x->n, x->edges, 2 * (x->n - 1), x->letters, x->n, r->out, ZK_DIGITS, r->letters, ZK_LETTERS, &r->pairs);
+    else if (s == PLAIN)
+        r->answer = c_named_centred_code(x->n, x->edges, 2 * (x->n - 1), x->letters, x->n, r->out, ZK_DIGITS, r->letters, ZK_LETTERS, &r->pairs);
+}
+
+static void named_read_line(enum side s, const struct input *x, struct result *r) {
+    if (s == PROVED)
+        r->answer = zk_named_read_line(x->named_line, x->named_len, r->out, ZK_DIGITS, r->letters, ZK_LETTERS);
+    else if (s == PLAIN)
+        r->answer = c_named_read_line(x->named_line, x->named_len, r->out, ZK_DIGITS, r->letters, ZK_LETTERS);
+}
+
 static const struct call {
     const char *name;
     void (*run)(enum side, const struct input *, struct result *);
-} calls[] = {{"read_line", read_line}, {"write_line", write_line}, {"centred_code", centred}, {"n_tuple_code", n_tuple}, {"verdict", verdict}, {"packed", packed}, {"renumbering", renumbering}, {"judged", judged}, {"equal_vertices", equal_vertices}};
+} calls[] = {{"read_line", read_line}, {"write_line", write_line}, {"centred_code", centred}, {"n_tuple_code", n_tuple}, {"verdict", verdict}, {"packed", packed}, {"renumbering", renumbering}, {"judged", judged}, {"equal_vertices", equal_vertices},
+           {"named_centred_code", named_centred}, {"named_read_line", named_read_line}};
 enum { CALLS = sizeof calls / sizeof *calls };
 
 /* ---- What the program does ---- */
@@ -188,7 +224,7 @@ static void compare(const struct input *x) {
         struct result a = {0}, b = {0};
         calls[c].run(PROVED, x, &a);
         calls[c].run(PLAIN, x, &b);
-        if (a.answer != b.answer || a.pairs != b.pairs || memcmp(a.out, b.out, ZK_LINE) != 0) {
+        if (a.answer != b.answer || a.pairs != b.pairs || memcmp(a.out, b.out, ZK_LINE) != 0 || memcmp(a.letters, b.letters, ZK_LETTERS) != 0) {
             printf("%s: %u with %zu pairs, and %u with %zu in C, or the outputs differ\n", calls[c].name, a.answer, a.pairs, b.answer, b.pairs);
             exit(1);
         }
@@ -215,6 +251,12 @@ static void check(void) {
             x.edges[below(2 * (x.n - 1))] = (uint8_t)below(x.n + 2);
             x.map[below(x.n)] = (uint8_t)below(x.n + 2);
             x.line[below((unsigned)x.line_len)] = (uint8_t)(j % 5 ? '0' + below(limit + 1) : below(256));
+            x.letters[below(x.n)] = (uint8_t)"CNOX"[j % 7 ? below(3) : 3];
+            uint8_t *mark = &x.named_line[below((unsigned)x.named_len)];
+            if (j % 2)
+                *mark = j % 3 ? (uint8_t)"0123 CNO\n"[below(9)] : (uint8_t)below(256);
+            else /* the counts may still match */
+                swap(mark, &x.named_line[below((unsigned)x.named_len)]);
             compare(&x);
         }
     }
@@ -232,7 +274,7 @@ static void measure(const char *name, const char *who) {
         for (int i = 0; i < TREES; i++) {
             struct result r = {0};
             calls[c].run(s, &inputs[i], &r);
-            sum += r.answer + r.out[0] + r.pairs;
+            sum += r.answer + r.out[0] + r.letters[0] + r.pairs;
         }
     }
     printf("%llu\n", (unsigned long long)sum);
@@ -298,6 +340,8 @@ int main(int argc, char **argv) {
         return 2;
     for (int i = 0; i < TREES; i++)
         make(&inputs[i], n, i % 2 == 0);
+    for (int i = 0; i < TREES; i++)
+        name_atoms(&inputs[i]);
     if (strcmp(argv[3], "check") == 0)
         check();
     else if (strcmp(argv[3], "pairs") == 0)

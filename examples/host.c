@@ -1,5 +1,5 @@
 /* An exporter's host in a page: it reads a partner's lines, writes the line of an edge list, compares edge lists and packs one, and says each refusal in words. All is of
- * edition 1; at the end it reads a line of edition 2, by the function that takes the edition.
+ * edition 1; at the end it reads a line of edition 2, by the function that takes the edition, and reads, writes and compares skeletons with named atoms.
  *
  *   ./install DIR
  *   cc examples/host.c $(PKG_CONFIG_PATH=DIR/lib/pkgconfig pkg-config --cflags --libs zurkhovel)
@@ -63,12 +63,16 @@ static void write_line(const char *name, size_t n, const uint8_t *edges, size_t 
         fwrite(line, 1, answer, stdout); /* the line has its line feed */
 }
 
-static void compare(const char *name, const uint8_t *one, const uint8_t *other, size_t len)
+static void print_same(uint32_t answer)
 {
-    uint32_t answer = zk_same_skeleton(6, one, len, 6, other, len);
-    printf("compare %s: ", name);
     if (!refused(answer))
         printf("%s\n", answer == 1 ? "the same skeleton" : "not the same skeleton");
+}
+
+static void compare(const char *name, const uint8_t *one, const uint8_t *other, size_t len)
+{
+    printf("compare %s: ", name);
+    print_same(zk_same_skeleton(6, one, len, 6, other, len));
 }
 
 static void pack(const char *name, size_t root, size_t room)
@@ -81,6 +85,36 @@ static void pack(const char *name, size_t root, size_t room)
     for (i = 0; i < answer; i++)
         printf("%02x", (unsigned)packed[i]);
     printf("\n");
+}
+
+static void read_named(const char *line)
+{
+    uint8_t digits[ZK_DIGITS], letters[ZK_LETTERS];
+    uint32_t answer = zk_named_read_line((const uint8_t *)line, strlen(line), digits, sizeof digits, letters, sizeof letters);
+    printf("read named %.*s: ", (int)strcspn(line, "\n"), line);
+    if (refused(answer))
+        return;
+    printf("%.*s, ", (int)answer, (const char *)letters); /* as many letters as digits */
+    print_digits(digits, answer);
+}
+
+/* Letter v is that of vertex v. */
+static void write_named(const char *name, const uint8_t *edges, const char *letters)
+{
+    uint8_t line[ZK_NAMED_LINE];
+    size_t n = strlen(letters), pairs;
+    uint32_t answer = zk_named_write_line(n, edges, 2 * (n - 1), (const uint8_t *)letters, n, line, sizeof line, &pairs);
+    printf("write named %s: ", name);
+    if (!refused(answer))
+        fwrite(line, 1, answer, stdout);
+}
+
+/* Two chains of four atoms. */
+static void compare_named(const char *name, const char *one, const char *other)
+{
+    size_t pairs;
+    printf("compare named %s: ", name);
+    print_same(zk_named_same_skeleton(4, chain, 6, (const uint8_t *)one, 4, 4, chain, 6, (const uint8_t *)other, 4, &pairs));
 }
 
 int main(void)
@@ -103,5 +137,14 @@ int main(void)
     read_line_of(1, "10 9000000000\n");
     read_line_of(2, "10 9000000000\n");
     read_line_of(3, "10 9000000000\n");
+    read_named("2 10 OC 1 0 1\n");
+    read_named("2 10 CO 1 0 1\n");
+    read_named("2 10 OC 0 1 1\n");
+    read_named("4 3000 OCCC 3 0 1\n");
+    read_named("2 10\n");
+    write_named("methanol", chain, "CO");
+    write_named("with an O that has three neighbours", branched, "COCCCC");
+    compare_named("propanol renumbered", "CCCO", "OCCC");
+    compare_named("propanol and methoxyethane", "CCCO", "COCC");
     return 0;
 }

@@ -1,5 +1,5 @@
-# Builds the listing by `rt check listing` and says on standard error how far it is; what rt writes goes to a log.
-# Called by ./list at the root of the clone: progress.pl LOG CRATE..., the crates that have to be proved.
+# Builds the listing by `rt check` and says on standard error how far it is; what rt writes goes to a log.
+# Called by ./list at the root of the clone: progress.pl LOG CRATE..., the crates that have to be proved, the program's last.
 use strict;
 use warnings;
 
@@ -19,7 +19,7 @@ sub progress {
 open my $log, '>', $log_name or die "list: $log_name: $!\n";
 $log->autoflush(1);
 print STDERR 'list: building the listing, which stands on ', @crates - 1, " crates: some minutes where none is proved yet; the log is $log_name\n";
-open my $rt, '-|', 'exec rt check listing 2>&1 < /dev/null' or die "list: rt: $!\n";
+open my $rt, '-|', "exec rt check $crates[-1] 2>&1 < /dev/null" or die "list: rt: $!\n";
 progress() if $terminal;
 
 my $rest = '';

@@ -8,23 +8,25 @@
 #include "check.h"
 
 #define OURS(NAME, MADE) \
-    static struct answer ours_##NAME(const struct input *in, uint8_t *out, size_t room) \
+    static struct answer ours_##NAME(const struct input *in, uint8_t *out, size_t room, uint8_t *out_letters, \
+                                     size_t letters_room) \
     { \
-        (void)out, (void)room; \
+        (void)out, (void)room, (void)out_letters, (void)letters_room; \
         MADE; \
     }
 
 /* A way in which the library's call is made. */
 #define WAY(KIND, NAME, MADE) \
-    static uint32_t KIND##_##NAME(const struct input *in, uint8_t *out, size_t room, size_t *pairs) \
+    static uint32_t KIND##_##NAME(const struct input *in, uint8_t *out, size_t room, uint8_t *out_letters, \
+                                  size_t letters_room, size_t *pairs) \
     { \
-        (void)out, (void)room, (void)pairs; \
+        (void)out, (void)room, (void)out_letters, (void)letters_room, (void)pairs; \
         MADE; \
     }
 
 #define CALL(NAME, OUTPUT, TELLING, AT_1) \
     static uint64_t met_##NAME[numbers]; \
-    static const struct call call_##NAME = {#NAME, OUTPUT, ours_##NAME, theirs_##NAME, TELLING, AT_1, met_##NAME}
+    static const struct call call_##NAME = {#NAME, OUTPUT, ours_##NAME, theirs_##NAME, TELLING, AT_1, met_##NAME, 0}
 
 /* The same arguments to both, behind the edition. */
 #define CALL_BOTH(NAME, OUTPUT, ...) \
@@ -83,5 +85,31 @@
     VALUE_WAYS(NAME, TYPE, __VA_ARGS__) \
     WAY(telling, NAME, VALUE_OF(TYPE, uint32_t, zk_##NAME##_pairs(in->edition, __VA_ARGS__, &value, pairs))) \
     CALL(NAME, one_value, telling_##NAME, NULL)
+
+/* ---- Named atoms: no edition, and one way, which tells the pairs where they are told ---- */
+
+#define NAMED(NAME, OUTPUT, TELLING) \
+    static uint64_t met_##NAME[numbers]; \
+    static const struct call call_##NAME = {#NAME, OUTPUT, ours_##NAME, theirs_##NAME, TELLING, NULL, met_##NAME, 1}
+
+#define NAMED_BOTH(NAME, OUTPUT, ...) \
+    OURS(NAME, return oracle_##NAME(__VA_ARGS__)) \
+    WAY(theirs, NAME, return zk_##NAME(__VA_ARGS__)) \
+    NAMED(NAME, OUTPUT, NULL)
+
+#define NAMED_TELLING(NAME, OUTPUT, ...) \
+    OURS(NAME, return oracle_##NAME(__VA_ARGS__)) \
+    WAY(theirs, NAME, return zk_##NAME(__VA_ARGS__, pairs)) \
+    NAMED(NAME, OUTPUT, theirs_##NAME)
+
+#define NAMED_VALUE(NAME, TYPE, ...) \
+    OURS(NAME, VALUE_OF(TYPE, struct answer, oracle_##NAME(__VA_ARGS__, &value))) \
+    WAY(theirs, NAME, VALUE_OF(TYPE, uint32_t, zk_##NAME(__VA_ARGS__, &value))) \
+    NAMED(NAME, one_value, NULL)
+
+#define NAMED_VALUE_TELLING(NAME, TYPE, ...) \
+    OURS(NAME, VALUE_OF(TYPE, struct answer, oracle_##NAME(__VA_ARGS__, &value))) \
+    WAY(theirs, NAME, VALUE_OF(TYPE, uint32_t, zk_##NAME(__VA_ARGS__, &value, pairs))) \
+    NAMED(NAME, one_value, theirs_##NAME)
 
 #endif

@@ -17,7 +17,7 @@ static const char *piece;
 enum { most_input = 4096 };
 static const char *name_now = "";
 static struct input input_now;
-static uint8_t kept[most_input], kept2[most_input], kept3[most_input];
+static uint8_t kept[most_input], kept2[most_input], kept3[most_input], kept4[most_input], kept5[most_input];
 
 uint64_t random64(void)
 {
@@ -68,6 +68,10 @@ void begin_case(const char *name, const struct input *in)
         input_now.bytes2 = memcpy(kept2, in->bytes2, in->len2);
     if (in->bytes3 != NULL)
         input_now.bytes3 = memcpy(kept3, in->bytes3, in->len3);
+    if (in->letters != NULL)
+        input_now.letters = memcpy(kept4, in->letters, in->letters_len);
+    if (in->letters2 != NULL)
+        input_now.letters2 = memcpy(kept5, in->letters2, in->letters_len2);
 }
 
 void begin_piece(const char *name, uint64_t seed)
@@ -106,6 +110,10 @@ static void print_input(const struct input *in)
     }
     if (in->bytes3 != NULL)
         print_bytes("map", in->bytes3, in->len3);
+    if (in->letters != NULL)
+        print_bytes("letters", in->letters, in->letters_len);
+    if (in->letters2 != NULL)
+        print_bytes("letters of the second list", in->letters2, in->letters_len2);
 }
 
 static void print_head(const char *what, const char *name)
@@ -143,10 +151,11 @@ void claim(int holds, const char *what)
 void claim_met(const struct call *call, const unsigned *wanted, size_t count)
 {
     char listed[300] = "";
-    size_t used = 0, next = 0;
+    size_t used = 0;
     for (unsigned number = 0; number < numbers; number++) {
-        int is_wanted = next < count && wanted[next] == number;
-        next += is_wanted;
+        int is_wanted = 0;
+        for (size_t i = 0; i < count; i++)
+            is_wanted |= wanted[i] == number;
         if (call->met[number] > 0)
             used += (size_t)snprintf(listed + used, sizeof listed - used, " %u:%" PRIu64, number, call->met[number]);
         if (is_wanted != (call->met[number] > 0)) {
@@ -214,7 +223,7 @@ static void compare_way(const struct call *call, way *made, const struct input *
 {
     struct lent got = *before;
     size_t stood = ours.pairs + 1 + below(9), pairs = stood;
-    uint32_t whole = made(in, got.byte + guard, room, &pairs);
+    uint32_t whole = made(in, got.byte + guard, room, NULL, 0, &pairs);
     compare(call, in, room, ours, wanted, whole, &got);
     if (pairs != (made == call->telling ? ours.pairs : stood)) {
         char more[120];
@@ -228,7 +237,7 @@ static void compare_ways(const struct call *call, const struct input *in, size_t
                          const struct lent *wanted, const struct lent *before)
 {
     compare_way(call, call->theirs, in, room, ours, wanted, before);
-    if (call->telling != NULL)
+    if (call->telling != NULL && call->telling != call->theirs)
         compare_way(call, call->telling, in, room, ours, wanted, before);
     if (call->at_1 != NULL && in->edition == 1)
         compare_way(call, call->at_1, in, room, ours, wanted, before);
@@ -241,7 +250,7 @@ static struct answer check_value(const struct call *call, const struct input *in
     struct lent wanted, before;
     fill_pattern(&wanted, sizeof wanted, ++salt);
     before = wanted;
-    struct answer ours = call->ours(in, wanted.byte + guard, room);
+    struct answer ours = call->ours(in, wanted.byte + guard, room, NULL, 0);
     compare_ways(call, in, room, ours, &wanted, &before);
     memcpy(result, wanted.byte + guard, room);
     return ours;
@@ -264,6 +273,45 @@ static void check_room(const struct call *call, const struct input *in, size_t r
     compare_ways(call, in, room, ours, &wanted, &before);
 }
 
+/* Two lent outputs of these lengths, of which 15 is told as the oracle tells it. */
+static void check_rooms(const struct call *call, const struct input *in, size_t room, size_t letters_room)
+{
+    static uint64_t salt;
+    struct lent wanted, got, letters, got_letters;
+    fill_pattern(&wanted, sizeof wanted, ++salt);
+    fill_pattern(&letters, sizeof letters, salt + 11);
+    got = wanted;
+    got_letters = letters;
+    struct answer ours = call->ours(in, wanted.byte + guard, room, letters.byte + guard, letters_room);
+    size_t stood = ours.pairs + 1 + below(9), pairs = stood;
+    uint32_t whole = call->theirs(in, got.byte + guard, room, got_letters.byte + guard, letters_room, &pairs);
+    compare(call, in, room, ours, &wanted, whole, &got);
+    if (memcmp(&letters, &got_letters, sizeof letters) != 0)
+        mismatch(call->name, in, "the letters differ", ours, taken_apart(whole));
+    if (pairs != (call->telling != NULL ? ours.pairs : stood))
+        mismatch(call->name, in, "the pairs differ", ours, taken_apart(whole));
+}
+
+static struct answer check_two_outputs(const struct call *call, const struct input *in, uint8_t *result)
+{
+    uint8_t letters[most_lent];
+    struct answer ample = call->ours(in, result, most_lent, letters, most_lent);
+    size_t needed = ample.place, count = call->output == lent_edges ? needed / 2 + 1 : needed;
+    if (ample.number != 0) {
+        check_rooms(call, in, 0, 0);
+        check_rooms(call, in, below(most_lent + 1), below(most_lent + 1));
+        return ample;
+    }
+    if (needed > 0) {
+        check_rooms(call, in, needed - 1, count);
+        check_rooms(call, in, below(needed), below(count));
+    }
+    check_rooms(call, in, needed, count - 1);
+    check_rooms(call, in, needed, count);
+    check_rooms(call, in, needed + 1 + below(most_lent - needed), count + 1 + below(most_lent - count));
+    return ample;
+}
+
 /* One case in the edition of the input; `result` gets what we give into an ample output. */
 static struct answer check_case(const struct call *call, const struct input *in, uint8_t *result)
 {
@@ -273,7 +321,10 @@ static struct answer check_case(const struct call *call, const struct input *in,
     if (call->output == one_value)
         return check_value(call, in, sizeof(uint64_t), result);
 
-    struct answer ample = call->ours(in, result, most_lent);
+    if (call->output == lent_both || call->output == lent_edges)
+        return check_two_outputs(call, in, result);
+
+    struct answer ample = call->ours(in, result, most_lent, NULL, 0);
     if (ample.number != 0) {
         check_room(call, in, 0, ample, result);
         check_room(call, in, below(most_lent + 1), ample, result);
@@ -310,6 +361,8 @@ struct answer check(const struct call *call, struct input in)
         in.bytes = nothing;
     in.edition = edition;
     struct answer answer = check_case(call, &in, result);
+    if (call->named)
+        return answer;
     if (edition == 2 && one_in(3))
         check_in_1(call, in, answer, result);
     if (one_in(20)) {

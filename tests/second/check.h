@@ -48,11 +48,17 @@ struct input {
     size_t len2;
     const uint8_t *bytes3;
     size_t len3;
+    const uint8_t *letters; /* of the first list, or of a code */
+    size_t letters_len;
+    const uint8_t *letters2;
+    size_t letters_len2;
 };
 
 enum output {
     lent_bytes, /* a lent output of any length */
     lent_map,   /* the same of a call on two lists, where 15 is the map's */
+    lent_both,  /* two lent outputs, as many letters as digits */
+    lent_edges, /* two, edges and a letter for each vertex */
     one_value,  /* eight bytes for one number */
     no_output
 };
@@ -60,16 +66,18 @@ enum output {
 enum { numbers = 23 };
 
 /* A way in which the library's call is made: the answer is the one whole number. */
-typedef uint32_t way(const struct input *in, uint8_t *out, size_t room, size_t *pairs);
+typedef uint32_t way(const struct input *in, uint8_t *out, size_t room, uint8_t *out_letters, size_t letters_room,
+                     size_t *pairs);
 
 struct call {
     const char *name;
     enum output output;
-    struct answer (*ours)(const struct input *in, uint8_t *out, size_t room);
+    struct answer (*ours)(const struct input *in, uint8_t *out, size_t room, uint8_t *out_letters, size_t letters_room);
     way *theirs;
     way *telling; /* the one that tells the pairs looked at, or none */
     way *at_1;    /* the one that names no edition, and is of edition 1, or none */
     uint64_t *met; /* how often each number was answered */
+    int named;     /* it takes letters, and no edition */
 };
 
 /* Makes both answer in the edition under way, with the output lent too short, exactly and too long; ends the program

@@ -100,7 +100,34 @@
     X(vertices, parents_by_number) /* only children of one vertex are ever alike */ \
     X(vertices, halves_unread)   /* the skeleton turns over wherever a child of the root has half of the vertices */ \
     X(vertices, callers_order)   /* the class of each of the caller's vertices, in their order */ \
-    X(vertices, classes_from_0)
+    X(vertices, classes_from_0) \
+    X(named, atoms_before_digits) /* at each vertex the atom and then the digit */ \
+    X(named, digits_then_atoms)  /* all digits, and then all atoms */ \
+    X(named, atoms_turned)       /* O below N below C */ \
+    X(named, atoms_ignored)      /* in the verdict */ \
+    X(named, map_of_digits)      /* a map that puts an atom on another one is accepted */ \
+    X(named, classes_of_digits)  /* renumberings need not keep the atoms */ \
+    X(named, four_at_nitrogen)   /* N may have four neighbours */ \
+    X(named, twenty_before_9)    /* 20 comes before 9 */ \
+    X(named, twenty_at_vertex)   /* 20 at the vertex, not at the edge */ \
+    X(named, root_as_others)     /* the root's digit may be no larger than the others' */ \
+    X(named, twenty_up_to_end)   /* 20 is not judged behind a code's end */ \
+    X(named, letters_before_2)   /* letters that are not N in number are 21 whatever they are */ \
+    X(named, plain_line_of_any)  /* the plain line of other atoms is written */ \
+    X(named, numbering_first)    /* the 14 of a numbering comes before that of an atom */ \
+    X(named, atom_by_code)       /* 14 at the vertex of the centred code's numbering */ \
+    X(named, letters_as_lent)    /* a code's letters in the caller's order */ \
+    X(named, room_of_letters)    /* 15 is the letters' where both are too short */ \
+    X(named, letters_on_15)      /* the letters are written although the digits have no room */ \
+    X(named, pairs_of_digits)    /* two marks of equal digits are taken as equal */ \
+    X(named_lines, counts_exchanged) /* N and O in the other order */ \
+    X(named_lines, count_wrapped) /* a count is taken modulo 2^64 */ \
+    X(named_lines, count_01)     /* a leading zero of a count is taken */ \
+    X(named_lines, no_counts)    /* the counts are not looked at */ \
+    X(named_lines, letters_filled) /* zeros behind a record's letters */ \
+    X(named_lines, letters_at_front) /* all letters at the front of their area */ \
+    X(named_lines, plain_taken)  /* the named reader takes plain lines */ \
+    X(named_lines, listed_as_plain)
 
 #define AS_CONSTANT(PIECE, NAME) NAME,
 #define AS_STRINGS(PIECE, NAME) {#PIECE, #NAME},
@@ -808,4 +835,397 @@ uint32_t zk_write_line_pairs(size_t edition, size_t n, const uint8_t *edges, siz
 {
     uint32_t answer = zk_write_line_edition(edition, n, edges, len, out, out_len);
     return tell(answer, was_coded(answer) && wrong != line_uncounted ? centred_pairs(n, edges) : 0, pairs);
+}
+
+/* ---- Named atoms ---- */
+
+/* Whether one code stands before another in a wrong order. */
+static bool wrong_before(const struct code *a, const struct code *b)
+{
+    if (wrong == digits_then_atoms) {
+        unsigned order = order_of(a->digit, a->length, b->digit, b->length);
+        return order == 0 || (order == 1 && order_of(a->atom, a->length, b->atom, b->length) == 0);
+    }
+    for (size_t i = 0; i < a->length && i < b->length; i++) {
+        if (wrong == atoms_before_digits && a->atom[i] != b->atom[i])
+            return a->atom[i] < b->atom[i];
+        if (a->digit[i] != b->digit[i])
+            return a->digit[i] < b->digit[i];
+        if (a->atom[i] != b->atom[i])
+            return wrong == atoms_turned ? a->atom[i] > b->atom[i] : a->atom[i] < b->atom[i];
+    }
+    return false;
+}
+
+static struct code wrong_part(const struct tree *tree, unsigned vertex, unsigned parent)
+{
+    struct code child[most_neighbours], code = {.length = 1};
+    unsigned children = 0;
+    for (unsigned i = 0; i < tree->degree[vertex]; i++)
+        if (tree->neighbour[vertex][i] != parent)
+            child[children++] = wrong_part(tree, tree->neighbour[vertex][i], vertex);
+    code.digit[0] = (uint8_t)children;
+    code.atom[0] = tree->atom[vertex];
+    while (children > 0) {
+        unsigned best = 0;
+        for (unsigned i = 1; i < children; i++)
+            if (wrong_before(&child[best], &child[i]))
+                best = i;
+        memcpy(code.digit + code.length, child[best].digit, child[best].length);
+        memcpy(code.atom + code.length, child[best].atom, child[best].length);
+        code.length += child[best].length;
+        child[best] = child[--children];
+    }
+    return code;
+}
+
+static struct tree lettered(size_t n, const uint8_t *edges, const uint8_t *letters)
+{
+    struct tree tree = tree_of(n, edges);
+    for (size_t v = 0; v < n; v++)
+        tree.atom[v + 1] = atom_of(letters[v]);
+    return tree;
+}
+
+static const uint8_t *carbons(void)
+{
+    static uint8_t letters[320];
+    memset(letters, 'C', sizeof letters);
+    return letters;
+}
+
+static struct answer wrong_list(struct answer answer, size_t n, const uint8_t *edges, size_t len, const uint8_t *letters,
+                                size_t letters_len)
+{
+    if (wrong == letters_before_2 && answer.number == 2 && n >= 1 && n <= 64 && len == 2 * (n - 1) && letters_len != n)
+        answer.number = 21;
+    if (wrong == four_at_nitrogen && answer.number == 20) {
+        uint8_t more[64];
+        for (size_t v = 0; v < n; v++)
+            more[v] = letters[v] == 'N' ? 'C' : letters[v];
+        return oracle_named_check_edges(n, edges, len, more, n, 1);
+    }
+    if (wrong == twenty_before_9 && answer.number == 9)
+        for (size_t e = 0; e < len; e += 2)
+            for (size_t end = e; end < e + 2; end++) {
+                unsigned earlier = 0;
+                for (size_t i = 0; i < e; i++)
+                    earlier += edges[i] == edges[end];
+                if (earlier >= limit_of_atom(atom_of(letters[edges[end] - 1])) && letters[edges[end] - 1] != 'C')
+                    return (struct answer){.number = 20, .place = e / 2 + 1};
+            }
+    if (wrong == twenty_at_vertex && answer.number == 20)
+        answer.place = edges[2 * answer.place - 2];
+    return answer;
+}
+
+static struct answer wrong_digits(struct answer answer, const uint8_t *code, size_t len, const uint8_t *letters)
+{
+    size_t end = code_end(code, len);
+    if (wrong == twenty_up_to_end && answer.number == 20 && end != 0 && answer.place > end)
+        answer = (struct answer){.number = 11, .place = end + 1};
+    if (wrong == root_as_others && answer.number == 0 && letters[0] != 'C' && code[0] == limit_of_atom(atom_of(letters[0])))
+        answer = (struct answer){.number = 20, .place = 1};
+    return answer;
+}
+
+/* Two outputs that are both too short. */
+static struct answer wrong_rooms(struct answer answer, size_t count, size_t letters_room, uint8_t *out_letters)
+{
+    if (wrong == room_of_letters && answer.number == 15 && letters_room < count)
+        answer.place = count;
+    if (wrong == letters_on_15 && answer.number == 15 && letters_room >= count)
+        memset(out_letters, 'C', count);
+    return answer;
+}
+
+/* A line with another end: what stands behind its last space, or the two last parts exchanged. */
+static size_t wrong_line(const uint8_t *text, size_t len, uint8_t *line)
+{
+    size_t whole = line_length(text, len), last = whole, before;
+    memcpy(line, text, whole);
+    if (whole == 0 || text[whole - 1] != '\n')
+        return whole;
+    while (last > 0 && text[last - 1] != ' ')
+        last--;
+    before = last > 0 ? last - 1 : 0;
+    while (before > 0 && text[before - 1] != ' ')
+        before--;
+    if (last == 0 || before == 0)
+        return whole;
+    size_t digits = whole - 1 - last;
+    if (wrong == counts_exchanged) {
+        memcpy(line + before, text + last, digits);
+        line[before + digits] = ' ';
+        memcpy(line + before + digits + 1, text + before, last - 1 - before);
+    }
+    if (wrong == count_wrapped && digits > 15) {
+        uint64_t value = 0;
+        for (size_t i = last; i + 1 < whole; i++)
+            value = 10 * value + (text[i] - '0');
+        return last + (size_t)sprintf((char *)line + last, "%llu\n", (unsigned long long)value);
+    }
+    if (wrong == count_01 && digits > 1 && text[last] == '0') {
+        memmove(line + last, text + last + 1, digits);
+        return whole - 1;
+    }
+    return whole;
+}
+
+static struct answer wrong_read_line(const uint8_t *text, size_t len, uint8_t *out, size_t room, uint8_t *out_letters,
+                                     size_t letters_room)
+{
+    uint8_t line[4200];
+    struct answer answer = oracle_named_read_line(text, len, out, room, out_letters, letters_room);
+    if (wrong == counts_exchanged || wrong == count_wrapped || wrong == count_01)
+        return oracle_named_read_line(line, wrong_line(text, len, line), out, room, out_letters, letters_room);
+    if (wrong == no_counts && answer.number == 21)
+        answer = (struct answer){.number = 14};
+    if (wrong == plain_taken && answer.number == 2 && letters_room >= 64) {
+        answer = oracle_read_line(1, text, len, out, room);
+        if (answer.number == 0)
+            memset(out_letters, 'C', answer.place);
+    }
+    return answer;
+}
+
+uint32_t zk_named_check_code(const uint8_t *code, size_t len, const uint8_t *letters, size_t letters_len)
+{
+    return give(wrong_digits(oracle_named_check_code(code, len, letters, letters_len), code, len, letters));
+}
+
+uint32_t zk_named_decode_code(const uint8_t *code, size_t len, const uint8_t *letters, size_t letters_len, uint8_t *out, size_t out_len, uint8_t *out_letters, size_t out_letters_len)
+{
+    struct answer answer = oracle_named_decode_code(code, len, letters, letters_len, out, out_len, out_letters, out_letters_len);
+    return give(wrong_rooms(answer, len, out_letters_len, out_letters));
+}
+
+uint32_t zk_named_decode_n_tuple(const uint8_t *code, size_t len, const uint8_t *letters, size_t letters_len, uint8_t *out, size_t out_len, uint8_t *out_letters, size_t out_letters_len)
+{
+    struct answer answer = oracle_named_decode_n_tuple(code, len, letters, letters_len, out, out_len, out_letters, out_letters_len);
+    return give(wrong_rooms(answer, len, out_letters_len, out_letters));
+}
+
+uint32_t zk_named_decode_centred(const uint8_t *code, size_t len, const uint8_t *letters, size_t letters_len, uint8_t *out, size_t out_len, uint8_t *out_letters, size_t out_letters_len)
+{
+    struct answer answer = oracle_named_decode_centred(code, len, letters, letters_len, out, out_len, out_letters, out_letters_len);
+    return give(wrong_rooms(answer, len, out_letters_len, out_letters));
+}
+
+uint32_t zk_named_check_edges(size_t n, const uint8_t *edges, size_t len, const uint8_t *letters, size_t letters_len, size_t root)
+{
+    return give(wrong_list(oracle_named_check_edges(n, edges, len, letters, letters_len, root), n, edges, len, letters, letters_len));
+}
+
+/* A code in another order, or its letters or its pairs told wrongly. */
+static uint32_t give_code(struct answer answer, const struct code *other, size_t n, const uint8_t *letters, uint8_t *out,
+                          uint8_t *out_letters, size_t out_letters_len, uint64_t digit_pairs, size_t *pairs)
+{
+    bool ordered = wrong == atoms_before_digits || wrong == digits_then_atoms || wrong == atoms_turned;
+    for (size_t i = 0; answer.number == 0 && ordered && i < n; i++) {
+        out[i] = other->digit[i];
+        out_letters[i] = letter_of(other->atom[i]);
+    }
+    if (wrong == letters_as_lent && answer.number == 0)
+        memcpy(out_letters, letters, n);
+    *pairs = wrong == pairs_of_digits && answer.number == 0 ? digit_pairs : answer.pairs;
+    return give(wrong_rooms(answer, n, out_letters_len, out_letters));
+}
+
+uint32_t zk_named_rooted_code(size_t n, const uint8_t *edges, size_t len, const uint8_t *letters, size_t letters_len, size_t root, uint8_t *out, size_t out_len, uint8_t *out_letters, size_t out_letters_len, size_t *pairs)
+{
+    uint8_t ignored[64];
+    struct code other = {.length = 0};
+    struct answer answer = oracle_named_rooted_code(n, edges, len, letters, letters_len, root, out, out_len, out_letters, out_letters_len);
+    uint64_t digit_pairs = oracle_named_rooted_code(n, edges, len, carbons(), n <= 64 ? n : 0, root, ignored, 64, ignored, 64).pairs;
+    if (answer.number == 0) {
+        struct tree tree = lettered(n, edges, letters);
+        other = wrong_part(&tree, (unsigned)root, 0);
+    }
+    return give_code(answer, &other, n, letters, out, out_letters, out_letters_len, digit_pairs, pairs);
+}
+
+uint32_t zk_named_n_tuple_code(size_t n, const uint8_t *edges, size_t len, const uint8_t *letters, size_t letters_len, uint8_t *out, size_t out_len, uint8_t *out_letters, size_t out_letters_len, size_t *pairs)
+{
+    uint8_t ignored[64];
+    struct code other = {.length = 0};
+    struct answer answer = oracle_named_n_tuple_code(n, edges, len, letters, letters_len, out, out_len, out_letters, out_letters_len);
+    uint64_t digit_pairs = oracle_named_n_tuple_code(n, edges, len, carbons(), n <= 64 ? n : 0, ignored, 64, ignored, 64).pairs;
+    if (answer.number == 0)
+        other = named_code(out, out_letters, n);
+    return give_code(answer, &other, n, letters, out, out_letters, out_letters_len, digit_pairs, pairs);
+}
+
+uint32_t zk_named_centred_code(size_t n, const uint8_t *edges, size_t len, const uint8_t *letters, size_t letters_len, uint8_t *out, size_t out_len, uint8_t *out_letters, size_t out_letters_len, size_t *pairs)
+{
+    uint8_t ignored[64];
+    struct code other = {.length = 0};
+    struct answer answer = oracle_named_centred_code(n, edges, len, letters, letters_len, out, out_len, out_letters, out_letters_len);
+    uint64_t digit_pairs = oracle_named_centred_code(n, edges, len, carbons(), n <= 64 ? n : 0, ignored, 64, ignored, 64).pairs;
+    if (answer.number == 0) {
+        struct tree tree = lettered(n, edges, letters);
+        unsigned middle[2];
+        centre(&tree, middle);
+        struct code at_first = wrong_part(&tree, middle[0], 0), at_second = wrong_part(&tree, middle[1], 0);
+        other = wrong_before(&at_first, &at_second) ? at_second : at_first;
+    }
+    return give_code(answer, &other, n, letters, out, out_letters, out_letters_len, digit_pairs, pairs);
+}
+
+uint32_t zk_named_same_skeleton(size_t n1, const uint8_t *edges1, size_t len1, const uint8_t *letters1, size_t letters_len1, size_t n2, const uint8_t *edges2, size_t len2, const uint8_t *letters2, size_t letters_len2, size_t *pairs)
+{
+    struct answer answer = oracle_named_same_skeleton(n1, edges1, len1, letters1, letters_len1, n2, edges2, len2, letters2, letters_len2);
+    *pairs = answer.pairs;
+    if (wrong == atoms_ignored && answer.number == 0)
+        answer = oracle_named_same_skeleton(n1, edges1, len1, carbons(), n1, n2, edges2, len2, carbons(), n2);
+    return give(answer);
+}
+
+uint32_t zk_named_renumbering(size_t n1, const uint8_t *edges1, size_t len1, const uint8_t *letters1, size_t letters_len1, size_t n2, const uint8_t *edges2, size_t len2, const uint8_t *letters2, size_t letters_len2, uint8_t *out, size_t out_len, size_t *pairs)
+{
+    struct answer answer = oracle_named_renumbering(n1, edges1, len1, letters1, letters_len1, n2, edges2, len2, letters2, letters_len2, out, out_len);
+    *pairs = answer.pairs;
+    return give(answer);
+}
+
+uint32_t zk_named_check_renumbering(size_t n1, const uint8_t *edges1, size_t len1, const uint8_t *letters1, size_t letters_len1, size_t n2, const uint8_t *edges2, size_t len2, const uint8_t *letters2, size_t letters_len2, const uint8_t *map, size_t map_len)
+{
+    struct answer answer = oracle_named_check_renumbering(n1, edges1, len1, letters1, letters_len1, n2, edges2, len2, letters2, letters_len2, map, map_len);
+    if (wrong == map_of_digits && answer.number == 18)
+        answer = oracle_check_renumbering(1, n1, edges1, len1, n2, edges2, len2, map, map_len);
+    return give(answer);
+}
+
+uint32_t zk_named_equal_vertices(size_t n, const uint8_t *edges, size_t len, const uint8_t *letters, size_t letters_len, uint8_t *out, size_t out_len, size_t *pairs)
+{
+    struct answer answer = oracle_named_equal_vertices(n, edges, len, letters, letters_len, out, out_len);
+    *pairs = answer.pairs;
+    if (wrong == classes_of_digits && answer.number == 0) {
+        struct tree tree = lettered(n, edges, letters);
+        struct code code = centred_code(&tree);
+        struct tree plain = tree_of_code(code.digit, n);
+        classes_in(&plain, out);
+    }
+    return give(answer);
+}
+
+/* The 14 of an atom. */
+static struct answer wrong_14(struct answer answer, size_t n, const uint8_t *edges, const uint8_t *letters, size_t numbering)
+{
+    if (wrong == atom_by_code && answer.number == 14 && letters[answer.place - 1] != 'C') {
+        struct tree tree = lettered(n, edges, letters);
+        struct code code = centred_code(&tree);
+        answer.place = 1;
+        while (code.atom[answer.place - 1] == carbon)
+            answer.place++;
+    }
+    if (wrong == numbering_first && answer.number == 14 && numbering != 0)
+        answer.place = numbering;
+    return answer;
+}
+
+uint32_t zk_named_pack(size_t n, const uint8_t *edges, size_t len, const uint8_t *letters, size_t letters_len, size_t root, uint8_t *out, size_t out_len, size_t *pairs)
+{
+    struct answer answer = oracle_named_pack(n, edges, len, letters, letters_len, root, out, out_len);
+    *pairs = answer.pairs;
+    return give(wrong_14(answer, n, edges, letters, 0));
+}
+
+uint32_t zk_named_whole(size_t n, const uint8_t *edges, size_t len, const uint8_t *letters, size_t letters_len, size_t root, uint64_t *value, size_t *pairs)
+{
+    struct answer answer = oracle_named_whole(n, edges, len, letters, letters_len, root, value);
+    *pairs = answer.pairs;
+    return give(wrong_14(answer, n, edges, letters, 0));
+}
+
+uint32_t zk_named_fraction(size_t n, const uint8_t *edges, size_t len, const uint8_t *letters, size_t letters_len, size_t root, double *value, size_t *pairs)
+{
+    struct answer answer = oracle_named_fraction(n, edges, len, letters, letters_len, root, value);
+    *pairs = answer.pairs;
+    return give(wrong_14(answer, n, edges, letters, 0));
+}
+
+uint32_t zk_named_cam(size_t n, const uint8_t *edges, size_t len, const uint8_t *letters, size_t letters_len, uint8_t *out, size_t out_len)
+{
+    struct answer answer = oracle_named_cam(n, edges, len, letters, letters_len, out, out_len);
+    uint64_t ignored;
+    struct answer physical = oracle_zero_a(1, n <= 21 ? n : 0, edges, len, &ignored);
+    return give(wrong_14(answer, n, edges, letters, physical.number == 14 ? physical.place : 0));
+}
+
+uint32_t zk_named_zero_a(size_t n, const uint8_t *edges, size_t len, const uint8_t *letters, size_t letters_len, uint64_t *value)
+{
+    struct answer answer = oracle_named_zero_a(n, edges, len, letters, letters_len, value);
+    uint64_t ignored;
+    struct answer physical = oracle_zero_a(1, n <= 21 ? n : 0, edges, len, &ignored);
+    return give(wrong_14(answer, n, edges, letters, physical.number == 14 ? physical.place : 0));
+}
+
+uint32_t zk_named_a_zero(size_t n, const uint8_t *edges, size_t len, const uint8_t *letters, size_t letters_len, uint64_t *value)
+{
+    struct answer answer = oracle_named_a_zero(n, edges, len, letters, letters_len, value);
+    return give(wrong_14(answer, n, edges, letters, 0));
+}
+
+uint32_t zk_named_cam_by_code(size_t n, const uint8_t *edges, size_t len, const uint8_t *letters, size_t letters_len, uint8_t *out, size_t out_len, size_t *pairs)
+{
+    struct answer answer = oracle_named_cam_by_code(n, edges, len, letters, letters_len, out, out_len);
+    *pairs = answer.pairs;
+    return give(wrong_14(answer, n, edges, letters, 0));
+}
+
+uint32_t zk_named_zero_a_by_code(size_t n, const uint8_t *edges, size_t len, const uint8_t *letters, size_t letters_len, uint64_t *value, size_t *pairs)
+{
+    struct answer answer = oracle_named_zero_a_by_code(n, edges, len, letters, letters_len, value);
+    *pairs = answer.pairs;
+    return give(wrong_14(answer, n, edges, letters, 0));
+}
+
+uint32_t zk_named_a_zero_by_code(size_t n, const uint8_t *edges, size_t len, const uint8_t *letters, size_t letters_len, uint64_t *value, size_t *pairs)
+{
+    struct answer answer = oracle_named_a_zero_by_code(n, edges, len, letters, letters_len, value);
+    *pairs = answer.pairs;
+    return give(wrong_14(answer, n, edges, letters, 0));
+}
+
+uint32_t zk_named_plain_line(size_t n, const uint8_t *edges, size_t len, const uint8_t *letters, size_t letters_len, uint8_t *out, size_t out_len, size_t *pairs)
+{
+    struct answer answer = oracle_named_plain_line(n, edges, len, letters, letters_len, out, out_len);
+    if (wrong == plain_line_of_any && answer.number == 14)
+        answer = oracle_write_line(1, n, edges, len, out, out_len);
+    *pairs = answer.pairs;
+    return give(wrong_14(answer, n, edges, letters, 0));
+}
+
+uint32_t zk_named_write_line(size_t n, const uint8_t *edges, size_t len, const uint8_t *letters, size_t letters_len, uint8_t *out, size_t out_len, size_t *pairs)
+{
+    struct answer answer = oracle_named_write_line(n, edges, len, letters, letters_len, out, out_len);
+    *pairs = answer.pairs;
+    return give(answer);
+}
+
+uint32_t zk_named_read_line(const uint8_t *text, size_t len, uint8_t *out, size_t out_len, uint8_t *out_letters, size_t out_letters_len)
+{
+    return give(wrong_read_line(text, len, out, out_len, out_letters, out_letters_len));
+}
+
+void zk_named_read_text(const uint8_t *text, size_t len, uint8_t *records, size_t records_len, uint8_t *letters, size_t letters_len,
+                        uint8_t *numbers, size_t numbers_len, size_t *places, size_t places_len, size_t *lines, size_t *at)
+{
+    oracle_named_read_text(text, len, records, records_len, letters, letters_len, numbers, numbers_len, places, places_len, lines, at);
+    size_t front = 0;
+    for (size_t i = 0; i < *lines; i++) {
+        if (numbers[i] != 0)
+            continue;
+        if (wrong == letters_filled)
+            memset(letters + 64 * i + places[i], 0, 64 - places[i]);
+        if (wrong == letters_at_front)
+            memmove(letters + front, letters + 64 * i, places[i]);
+        front += places[i];
+    }
+}
+
+size_t zk_named_list(const uint8_t *text, size_t len, size_t from, uint8_t *out, size_t out_len)
+{
+    return wrong == listed_as_plain ? oracle_list(text, len, from, out, out_len) : oracle_named_list(text, len, from, out, out_len);
 }

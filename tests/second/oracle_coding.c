@@ -3,26 +3,40 @@
 
 #include "oracle_parts.h"
 
+/* The first place where two codes differ, in the digit or in the atom, or where one has ended. */
+static size_t first_difference(const struct code *a, const struct code *b)
+{
+    size_t i = 0;
+    while (i < a->length && i < b->length && a->digit[i] == b->digit[i] && a->atom[i] == b->atom[i])
+        i++;
+    return i;
+}
+
+/* Dictionary order, at each vertex the digit and then the atom. */
 bool larger(const struct code *a, const struct code *b)
 {
-    return order_of(a->digit, a->length, b->digit, b->length) == 2;
+    size_t i = first_difference(a, b);
+    if (i == a->length || i == b->length)
+        return a->length > b->length;
+    return a->digit[i] != b->digit[i] ? a->digit[i] > b->digit[i] : a->atom[i] > b->atom[i];
+}
+
+bool same_code(const struct code *a, const struct code *b)
+{
+    return a->length == b->length && first_difference(a, b) == a->length;
 }
 
 static void append(struct code *code, const struct code *part)
 {
     memcpy(code->digit + code->length, part->digit, part->length);
+    memcpy(code->atom + code->length, part->atom, part->length);
     code->length += part->length;
 }
 
 uint64_t pairs_of(const struct code *a, const struct code *b)
 {
-    uint64_t pairs = 0;
-    for (size_t i = 0; i < a->length && i < b->length; i++) {
-        pairs++;
-        if (a->digit[i] != b->digit[i])
-            break;
-    }
-    return pairs;
+    size_t i = first_difference(a, b);
+    return i < a->length && i < b->length ? i + 1 : i;
 }
 
 struct answer telling(struct answer answer, uint64_t pairs)
@@ -43,6 +57,7 @@ struct code part_code(const struct tree *tree, unsigned vertex, unsigned parent)
 
     struct code code = {.length = 1};
     code.digit[0] = (uint8_t)children;
+    code.atom[0] = tree->atom[vertex];
     for (unsigned i = 0; i < children; i++) {
         code.pairs += child[i].pairs;
         for (unsigned j = 0; j < i; j++)

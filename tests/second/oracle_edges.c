@@ -8,7 +8,7 @@ struct row row_3(uint64_t n, uint64_t largest)
     return row_if(3, n == 0 || n > largest || n > most_vertices);
 }
 
-static struct row row_5(uint64_t n, size_t len)
+struct row row_5(uint64_t n, size_t len)
 {
     bool right = n >= 1 && len % 2 == 0 && len / 2 == n - 1;
     return row_if(5, !right);
@@ -19,7 +19,7 @@ static bool is_vertex(uint64_t v, uint64_t n)
     return v >= 1 && v <= n;
 }
 
-static struct row row_6(uint64_t n, const uint8_t *edges, size_t len, uint64_t root)
+struct row row_6(uint64_t n, const uint8_t *edges, size_t len, uint64_t root)
 {
     if (!is_vertex(root, n))
         return row_at(6, 0);
@@ -29,7 +29,7 @@ static struct row row_6(uint64_t n, const uint8_t *edges, size_t len, uint64_t r
     return row_none(6);
 }
 
-static struct row row_7(const uint8_t *edges, size_t len)
+struct row row_7(const uint8_t *edges, size_t len)
 {
     for (size_t e = 1; 2 * e <= len; e++)
         if (edges[2 * e - 2] == edges[2 * e - 1])

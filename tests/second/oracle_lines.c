@@ -22,9 +22,7 @@ static bool is_digit(uint8_t byte)
     return byte >= '0' && byte <= '9';
 }
 
-/* The length of a count at the front: one digit, or two with the first not 0; 0 when a space does not
- * follow. */
-static size_t count_length(const uint8_t *text, size_t bytes)
+size_t count_length(const uint8_t *text, size_t bytes)
 {
     if (bytes >= 2 && is_digit(text[0]) && text[1] == ' ')
         return 1;
@@ -108,8 +106,7 @@ void oracle_read_text(uint64_t edition, const uint8_t *text, size_t len, uint8_t
         struct answer answer = oracle_read_line(edition, text + from, len - from, records + i * record_bytes, record_bytes);
         numbers[i] = (uint8_t)answer.number;
         places[i] = answer.place;
-        struct line line = take_line(text + from, len - from);
-        from += line.bytes + (line.finished ? 1 : 0);
+        from += line_length(text + from, len - from);
         i++;
     }
     *lines = i;
@@ -141,24 +138,40 @@ static void print(struct print *print, const char *form, ...)
             print->out[print->written++] = (uint8_t)bytes[i];
 }
 
-/* The listing is of edition 1. */
-size_t oracle_list(const uint8_t *text, size_t len, size_t from, uint8_t *out, size_t room)
+size_t line_length(const uint8_t *text, size_t len)
+{
+    struct line line = take_line(text, len);
+    return line.bytes + (line.finished ? 1 : 0);
+}
+
+size_t list_lines(struct answer (*read)(const uint8_t *text, size_t len), const uint8_t *text, size_t len, size_t from,
+                  uint8_t *out, size_t room)
 {
     struct print to = {.from = from, .room = room, .out = out};
-    unsigned line_number = 0, read = 0;
+    unsigned line_number = 0, records = 0;
     if (len > most_input) {
         print(&to, "input too long\n");
         return to.written;
     }
     for (size_t at = 0; at < len;) {
-        uint8_t digits[record_bytes];
-        struct line line = take_line(text + at, len - at);
-        struct answer answer = oracle_read_line(1, text + at, len - at, digits, sizeof digits);
+        struct answer answer = read(text + at, len - at);
         line_number++;
-        read += answer.number == 0;
+        records += answer.number == 0;
         print(&to, "%u %u %u\n", line_number, answer.number, answer.number == 0 ? 0 : (unsigned)answer.place);
-        at += line.bytes + (line.finished ? 1 : 0);
+        at += line_length(text + at, len - at);
     }
-    print(&to, "read %u refused %u\n", read, line_number - read);
+    print(&to, "read %u refused %u\n", records, line_number - records);
     return to.written;
+}
+
+/* The listing is of edition 1. */
+static struct answer read_listed(const uint8_t *text, size_t len)
+{
+    uint8_t digits[record_bytes];
+    return oracle_read_line(1, text, len, digits, sizeof digits);
+}
+
+size_t oracle_list(const uint8_t *text, size_t len, size_t from, uint8_t *out, size_t room)
+{
+    return list_lines(read_listed, text, len, from, out, room);
 }

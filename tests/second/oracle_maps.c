@@ -39,6 +39,16 @@ static unsigned root_of(const struct tree *tree)
     return larger(&at_high, &at_low) ? high : low;
 }
 
+void map_between(const struct tree *one, const struct tree *other, uint8_t *map)
+{
+    uint8_t from[most_vertices], to[most_vertices];
+    unsigned count = 0, same = 0;
+    write_order(one, root_of(one), 0, from, &count);
+    write_order(other, root_of(other), 0, to, &same);
+    for (unsigned i = 0; i < count; i++)
+        map[from[i] - 1] = to[i];
+}
+
 /* The refusal of one of two lists, with its list; number 0 where there is none. */
 static struct answer refuse_lists(uint64_t edition, uint64_t n1, const uint8_t *e1, size_t l1, uint64_t n2, const uint8_t *e2,
                                   size_t l2)
@@ -51,7 +61,7 @@ static struct answer refuse_lists(uint64_t edition, uint64_t n1, const uint8_t *
     return second;
 }
 
-static struct answer of_map(struct answer answer)
+struct answer of_map(struct answer answer)
 {
     if (answer.number != 0)
         answer.lists_before = 2;
@@ -68,18 +78,14 @@ struct answer oracle_renumbering(uint64_t edition, uint64_t n1, const uint8_t *e
     if (verdict.place == 0)
         return telling(none, verdict.pairs);
     struct tree one = tree_of(n1, e1), other = tree_of(n2, e2);
-    uint8_t from[most_vertices], to[most_vertices], map[most_vertices];
-    unsigned count = 0, same = 0;
-    write_order(&one, root_of(&one), 0, from, &count);
-    write_order(&other, root_of(&other), 0, to, &same);
-    for (unsigned i = 0; i < count; i++)
-        map[from[i] - 1] = to[i];
-    return of_map(telling(deliver(none, map, count, out, room), verdict.pairs));
+    uint8_t map[most_vertices];
+    map_between(&one, &other, map);
+    return of_map(telling(deliver(none, map, n1, out, room), verdict.pairs));
 }
 
 /* ---- A partner's own ---- */
 
-static struct row row_18(uint64_t n, const uint8_t *map, size_t len)
+struct row row_18(uint64_t n, const uint8_t *map, size_t len)
 {
     for (size_t p = 1; p <= len; p++) {
         if (map[p - 1] == 0 || map[p - 1] > n)
@@ -106,7 +112,7 @@ static unsigned sent(const uint8_t *map, size_t len, unsigned v)
     return v >= 1 && v <= len ? map[v - 1] : 0;
 }
 
-static struct row row_19(const uint8_t *e1, size_t l1, const uint8_t *e2, size_t l2, const uint8_t *map, size_t len)
+struct row row_19(const uint8_t *e1, size_t l1, const uint8_t *e2, size_t l2, const uint8_t *map, size_t len)
 {
     for (size_t e = 1; 2 * e <= l1; e++)
         if (!has_edge(e2, l2, sent(map, len, e1[2 * e - 2]), sent(map, len, e1[2 * e - 1])))

@@ -36,15 +36,17 @@ struct answer deliver(struct answer refusal, const uint8_t *result, size_t lengt
 /* Dictionary order: 0 a before b, 1 equal, 2 a after b; a proper prefix stands before. */
 unsigned order_of(const uint8_t *a, size_t an, const uint8_t *b, size_t bn);
 
-/* A digit code that is known to fit, and the pairs of digits looked at for it. */
+/* A digit code that is known to fit, with the atom of each digit's vertex (all carbon in a plain one), and the pairs looked
+ * at for it. */
 struct code {
     size_t length;
     uint8_t digit[most_vertices];
+    uint8_t atom[most_vertices];
     uint64_t pairs;
 };
 
-/* The pairs looked at when two codes are compared: up to and including the first difference, or the whole code
- * if equal. */
+/* The pairs looked at when two codes are compared vertex by vertex, the digit and then the atom: up to and including the
+ * first difference, or the whole code if equal. */
 uint64_t pairs_of(const struct code *a, const struct code *b);
 
 /* The answer, which tells the pairs where it is no refusal. */
@@ -83,7 +85,11 @@ struct tree {
     unsigned n;
     unsigned degree[most_vertices + 1];
     unsigned neighbour[most_vertices + 1][most_neighbours];
+    uint8_t atom[most_vertices + 1];
 };
+
+/* Atoms in their order; a plain skeleton has carbon everywhere. */
+enum { carbon = 0, nitrogen = 1, oxygen = 2 };
 
 struct tree tree_of(uint64_t n, const uint8_t *edges);
 struct tree tree_of_code(const uint8_t *digits, size_t n);
@@ -99,5 +105,58 @@ struct code centred_code(const struct tree *tree);
 unsigned centre(const struct tree *tree, unsigned middle[2]);
 
 bool same_digits(const uint8_t *digits, size_t count, const struct code *code);
+bool same_code(const struct code *a, const struct code *b); /* digits and atoms */
+
+/* The classes of a tree's vertices, by their numbers, counted from 1 by first appearance. */
+void classes_in(const struct tree *tree, uint8_t *class);
+
+/* Where the vertices of one tree go in another of the same centred code: the map that is handed out. */
+void map_between(const struct tree *one, const struct tree *other, uint8_t *map);
+
+/* Rows of maps. */
+struct row row_18(uint64_t n, const uint8_t *map, size_t len);
+struct row row_19(const uint8_t *e1, size_t l1, const uint8_t *e2, size_t l2, const uint8_t *map, size_t len);
+struct answer of_map(struct answer answer);
+
+/* Rows of an edge list that have no word of their own above. */
+struct row row_5(uint64_t n, size_t len);
+struct row row_6(uint64_t n, const uint8_t *edges, size_t len, uint64_t root);
+struct row row_7(const uint8_t *edges, size_t len);
+
+/* The listing of a text by a reader of its first line. */
+size_t list_lines(struct answer (*read)(const uint8_t *text, size_t len), const uint8_t *text, size_t len, size_t from,
+                  uint8_t *out, size_t room);
+
+/* The length of a line with its line feed, where it has one. */
+size_t line_length(const uint8_t *text, size_t len);
+
+/* The length of a count of vertices at the front, one digit or two; 0 when a space does not follow. */
+size_t count_length(const uint8_t *text, size_t bytes);
+
+/* ---- Named atoms ---- */
+
+/* How many neighbours an atom may have. */
+unsigned limit_of_atom(uint8_t atom);
+
+/* The letters of atoms, and the atom of a letter. */
+bool is_letter(uint8_t byte);
+uint8_t atom_of(uint8_t letter);
+uint8_t letter_of(uint8_t atom);
+
+/* Rows of letters: other marks, letters that are not so many, a digit above its atom's cap. */
+struct row row_2_letters(const uint8_t *letters, size_t count);
+struct row row_21_letters(uint64_t wanted, size_t count);
+struct row row_20_digits(const uint8_t *digits, const uint8_t *letters, size_t count);
+
+/* Rows 10 to 13 of digits, each with its letter; siblings are compared with their atoms. */
+struct answer refuse_named_digits(const uint8_t *digits, const uint8_t *letters, size_t count);
+
+/* A code with letters that has its right end, and its tree. */
+struct code named_code(const uint8_t *digits, const uint8_t *letters, size_t count);
+struct tree tree_of_named_code(const struct code *code);
+
+/* The last step of a call with two lent outputs; 15 is that of the first that is too short. */
+struct answer deliver_named(struct answer refusal, const uint8_t *result, size_t length, const uint8_t *letters, size_t count,
+                            uint8_t *out, size_t room, uint8_t *out_letters, size_t letters_room);
 
 #endif

@@ -325,6 +325,53 @@ static void editions(void)
     }
 }
 
+static struct answer named(const char *text)
+{
+    uint8_t letters[64];
+    return oracle_named_read_line((const uint8_t *)text, strlen(text), out, sizeof out, letters, sizeof letters);
+}
+
+/* Wish 7: the order of refusals in a named line, marks of digit and atom, counts of any length. */
+static void named_lines(void)
+{
+    REFUSED(named("6 210110 CNCCCC 5 1 0\n"), 0, 6);
+    REFUSED(line("6 210110\n"), 13, 4);
+    REFUSED(named("6 211010 CCNCCC 5 1 0\n"), 14, 0);
+    REFUSED(named("2 10 OC 1 0 1\n"), 0, 2);
+    REFUSED(named("2 10 CO 1 0 1\n"), 14, 0);
+    REFUSED(named("2 10 OC 1 0 18446744073709551617\n"), 21, 0);
+    REFUSED(named("2 10 OC 1 0 01\n"), 2, 0);
+    REFUSED(named("2 10 OC 1 0 1"), 1, 0);
+    REFUSED(named("2 10\n"), 2, 0);
+    REFUSED(named("2 10 OC 1 0 1 \n"), 2, 0);
+    REFUSED(named("2 10  1 0 1\n"), 2, 0);
+    REFUSED(named("2 10 Oc 1 0 1\n"), 2, 0);
+    REFUSED(named("0 10 OC 1 0 1\n"), 3, 0);
+    REFUSED(named("3 10 OC 1 0 1\n"), 5, 0);
+    REFUSED(named("2 90 OCC 1 0 1\n"), 21, 0);
+    REFUSED(named("2 90 OC 1 1 0\n"), 21, 0);
+    REFUSED(named("3 004 COC 2 0 1\n"), 10, 3);
+    REFUSED(named("3 002 CCO 2 0 1\n"), 20, 3);
+    REFUSED(named("3 200 CCC 3 0 0\n"), 0, 3);
+}
+
+/* Five edges at a nitrogen are 9 at the fifth, four 20 at the fourth; an atom's 14 comes before that of a numbering. */
+static void named_edges(void)
+{
+    const uint8_t star[] = {1, 2, 1, 3, 1, 4, 1, 5, 1, 6}, path[] = {1, 3, 3, 2};
+    uint64_t value;
+    REFUSED(oracle_named_check_edges(6, star, 10, (const uint8_t *)"NCCCCC", 6, 1), 9, 5);
+    REFUSED(oracle_named_check_edges(5, star, 8, (const uint8_t *)"NCCCC", 5, 1), 20, 4);
+    REFUSED(oracle_named_check_edges(4, star, 6, (const uint8_t *)"OCCC", 4, 1), 20, 3);
+    REFUSED(oracle_named_check_edges(4, star, 6, (const uint8_t *)"NCCC", 4, 1), 0, 0);
+    REFUSED(oracle_named_check_edges(0, star, 6, (const uint8_t *)"X", 1, 1), 2, 0);
+    REFUSED(oracle_named_cam(3, path, 4, (const uint8_t *)"CCC", 3, out, sizeof out), 14, 2);
+    REFUSED(oracle_named_cam(3, path, 4, (const uint8_t *)"CCN", 3, out, sizeof out), 14, 3);
+    REFUSED(oracle_named_a_zero_by_code(3, path, 4, (const uint8_t *)"CON", 3, &value), 14, 2);
+    REFUSED(oracle_named_plain_line(3, path, 4, (const uint8_t *)"CCO", 3, out, sizeof out), 14, 3);
+    REFUSED(oracle_named_check_renumbering(1, path, 0, (const uint8_t *)"C", 1, 1, path, 0, (const uint8_t *)"O", 1, (const uint8_t *)"\1", 1), 18, 1);
+}
+
 int main(void)
 {
     p_rows();
@@ -337,6 +384,8 @@ int main(void)
     lent_outputs();
     classes();
     editions();
+    named_lines();
+    named_edges();
     printf("oracle: %u figures of documents 01 and 02 held\n", held);
     return 0;
 }

@@ -1,4 +1,5 @@
-/* The refusal table: 22 comes before all others, then the lowest number wins, then its first place; 15 comes last of all. */
+/* The refusal table: 22 comes before all others, 21 behind 5 and 20 behind 10; then the lowest number wins, then its first place; 15 comes last
+ * of all. */
 #include <string.h>
 
 #include "oracle_parts.h"
@@ -30,7 +31,7 @@ struct row row_22(uint64_t edition)
 
 static unsigned rank(unsigned number)
 {
-    return number == 22 ? 0 : number;
+    return number == 22 ? 0 : number == 21 ? 2 * 5 + 1 : number == 20 ? 2 * 10 + 1 : 2 * number;
 }
 
 struct answer lowest(const struct row *rows, size_t count)

@@ -1,5 +1,5 @@
 /* Equal vertices, in the centred code's numbering: two are in one class when some renumbering that keeps all edges
- * carries one to the other. Small skeletons are told by trying renumberings; larger ones by the codes at the two
+ * carries one to the other; atoms are kept too. Small skeletons are told by trying renumberings; larger ones by the codes at the two
  * vertices as roots, which are equal exactly then. */
 #include "oracle_parts.h"
 
@@ -16,7 +16,7 @@ struct trial {
 /* Whether w may be the image of v: unused, and joined to the images before as v is to their vertices. */
 static bool fits(const struct trial *trial, unsigned v, unsigned w)
 {
-    if (trial->used[w] || (v == trial->from) != (w == trial->to))
+    if (trial->used[w] || (v == trial->from) != (w == trial->to) || trial->tree->atom[v] != trial->tree->atom[w])
         return false;
     for (unsigned u = 1; u < v; u++)
         if (are_joined(trial->tree, u, v) != are_joined(trial->tree, trial->image[u], w))
@@ -52,7 +52,25 @@ static bool carried(const struct tree *tree, const struct code *at, unsigned u, 
 {
     if (tree->n <= most_tried)
         return some_renumbering(tree, u, v);
-    return same_digits(at[u].digit, at[u].length, &at[v]);
+    return same_code(&at[u], &at[v]);
+}
+
+void classes_in(const struct tree *tree, uint8_t *class)
+{
+    struct code at[most_vertices + 1];
+    for (unsigned v = 1; v <= tree->n && tree->n > most_tried; v++)
+        at[v] = rooted_code(tree, v);
+
+    uint8_t first[most_vertices]; /* the first vertex of each class */
+    uint8_t classes = 0;
+    for (unsigned v = 1; v <= tree->n; v++) {
+        uint8_t k = 0;
+        while (k < classes && !carried(tree, at, first[k], v))
+            k++;
+        if (k == classes)
+            first[classes++] = (uint8_t)v;
+        class[v - 1] = k + 1;
+    }
 }
 
 struct answer oracle_equal_vertices(uint64_t edition, uint64_t n, const uint8_t *edges, size_t len, uint8_t *out, size_t room)
@@ -63,21 +81,7 @@ struct answer oracle_equal_vertices(uint64_t edition, uint64_t n, const uint8_t 
     struct tree as_lent = tree_of(n, edges);
     struct code code = centred_code(&as_lent);
     struct tree tree = tree_of_code(code.digit, code.length);
-
-    struct code at[most_vertices + 1];
-    for (unsigned v = 1; v <= n && n > most_tried; v++)
-        at[v] = rooted_code(&tree, v);
-
     uint8_t class[most_vertices];
-    uint8_t first[most_vertices]; /* the first vertex of each class */
-    uint8_t classes = 0;
-    for (unsigned v = 1; v <= n; v++) {
-        uint8_t k = 0;
-        while (k < classes && !carried(&tree, at, first[k], v))
-            k++;
-        if (k == classes)
-            first[classes++] = (uint8_t)v;
-        class[v - 1] = k + 1;
-    }
+    classes_in(&tree, class);
     return telling(deliver(refusal, class, n, out, room), code.pairs);
 }

@@ -20,7 +20,7 @@ static const struct {
 } pieces[] = {
     {"code", piece_code},           {"edges", piece_edges}, {"form", piece_form},         {"bits", piece_bits},
     {"adjacency", piece_adjacency}, {"lines", piece_lines}, {"vertices", piece_vertices},
-    {"maps", piece_maps},
+    {"maps", piece_maps},           {"named", piece_named}, {"named_lines", piece_named_lines},
 };
 
 enum { count = sizeof pieces / sizeof *pieces };

@@ -10,6 +10,8 @@ void piece_adjacency(void);
 void piece_lines(void);
 void piece_vertices(void);
 void piece_maps(void);
+void piece_named(void);
+void piece_named_lines(void);
 
 /* The wrong answers of mock.c: makes the calls answer wrongly in the way of this name, false where there is
  * none; and writes, a line for each, the piece that must catch it and its name. */

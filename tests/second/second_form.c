@@ -26,7 +26,7 @@ static void check_back(const struct call *reads, const struct call *codes, const
     struct input back = {.edition = edition, .n = list.n, .bytes = list.ends, .len = list.len};
     check(codes, back);
     struct bytes again;
-    again.len = codes->ours(&back, again.byte, sizeof again.byte).place;
+    again.len = codes->ours(&back, again.byte, sizeof again.byte, NULL, 0).place;
     claim(same_bytes(code, &again), "decoding and coding gives the code again");
 }
 

@@ -120,78 +120,23 @@ static struct text random_text(unsigned lines, unsigned largest)
     return text;
 }
 
-/* One byte changed: at least one refusal, only records that were written, in order, and at most two lost. */
-static void claim_single(const struct reading *clean, const struct reading *damaged)
-{
-    uint64_t refused = 0, accepted = 0, next = 0;
-    for (uint64_t i = 0; i < damaged->lines; i++) {
-        if (damaged->numbers[i] != 0) {
-            refused++;
-            continue;
-        }
-        accepted++;
-        while (next < clean->lines && !same_line(clean, next, damaged, i))
-            next++;
-        claim(next < clean->lines, "a damaged text gives only records that were written, in order");
-        next++;
-    }
-    claim(refused >= 1, "a text with one byte changed has a refused line");
-    claim(accepted + 2 >= clean->lines, "one byte changed loses at most two records");
-}
-
-static void replace(struct text *text, size_t from, size_t count, const uint8_t *by, size_t by_count)
-{
-    memmove(text->byte + from + by_count, text->byte + from + count, text->len - from - count);
-    memcpy(text->byte + from, by, by_count);
-    text->len = text->len - count + by_count;
-}
-
-static void check_change(const struct text *text, const struct reading *clean, size_t at, size_t lost,
-                         const uint8_t *by, size_t by_count)
-{
-    static struct reading damaged;
-    static struct text changed;
-    changed.len = text->len;
-    memcpy(changed.byte, text->byte, text->len);
-    replace(&changed, at, lost, by, by_count);
-    check_text(&changed, &damaged);
-    claim_single(clean, &damaged);
-}
-
-/* Every place of a clean text: its byte lost, replaced, and preceded by a spread of bytes. */
-static void every_change(const struct text *text)
-{
-    static struct reading clean;
-    check_text(text, &clean);
-    for (uint64_t i = 0; i < clean.lines; i++)
-        claim(clean.numbers[i] == 0, "a clean text is all records");
-    for (size_t at = 0; at <= text->len; at++) {
-        const uint8_t spread[] = {'0', '1', '2', '3', '4', '8', '9', ' ', '\n', '\r', ',', '/', ':', 0, 255,
-                                  (uint8_t)below(256)};
-        if (at < text->len)
-            check_change(text, &clean, at, 1, spread, 0);
-        for (size_t k = 0; k < sizeof spread; k++) {
-            check_change(text, &clean, at, 0, &spread[k], 1);
-            if (at < text->len && text->byte[at] != spread[k])
-                check_change(text, &clean, at, 1, &spread[k], 1);
-        }
-    }
-}
+/* Bytes that a change puts in. */
+static const char spread[] = {'0', '1', '2', '3', '4', '8', '9', ' ', '\n', '\r', ',', '/', ':', 0, (char)255};
 
 static void single_changes(void)
 {
     for (unsigned round = 0; round < rounds(260); round++) {
         struct text text = random_text((unsigned)below(6), 1 + (unsigned)below(neighbours() + 5));
-        every_change(&text);
+        every_change(check_text, spread, sizeof spread, &text);
     }
     for (unsigned round = 0; round < rounds(40); round++) {
         struct text text = random_text(1 + (unsigned)below(3), 25);
-        every_change(&text);
+        every_change(check_text, spread, sizeof spread, &text);
     }
     struct list list = random_tree(64);
     struct text text = random_text(1, 64);
     append_line(&text, &list);
-    every_change(&text);
+    every_change(check_text, spread, sizeof spread, &text);
 }
 
 /* A stretch replaced by anything: lines that end before it, and lines behind the first line feed after it,
@@ -207,7 +152,7 @@ static void larger_damage(void)
         size_t by_count = below(sizeof by);
         for (size_t i = 0; i < by_count; i++)
             by[i] = (uint8_t)(one_in(8) ? below(256) : (uint8_t)likely[below(sizeof likely - 1)]);
-        replace(&changed, from, lost, by, by_count);
+        replace_stretch(&changed, from, lost, by, by_count);
         check_text(&text, &clean);
         check_text(&changed, &damaged);
         check_short_room(&changed);

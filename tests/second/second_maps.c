@@ -52,7 +52,7 @@ static struct bytes check_pair(const struct list *a, const struct list *b)
     if (answer.number != 0 || answer.place == 0)
         return map;
     in.edition = edition;
-    map.len = call_renumbering.theirs(&in, map.byte, sizeof map.byte, &pairs);
+    map.len = call_renumbering.theirs(&in, map.byte, sizeof map.byte, NULL, 0, &pairs);
     claim_carries(a, b, &map);
     claim(check_map(a, b, &map).number == 0, "a map that is handed out is accepted");
     return map;

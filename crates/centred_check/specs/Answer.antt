@@ -15,13 +15,14 @@ use Rattle.digit_code.specs.Digits as CodeSaid
 use Rattle.digit_code.specs.Ends.{Ends}
 use Rattle.digit_code.specs.Ordered.{Ordered}
 use Rattle.digit_code.specs.Right.{RightCode, right-clear, clear-right}
-use Rattle.skeleton.specs.Label.{Marks, digits}
+use Rattle.skeleton.specs.document.Label.{Marks, digits}
 use Rattle.skeleton.specs.Base.{base}
 use Rattle.form.specs.document.Form.{centred, row14-form, formRows}
-use Rattle.form.specs.Labelled.{centredₗ, Own, row14ₗ}
+use Rattle.form.specs.document.Labelled.{centredₗ, Own, row14ₗ}
+use Rattle.form.specs.Forms.{own-base}
 use Rattle.centred_check.specs.Middle.{Middle}
 use Rattle.laws.specs.Tells.{Tells, was-held, was-denied}
-use Rattle.centred_check.specs.Theorems.{rooted-centredₗ, own-base}
+use Rattle.centred_check.specs.Theorems.{rooted-centredₗ}
 
 -- by what the test told of a right code
 module _ (M : Marks) {c : List ℕ} (e : Ends 1 (CodeSaid.digits (M .arity) c)) (o : Ordered (M .arity) c) where

@@ -1,46 +1,22 @@
--- The marks of the programs, by kind: plain, where a digit is the mark, or with named atoms. In order: marks, the limit of neighbours that a
--- mark tells, and how far marks with one child more stand apart; then that the program's arithmetic is theirs. Assumes nothing.
+-- The marks of the programs, by kind: plain, where a digit is the mark, or with named atoms. In order: marks, and how far marks with one child more stand apart; then that the program's arithmetic is theirs. Assumes nothing.
 use mathlib.Core.Path.{_≡_, refl}
 use mathlib.Core.Bool.{Bool, true, false}
-use Prim.Native.Nat.{ℕ, _+_, _-_, _%_, _≤_}
+use Prim.Native.Nat.{ℕ, _+_, _-_, _≤_}
 use native.Mathlib.Omega.{arith}
-use Rattle.limits.specs.Atoms.{atomNames, atomBonds}
-use Rattle.skeleton.specs.Label.{Marks}
+use Rattle.limits.specs.Atoms.{atomNames}
+use Rattle.skeleton.specs.document.Label.{Marks}
+use Rattle.skeleton.specs.Label.{more, fewer}
 use Rattle.skeleton.specs.Base.{base}
-use Rattle.skeleton.specs.Atoms.{Atom, C, N, O, rank, named, bonds, atoms, rank-named}
-use Rattle.centred_check.specs.Middle.{more, fewer}
+use Rattle.skeleton.specs.document.AtomMarks.{atoms}
 
 abbrev pub kinds : Bool → Marks
 kinds false = base
 kinds true = atoms
 
--- R is the limit where the marks are plain
-abbrev pub limits : Bool → ℕ → ℕ → ℕ
-limits false R m = R
-limits true R m = bonds (named (m % atomNames))
-
 -- between a mark and that of one child more
 abbrev pub unit : Bool → ℕ
 unit false = 1
 unit true = atomNames
-
-bonds-rank : (a : Atom) → bonds a ≡ atomBonds - rank a
-bonds-rank C = refl
-bonds-rank N = refl
-bonds-rank O = refl
-
-bonds-are : (m : ℕ) → atomBonds - m % atomNames ≡ bonds (named (m % atomNames))
-bonds-are m = omega (arith, bonds-rank (named (m % 3)), rank-named (m % 3) (omega arith))
-
-pub limits-named : {b : Bool} (R m : ℕ) → b ≡ true → atomBonds - m % atomNames ≡ limits b R m
-limits-named R m e = rw e (bonds-are m)
-
-pub limits-plain : {b : Bool} (R m : ℕ) → b ≡ false → R ≡ limits b R m
-limits-plain R m e = rw e refl
-
-pub limits-some : (b : Bool) (R m : ℕ) → 1 ≤ R → 1 ≤ limits b R m
-limits-some false R m h = h
-limits-some true R m h = omega (arith, bonds-are m)
 
 pub more-is : (b : Bool) (m : ℕ) → more (kinds b) m ≡ m + unit b
 more-is false m = omega arith

@@ -11,7 +11,7 @@ use Rattle.laws.specs.Falling.{Falling}
 use Rattle.laws.specs.Sorting.{trans≽}
 use Rattle.laws.specs.Perms.{front}
 use Rattle.skeleton.specs.Forest.{Forest, none, tree, vertices, hung}
-use Rattle.skeleton.specs.Label.{Marks}
+use Rattle.skeleton.specs.document.Label.{Marks}
 use Rattle.skeleton.specs.Decoding.{width, shape, marks}
 use Rattle.skeleton.specs.Ordered.{strings, strings-marks, Down}
 use Rattle.longest_path.specs.Heights.{tall}

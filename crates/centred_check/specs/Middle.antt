@@ -7,14 +7,15 @@
 use mathlib.Core.Path.{_≡_}
 use mathlib.Core.Logic.{_⊎_, ite}
 use mathlib.Core.List.{List, [], _∷_, _++_, flatten}
-use Prim.Native.Nat.{ℕ, suc, max, _-_}
+use Prim.Native.Nat.{ℕ, suc, max}
 use native.Mathlib.Decide.{decLt}
 use lib.ListN.{length, getD, take, drop}
 use Rattle.laws.specs.document.Order.{_≽_, insert}
 use Rattle.laws.specs.Part.{part}
 use Rattle.digit_code.specs.document.Code.{codes}
 use Rattle.digit_code.specs.Digits.{digits}
-use Rattle.skeleton.specs.Label.{Marks}
+use Rattle.skeleton.specs.document.Label.{Marks}
+use Rattle.skeleton.specs.Label.{more, fewer}
 
 -- the greatest, 0 where there is none
 unfoldable pub top : List ℕ → ℕ
@@ -41,24 +42,17 @@ module _ (M : Marks) where
   abbrev pub tops : List ℕ → List ℕ
   tops c = heights (digits (M .arity) (drop 1 c))
 
-  -- a mark that tells of one child more, and of one fewer
-  abbrev pub more : ℕ → ℕ
-  more m = M .mark (suc (M .arity m)) (M .atom m)
-
-  abbrev pub fewer : ℕ → ℕ
-  fewer m = M .mark (M .arity m - 1) (M .atom m)
-
   -- where branch i of the root begins
   unfoldable pub branch : List ℕ → ℕ → ℕ
   branch c i = suc (length (flatten (take i (codes (M .arity) (drop 1 c)))))
 
   -- the code that is left where the branch from x to e is taken off
   unfoldable pub rest : List ℕ → ℕ → ℕ → List ℕ
-  rest c x e = fewer (getD c 0 0) ∷ (part 1 x c ++ drop e c)
+  rest c x e = fewer M (getD c 0 0) ∷ (part 1 x c ++ drop e c)
 
   -- the code at the root of that branch: what is left is put among its children
   unfoldable pub turned : List ℕ → ℕ → ℕ → List ℕ
-  turned c x e = more (getD c x 0) ∷ flatten (insert (rest c x e) (take (M .arity (getD c x 0)) (codes (M .arity) (drop (suc x) c))))
+  turned c x e = more M (getD c x 0) ∷ flatten (insert (rest c x e) (take (M .arity (getD c x 0)) (codes (M .arity) (drop (suc x) c))))
 
   -- the code at the root of the first tallest branch
   unfoldable pub other : List ℕ → List ℕ

@@ -13,8 +13,9 @@ use Rattle.laws.specs.Part.{part, part-cons, part-length, part-join}
 use Rattle.digit_code.specs.declared.Order.the-variants.{Less, Equal, Greater}
 use Rattle.digit_code.specs.document.Code.{codes}
 use Rattle.digit_code.specs.Compare.{lex}
-use Rattle.skeleton.specs.Label.{Marks}
-use Rattle.centred_check.specs.Middle.{more, fewer, rest, turned, branch}
+use Rattle.skeleton.specs.document.Label.{Marks}
+use Rattle.skeleton.specs.Label.{more, fewer}
+use Rattle.centred_check.specs.Middle.{rest, turned, branch}
 use Rattle.centred_check.specs.Skip.{codes-few, Skips, skips-length, skips-on}
 use Rattle.centred_check.specs.Pieces.{part-rest, head-rises, head-falls, heads-same, piece-rises, piece-falls, pieces-same}
 use Rattle.centred_check.specs.Spot.{Spot}

@@ -12,7 +12,7 @@ use lib.Seq.{drop-cons, drop-length}
 use Rattle.laws.specs.document.Order.{_≽_}
 use Rattle.laws.specs.Tells.{Tells, holds, denies}
 use Rattle.digit_code.specs.document.Code.{codes}
-use Rattle.skeleton.specs.Label.{Marks}
+use Rattle.skeleton.specs.document.Label.{Marks}
 use Rattle.centred_check.specs.Middle.{top, peak, second, tops, branch, turned, other, Middle}
 use Rattle.centred_check.specs.Stack.{heights-length, Branches}
 use Rattle.centred_check.specs.Lift.{second-below, peak-here, peak-past, second-here, second-past}

@@ -12,7 +12,7 @@ use Rattle.laws.specs.Sorting.{refl≽}
 use Rattle.skeleton.specs.document.Skeleton.{IsTree, Renumbering}
 use Rattle.skeleton.specs.Forest.{Forest, none, tree, Rooted}
 use Rattle.skeleton.specs.Grow.{rooted-tree}
-use Rattle.skeleton.specs.Label.{Marks, rootedₗ, Keeps}
+use Rattle.skeleton.specs.document.Label.{Marks, rootedₗ, Keeps}
 use Rattle.skeleton.specs.Decoding.{width, marks}
 use Rattle.skeleton.specs.Sorted.{sorted, sorted-below, sorted-falling}
 use Rattle.skeleton.specs.Ordered.{strings, Down, down-branches, sorted-down}
@@ -21,7 +21,7 @@ use Rattle.longest_path.specs.document.Path.{IsCentre}
 use Rattle.longest_path.specs.Heights.{tall}
 use Rattle.longest_path.specs.Balance as Balance
 use Rattle.longest_path.specs.Theorems as Paths
-use Rattle.form.specs.Labelled.{centredₗ}
+use Rattle.form.specs.document.Labelled.{centredₗ}
 use Rattle.centred_check.specs.Middle.{peak, second, other, Middle}
 use Rattle.centred_check.specs.Lift.{Lifted, talls, top-talls, second-below, lift}
 use Rattle.centred_check.specs.Turn.{Falls, moved, turned-round, code-is, code-more, other-is, heights-whole}

@@ -16,7 +16,7 @@ use Rattle.digit_code.specs.Ends.{Ends}
 use Rattle.digit_code.specs.Ordered.{Ordered, by-places}
 use Rattle.digit_code.specs.Parts.{enough}
 use Rattle.digit_code.specs.Right.{Rightₗ}
-use Rattle.skeleton.specs.Label.{Marks}
+use Rattle.skeleton.specs.document.Label.{Marks}
 use Rattle.centred_check.specs.Skip.{root-codes}
 use Rattle.centred_check.specs.Stack.{Stacked, Branches, stack-start, stack-room, stack-next}
 use Rattle.centred_check.specs.Placed.{Placed, Joins, placed-start, placed-first, placed-next}

@@ -13,7 +13,7 @@ use Rattle.digit_code.specs.document.Code.{codes}
 use Rattle.digit_code.specs.Digits.{digits}
 use Rattle.digit_code.specs.Ends.{Ends}
 use Rattle.digit_code.specs.Parts.{enough}
-use Rattle.skeleton.specs.Label.{Marks}
+use Rattle.skeleton.specs.document.Label.{Marks}
 use Rattle.centred_check.specs.Middle.{rest}
 use Rattle.centred_check.specs.Skip.{codes-few, Skips, skips-after, skips-passed, skips-on, skips-left, one-part, one-children}
 

@@ -9,7 +9,7 @@ use Rattle.laws.specs.Part.{part, part-cons}
 use Rattle.limits.specs.document.Limits.{size}
 use Rattle.digit_code.specs.document.Code.{codes}
 use Rattle.digit_code.specs.Digits.{digits}
-use Rattle.skeleton.specs.Label.{Marks}
+use Rattle.skeleton.specs.document.Label.{Marks}
 use Rattle.centred_check.specs.Middle.{top, heights, tops}
 use Rattle.centred_check.specs.Skip.{codes-few}
 

@@ -1,5 +1,5 @@
 -- The test of a centred code by its marks, proved to be the definition: with labels, and for document 01's codes. Assumes nothing.
-use mathlib.Core.Path.{_≡_, sym, ap, _∙_, subst}
+use mathlib.Core.Path.{_≡_, sym, subst}
 use mathlib.Core.Logic.{_↔_}
 use mathlib.Core.List.{List}
 use Prim.Native.Nat.{ℕ, _≤_}
@@ -8,13 +8,16 @@ use lib.ListN.{length, length-map}
 use Rattle.digit_code.specs.document.Code.{plain, decode}
 use Rattle.digit_code.specs.Ends.{Ends, ends-sum}
 use Rattle.digit_code.specs.Ordered.{Ordered}
-use Rattle.skeleton.specs.document.Skeleton.{IsTree, rooted}
-use Rattle.skeleton.specs.Label.{Marks, rootedₗ, digits, labels, IsRootedₗ}
-use Rattle.skeleton.specs.Base.{base, rooted-base, digits-base}
+use Rattle.skeleton.specs.document.Skeleton.{IsTree}
+use Rattle.skeleton.specs.document.Label.{Marks, rootedₗ, digits, labels}
+use Rattle.skeleton.specs.Label.{IsRootedₗ}
+use Rattle.skeleton.specs.Base.{base, digits-base}
 use Rattle.skeleton.specs.General.{decode-code, decoded-tree}
 use Rattle.skeleton.specs.Ordered.{code-orderedₗ}
-use Rattle.form.specs.document.Form.{Centred, centred}
-use Rattle.form.specs.Labelled.{centredₗ, Own, centred-formₗ, is-rootedₗ}
+use Rattle.form.specs.document.Form.{centred}
+use Rattle.form.specs.document.Labelled.{centredₗ, Own}
+use Rattle.form.specs.Labelled.{centred-formₗ, is-rootedₗ}
+use Rattle.form.specs.Forms.{own-base}
 use Rattle.centred_check.specs.Middle.{Middle}
 use Rattle.centred_check.specs.Root.{middle-iff, centred-at, at-centred}
 
@@ -51,11 +54,6 @@ pub rooted-centredₗ : (M : Marks) (c : List ℕ) → Ends 1 (digits M c) → O
 rooted-centredₗ M c h o = (λ m. fast-iffₗ M c .0 (h, o, m) .1, λ k. fast-iffₗ M c .1 (h, k) .2)
 
 -- ---- document 01's codes
-
-pub own-base : (c : List ℕ) → Own base (centredₗ base) c ≡ centred (length c) (decode c) c
-own-base c =
-    let at-base : rootedₗ base (labels base c) (length c) (decode (digits base c)) ≡ rooted (length c) (decode (digits base c)) = λ i r. rooted-base (labels base c) (length c) (decode (digits base c)) r i in
-    ap (λ at. Centred (length c) (decode (digits base c)) at c) at-base ∙ ap (λ d. centred (length c) (decode d) c) (digits-base c)
 
 -- Digits are the centred code of what they decode to exactly when they end, no child's code is larger than that of the sibling before it,
 -- and the root is in the centre with no larger code there.

@@ -15,11 +15,12 @@ use Rattle.laws.specs.document.Once.{Once}
 use Rattle.digit_code.specs.document.Code.{codes}
 use Rattle.skeleton.specs.Forest.{Forest, tree, vertices, hung, Rooted}
 use Rattle.skeleton.specs.Forests.{count-vertices, distinct-once}
-use Rattle.skeleton.specs.Label.{Marks, joinₗ, rootedₗ, digits}
+use Rattle.skeleton.specs.document.Label.{Marks, joinₗ, rootedₗ, digits}
+use Rattle.skeleton.specs.Label.{more, fewer}
 use Rattle.skeleton.specs.Codes.{branches, rooted-join}
 use Rattle.skeleton.specs.Decoding.{width, shape, marks, marks-digits}
 use Rattle.skeleton.specs.Ordered.{strings, strings-length, strings-marks, codes-forest, first-codes, Down, down-branches}
-use Rattle.centred_check.specs.Middle.{peak, heights, more, fewer, branch, rest, turned, other}
+use Rattle.centred_check.specs.Middle.{peak, heights, branch, rest, turned, other}
 use Rattle.centred_check.specs.Lift.{Lifted, talls, heights-forest}
 
 -- the same tree with another root, or another order of its vertices

@@ -4,7 +4,6 @@
 use digit_code::Order;
 use digit_code::compare;
 use limits::ATOMS;
-use limits::BONDS;
 use limits::SIZE;
 use refusal::Check;
 ghost use mathlib.Core.Path.{_≡_};
@@ -25,8 +24,8 @@ ghost use Rattle.digit_code.specs.Ordered.{Ordered};
 ghost use Rattle.digit_code.specs.Right.{Rightₗ};
 ghost use Rattle.digit_code.specs.Compare.{lex, pairsOf, further};
 ghost use Rattle.form.specs.document.Form.{centred, formRows};
-ghost use Rattle.form.specs.Labelled.{centredₗ, row14ₗ};
-ghost use Rattle.centred_check.specs.Kinds.{kinds, limits, unit};
+ghost use Rattle.form.specs.document.Labelled.{centredₗ, row14ₗ};
+ghost use Rattle.centred_check.specs.Kinds.{kinds, unit};
 ghost use Rattle.centred_check.specs.Middle.{top, rest, turned, branch, Middle};
 ghost use Rattle.centred_check.specs.Skip.{Skips};
 ghost use Rattle.centred_check.specs.Stack.{Branches};
@@ -35,14 +34,7 @@ ghost use Rattle.centred_check.specs.Scan.{Scan, Scanned};
 ghost use Rattle.centred_check.specs.Spot.{Spot};
 
 // Places for where the trees on the stack begin, one for each, and one more for where the digits end. No place of the stack has this number.
-const STARTS: usize = SIZE + 1;
-
-// How many neighbours the vertex of mark m may have.
-fn most(named: bool, limit: u8, m: u8) -> u8
-    ensures { λ r. ⌜ r ≡ limits named limit m ⌝ }
-{
-    if named { BONDS - m % ATOMS } else { limit }
-}
+pub const STARTS: usize = SIZE + 1;
 
 // How far the mark of a vertex with one child more is from a mark.
 fn step(named: bool) -> u8
@@ -126,12 +118,12 @@ fn rooted(
     at: usize,
 ) -> bool
     requires { ⌜ now ds ≡ digits (kinds named .arity) (now code) ⌝ }
-    requires { ⌜ Scan (kinds named) (limits named limit) (now code) (now hs) (now starts) 1 at ⌝ }
+    requires { ⌜ Scan (kinds named) (λ m. limit) (now code) (now hs) (now starts) 1 at ⌝ }
     requires { ⌜ length (now code) ≤ size ⌝ }
-    ensures { λ r. ⌜ Tells (Rightₗ (kinds named .arity) (limits named limit) size (now (code .entry))) r ⌝ }
+    ensures { λ r. ⌜ Tells (Rightₗ (kinds named .arity) (λ m. limit) size (now (code .entry))) r ⌝ }
 {
     let k = ds[0];
-    if most(named, limit, code[0]) < k {
+    if limit < k {
         return false;
     }
     if at + k as usize != SIZE {
@@ -145,12 +137,19 @@ fn rooted(
 
 // Reads the marks from the last to the first. The trees behind a mark stand on a stack that grows down from the end of `hs` and `starts`:
 // how tall each is, and where it begins. The result is where the root's branches stand, above SIZE where the marks are no right code.
-fn scan(named: bool, limit: u8, ds: &[u8], code: &[u8], hs: &mut [u8], starts: &mut [u8]) -> usize
+pub fn scan(
+    named: bool,
+    limit: u8,
+    ds: &[u8],
+    code: &[u8],
+    hs: &mut [u8],
+    starts: &mut [u8],
+) -> usize
     requires { ⌜ now ds ≡ digits (kinds named .arity) (now code) ⌝ }
     requires { ⌜ 1 ≤ limit ⌝ }
     requires { ⌜ length (now hs) ≡ size ⌝ }
     requires { ⌜ length (now starts) ≡ suc size ⌝ }
-    ensures { λ r. ⌜ Scanned (kinds named) (limits named limit) (now (code .entry)) (now (hs .exit)) r ⌝ }
+    ensures { λ r. ⌜ Scanned (kinds named) (λ m. limit) (now (code .entry)) (now (hs .exit)) r ⌝ }
 {
     let n = code.len();
     if n == 0 {
@@ -165,7 +164,7 @@ fn scan(named: bool, limit: u8, ds: &[u8], code: &[u8], hs: &mut [u8], starts: &
     while 1 < i {
         i -= 1;
         let k = ds[i];
-        if most(named, limit, code[i]) <= k {
+        if limit <= k {
             return STARTS;
         }
         let end = at + k as usize;
@@ -372,7 +371,7 @@ fn middle(named: bool, ds: &[u8], code: &[u8], hs: &[u8], from: usize) -> bool
 }
 
 // 14: a right code, whose branches' heights stand from `from` on, that is not the centred one.
-fn judged(named: bool, ds: &[u8], code: &[u8], hs: &[u8], from: usize) -> Check
+pub fn judged(named: bool, ds: &[u8], code: &[u8], hs: &[u8], from: usize) -> Check
     requires { ⌜ now ds ≡ digits (kinds named .arity) (now code) ⌝ }
     requires { ⌜ Ends 1 (now ds) ⌝ }
     requires { ⌜ Ordered (kinds named .arity) (now code) ⌝ }

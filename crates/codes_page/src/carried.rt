@@ -10,6 +10,7 @@ use shown::text;
 use shown::value;
 use shown::valued;
 use zurkhovel::codes::Verdict;
+use zurkhovel::reported::ReportedVerdict;
 
 // Its rooted code at a vertex.
 fn rooted(edges: &[u8], v: usize) {
@@ -79,16 +80,20 @@ fn adjacency(edges: &[u8]) {
     valued(zurkhovel::matrix::a_zero_by_code(1, 7, edges));
 }
 
-fn same(edges: &[u8], others: &[u8]) {
-    sized(b"same_skeleton", 7, edges);
-    sized(b",", 7, others);
-    let r = zurkhovel::codes::same_skeleton(1, 7, edges, 7, others);
+pub(crate) fn verdict(r: ReportedVerdict) {
     let a = r.answer;
     match a {
         Verdict::Same => text(b" = Same\n"),
         Verdict::Different => text(b" = Different\n"),
         Verdict::Refused(_, k, p) => refused(k, p),
     }
+}
+
+fn same(edges: &[u8], others: &[u8]) {
+    sized(b"same_skeleton", 7, edges);
+    sized(b",", 7, others);
+    let r = zurkhovel::codes::same_skeleton(1, 7, edges, 7, others);
+    verdict(r);
 }
 
 // The classes of its vertices, of those of 2-methylpentane, and of butane, which turns over.

@@ -1,6 +1,7 @@
 // What docs/CODES.md shows, run on the proved calls and held to the file stdout: every alkane of up to seven carbons as a row of the page's table,
-// one skeleton in every form, and an answer of each refusal number.
+// one skeleton in every form, an answer of each refusal number, and skeletons with named atoms.
 mod alkanes;
+mod atoms;
 mod carried;
 mod refusals;
 mod written;
@@ -9,4 +10,5 @@ fn main() {
     alkanes::rows();
     carried::forms();
     refusals::answers();
+    atoms::examples();
 }

@@ -7,7 +7,7 @@ use shown::sized;
 use shown::text;
 
 // The first line of a text, with room for 64 digits.
-fn read(s: &[u8]) {
+pub(crate) fn read(s: &[u8]) {
     let mut out = [0u8; 64];
     text(b"read_line '");
     line(s);

@@ -5,7 +5,7 @@
 use mathlib.Core.Path.{_≡_, refl, sym, ap, ap₂, subst}
 use mathlib.Core.Logic.{inl, inr}
 use mathlib.Core.Bool.{Bool, true, false}
-use mathlib.Core.List.{List, [], _∷_}
+use mathlib.Core.List.{List, [], _∷_, map}
 use Prim.Native.Nat.{ℕ, _+_, _≤_, _<_}
 use native.Mathlib.Omega.{arith}
 use native.Mathlib.Decide.{decLt}
@@ -14,6 +14,7 @@ use lib.Dec.{ltb}
 use borrow.Author.Tests.{lt-ltb, le-ltb}
 use Rattle.laws.specs.document.Order.{_≽_}
 use Rattle.laws.specs.Sorting.{refl≽, below≽}
+use Rattle.laws.specs.Rising.{Rising}
 use Rattle.laws.specs.Tells.{Tells, holds, denies}
 use Rattle.digit_code.specs.declared.Order.{Order}
 use Rattle.digit_code.specs.declared.Order.the-variants.{Less, Equal, Greater}
@@ -58,6 +59,26 @@ looked-few (x ∷ xs) (y ∷ ys) = step (ltb x y) (ltb y x) (lex xs ys) (looked-
     step false false (Less n) h = omega arith
     step false false (Equal n) h = omega arith
     step false false (Greater n) h = omega arith
+
+-- numbers written by others in the same order are compared alike
+pub lex-risen : (φ : ℕ → ℕ) → Rising φ → (a b : List ℕ) → lex (map φ a) (map φ b) ≡ lex a b
+unfolding lex
+lex-risen φ up [] [] = refl
+lex-risen φ up [] (y ∷ ys) = refl
+lex-risen φ up (x ∷ xs) [] = refl
+lex-risen φ up (x ∷ xs) (y ∷ ys) = step (decLt x y) (decLt y x) (lex-risen φ up xs ys)
+  where
+    step : Dec (x < y) → Dec (y < x) → lex (map φ xs) (map φ ys) ≡ lex xs ys
+        → pick (ltb (φ x) (φ y)) (Less 1) (pick (ltb (φ y) (φ x)) (Greater 1) (further 1 (lex (map φ xs) (map φ ys)))) ≡ pick (ltb x y) (Less 1) (pick (ltb y x) (Greater 1) (further 1 (lex xs ys)))
+    step (yes l) d e = rw (lt-ltb x y l, lt-ltb (φ x) (φ y) (up x y l))
+    step (no l) (yes g) e = let u : φ y < φ x = up y x g in rw (le-ltb x y (omega arith), lt-ltb y x g, le-ltb (φ x) (φ y) (omega arith), lt-ltb (φ y) (φ x) u)
+    step (no l) (no g) e =
+        let q : φ x ≡ φ y = (let p : x ≡ y = omega arith in ap φ p) in
+        rw (le-ltb x y (omega arith), le-ltb y x (omega arith), le-ltb (φ x) (φ y) (omega arith), le-ltb (φ y) (φ x) (omega arith)) (ap (further 1) e)
+
+pub looked-risen : (φ : ℕ → ℕ) → Rising φ → (a b : List ℕ) → looked (map φ a) (map φ b) ≡ looked a b
+unfolding looked
+looked-risen φ up a b = ap pairsOf (lex-risen φ up a b)
 
 -- what each answer says of the dictionary: a stands before b, is b, or stands after b
 pub data Compares (a b : List ℕ) : Order → Type 0 where

@@ -22,6 +22,12 @@ cap-rises h zero = h
 cap-rises h (suc zero) = h
 cap-rises h (suc (suc p)) = omega arith
 
+-- no cap is above R
+pub cap-most : (R p : ℕ) → cap R p ≤ R
+cap-most R zero = omega arith
+cap-most R (suc zero) = omega arith
+cap-most R (suc (suc p)) = omega arith
+
 -- 10 of the wider limit is 10 of the narrower
 pub above-both : {R S : ℕ} (c : List ℕ) → R ≤ S → (p : ℕ) → row10 S c .applies p → row10 R c .applies p
 above-both {R} {S} c h p a = (a .0, a .1, omega (arith, a .2, cap-rises h p))

@@ -1,5 +1,6 @@
 -- Laws that the proofs of several functions cite. Assumes nothing.
 mod Tests
 mod Heads
-mod Tally
+mod Room
+mod Allowing
 mod Neighbours

@@ -11,7 +11,7 @@ use lib.ListN.{length, getD}
 use Rattle.refusal.specs.document.Table.{Outside, Clear, row3}
 use Rattle.refusal.specs.Laws.{never, others, clear-one, clear-both}
 use Rattle.skeleton.specs.document.Skeleton.{arcs, Walk, here, degree, Degrees, IsSkeleton}
-use Rattle.edge_list.specs.document.Edges.{Edge, firstEnd, secondEnd, before, row5-edges, row6, row7, row8, row9, edgeRows}
+use Rattle.edge_list.specs.document.Edges.{Edge, firstEnd, secondEnd, before, Crowded, row5-edges, row6, row7, row8, row9, edgeRows}
 use Rattle.edge_list.specs.Prefix.{arcs-all, hit, hit-same, hit-other, degree-more, degree-none, degree-all, degree-within, one-in, other-in}
 use Rattle.edge_list.specs.Joined.{alike}
 use Rattle.edge_list.specs.Count.{In, Apart}
@@ -54,27 +54,37 @@ module _ (N : ℕ) (E : List ℕ) (i : Ends N E) (e : length E + 2 ≡ 2 * N) wh
 
 -- ---- 9 and the degrees
 
-module _ (R : ℕ) (E : List ℕ) (seven : (q : ℕ) → row7 E .applies q → ⊥) (nine : (q : ℕ) → row9 R E .applies q → ⊥) where
-  -- one edge more
-  more : (p v : ℕ) → Edge E p → degree (before E p) v ≤ R → degree (before E (p + 1)) v ≤ R
-  more p v h l = rw (degree-more E p v h) (step (ℕ-discrete (firstEnd E p) v) (ℕ-discrete (secondEnd E p) v))
+-- no edge is one too many exactly when no vertex has too many neighbours; `limit` tells how many a vertex may have
+module _ (limit : ℕ → ℕ) (E : List ℕ) where
+  module _ (seven : (q : ℕ) → row7 E .applies q → ⊥) (room : (q : ℕ) → Crowded limit E q → ⊥) where
+    -- one edge more
+    more : (p v : ℕ) → Edge E p → degree (before E p) v ≤ limit v → degree (before E (p + 1)) v ≤ limit v
+    more p v h l = rw (degree-more E p v h) (step (ℕ-discrete (firstEnd E p) v) (ℕ-discrete (secondEnd E p) v))
+      where
+        step : Dec (firstEnd E p ≡ v) → Dec (secondEnd E p ≡ v) → degree (before E p) v + hit (firstEnd E p) v + hit (secondEnd E p) v ≤ limit v
+        step (yes a) (yes b) = absurd (seven p (h, a ∙ sym b))
+        step (yes a) (no b) =
+            let n : limit v ≤ degree (before E p) v → ⊥ = λ k. room p (h, inl (rw a k)) in
+            omega (arith, hit-same (firstEnd E p) v a, hit-other (secondEnd E p) v b)
+        step (no a) (yes b) =
+            let n : limit v ≤ degree (before E p) v → ⊥ = λ k. room p (h, inr (rw b k)) in
+            omega (arith, hit-other (firstEnd E p) v a, hit-same (secondEnd E p) v b)
+        step (no a) (no b) = omega (arith, hit-other (firstEnd E p) v a, hit-other (secondEnd E p) v b)
+
+    upto : (k v : ℕ) → k ≤ length E / 2 → degree (before E (k + 1)) v ≤ limit v
+    upto zero v l = rw (degree-none E v) (omega arith)
+    upto (suc k) v l = let e : suc k + 1 ≡ k + 1 + 1 = omega arith in rw e (more (k + 1) v (omega arith) (upto k v (omega arith)))
+
+    pub small : (v : ℕ) → degree E v ≤ limit v
+    small v = rw (← degree-all E (length E / 2 + 1) v (omega arith)) (upto (length E / 2) v (omega arith))
+
+  pub room-left : (N : ℕ) → ((v : ℕ) → List·Memᴰ v E → In N v) → ((v : ℕ) → 1 ≤ v → v ≤ N → degree E v ≤ limit v) → (p : ℕ) → Crowded limit E p → ⊥
+  room-left N i d p (h, o) =
+      ⊎-elim (at (firstEnd E p) (one-in E p h) (omega (arith, hit-same (firstEnd E p) (firstEnd E p) refl)))
+      (at (secondEnd E p) (other-in E p h) (omega (arith, hit-same (secondEnd E p) (secondEnd E p) refl))) o
     where
-      step : Dec (firstEnd E p ≡ v) → Dec (secondEnd E p ≡ v) → degree (before E p) v + hit (firstEnd E p) v + hit (secondEnd E p) v ≤ R
-      step (yes a) (yes b) = absurd (seven p (h, a ∙ sym b))
-      step (yes a) (no b) =
-          let n : R ≤ degree (before E p) v → ⊥ = λ k. nine p (h, inl (rw a k)) in
-          omega (arith, hit-same (firstEnd E p) v a, hit-other (secondEnd E p) v b)
-      step (no a) (yes b) =
-          let n : R ≤ degree (before E p) v → ⊥ = λ k. nine p (h, inr (rw b k)) in
-          omega (arith, hit-other (firstEnd E p) v a, hit-same (secondEnd E p) v b)
-      step (no a) (no b) = omega (arith, hit-other (firstEnd E p) v a, hit-other (secondEnd E p) v b)
-
-  upto : (k v : ℕ) → k ≤ length E / 2 → degree (before E (k + 1)) v ≤ R
-  upto zero v l = rw (degree-none E v) (omega arith)
-  upto (suc k) v l = let e : suc k + 1 ≡ k + 1 + 1 = omega arith in rw e (more (k + 1) v (omega arith) (upto k v (omega arith)))
-
-  small : (v : ℕ) → degree E v ≤ R
-  small v = rw (← degree-all E (length E / 2 + 1) v (omega arith)) (upto (length E / 2) v (omega arith))
+      at : (v : ℕ) → List·Memᴰ v E → 1 ≤ hit (firstEnd E p) v + hit (secondEnd E p) v → limit v ≤ degree (before E p) v → ⊥
+      at v m k l = let (a, b) = i v m in omega (arith, d v a b, degree-within E p v h)
 
 -- ---- 6 and the vertices
 
@@ -123,7 +133,7 @@ module _ (most R N : ℕ) (E : List ℕ) (r : ℕ) where
         record {
           tree = record { edges = e; inside = λ v h. inside N E i e v h; linked = linked N E i e (never c8) };
           few = n .1;
-          degrees = λ v l h. small R E (never c7) (never c9) v;
+          degrees = λ v l h. small (λ v. R) E (never c7) (never c9) v;
         },
         in-of N r (λ o. never c6 0 (inl (refl, o))),
       )
@@ -143,8 +153,6 @@ module _ (most R N : ℕ) (E : List ℕ) (r : ℕ) where
       let e = t .edges in
       let few = s .few in
       let eight : (q : ℕ) → row8 E .applies q → ⊥ = acyclic N E i e (t .linked) in
-      let full : (p v : ℕ) → Edge E p → In N v → (1 ≤ hit (firstEnd E p) v + hit (secondEnd E p) v) → R ≤ degree (before E p) v → ⊥ = λ p v h k m l.
-      let d = s .degrees v (k .0) (k .1) in let w = degree-within E p v h in omega arith in
       clear-both (clear-one {r = row3 most N} (λ p a. out-of most N (omega arith) (a .1)))
       (clear-both (clear-one {r = row5-edges N E} (λ p a. a .1 (omega arith)))
       (clear-both
@@ -152,10 +160,4 @@ module _ (most R N : ℕ) (E : List ℕ) (r : ℕ) where
       (λ p a. ⊎-elim (λ b. out-of N r root (b .1)) (λ b. let k = i p (b .0) in ⊎-elim (out-of N (firstEnd E p) (k .0)) (out-of N (secondEnd E p) (k .1)) (b .1)) a))
       (clear-both (clear-one {r = row7 E} (λ p a. eight p (a .0, rw (a .1) here)))
       (clear-both (clear-one {r = row8 E} eight)
-      (clear-one {r = row9 R E}
-      (λ p a.
-      let k = i p (a .0) in
-      ⊎-elim
-      (λ l. full p (firstEnd E p) (a .0) (k .0) (omega (arith, hit-same (firstEnd E p) (firstEnd E p) refl)) l)
-      (λ l. full p (secondEnd E p) (a .0) (k .1) (omega (arith, hit-same (secondEnd E p) (secondEnd E p) refl)) l)
-      (a .1)))))))
+      (clear-one {r = row9 R E} (room-left (λ v. R) E N (t .inside) (s .degrees)))))))

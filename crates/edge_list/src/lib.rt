@@ -1,21 +1,26 @@
-// A partner's edge list: its refusals 3 and 5 to 9, and the table of its neighbours.
+// A partner's edge list: its refusals 3 and 5 to 9, with letters 2, 21, 20 and 14 too, and the table of its neighbours.
 //
 // An edge list is flat, one byte for each end. Edges count from 1, as the places of the refusals do.
+use limits::BONDS;
+use limits::BYTES;
 use limits::SIZE;
 use limits::WIDTH;
 use refusal::Check;
 ghost use mathlib.Core.Path.{_≡_};
 ghost use mathlib.Core.Logic.{_⊎_};
 ghost use mathlib.Core.List.{[], _∷_};
-ghost use Prim.Native.Nat.{_≤_, _<_};
-ghost use lib.ListN.{length};
+ghost use Prim.Native.Nat.{ℕ, _≤_, _<_};
+ghost use lib.ListN.{length, replicate};
 ghost use Rattle.laws.specs.Tells.{Tells};
-ghost use Rattle.refusal.specs.document.Table.{Outside, row3};
+ghost use Rattle.refusal.specs.document.Table.{Clear, Outside, row3};
 ghost use Rattle.refusal.specs.Checks.{Answers};
 ghost use Rattle.limits.specs.document.Limits.{size};
 ghost use Rattle.limits.specs.Width.{width};
 ghost use Rattle.skeleton.specs.document.Skeleton.{IsSkeleton};
-ghost use Rattle.edge_list.specs.document.Edges.{Edge, firstEnd, secondEnd, row5-edges, row6, row7, row8, row9, edgeRows};
+ghost use Rattle.skeleton.specs.document.Atom.{bonds, atomAt};
+ghost use Rattle.edge_list.specs.document.Edges.{Edge, firstEnd, secondEnd, row5-edges, row6, row7, row8, crowdedRow, row9, edgeRows};
+ghost use Rattle.edge_list.specs.document.Letters.{letterRows, carbonRows};
+ghost use Rattle.edge_list.specs.Limited.{Limited};
 ghost use Rattle.edge_list.specs.Table.{Shaped, IsTable};
 ghost use Rattle.edge_list.specs.Parts.{Parted, Links, Top, Room, Added};
 
@@ -119,7 +124,7 @@ fn higher(a: usize, b: usize) -> usize
 }
 
 // Each vertex stands for itself alone.
-fn part(up: &mut [u8; 256])
+fn part(up: &mut [u8; BYTES])
     requires { ⌜ length (now up) ≡ 256 ⌝ }
     ensures { λ _. ⌜ Parted 256 (now (up .exit)) ⌝ }
 {
@@ -131,7 +136,7 @@ fn part(up: &mut [u8; 256])
 }
 
 // The vertex that stands for all that v is joined to. Each step goes to a lower one.
-fn head(up: &[u8; 256], v: usize) -> usize
+fn head(up: &[u8; BYTES], v: usize) -> usize
     requires { ⌜ Links (now up) × (v < 256) ⌝ }
     ensures { λ r. ⌜ Top (now (up .entry)) v r ⌝ }
 {
@@ -166,32 +171,60 @@ fn cycles(edges: &[u8]) -> Check
     Check::Passed
 }
 
-// Whether one of two counts is as high as it may be.
-fn full(limit: u8, x: u8, y: u8) -> bool
-    ensures { λ r. ⌜ Tells ((limit ≤ x) ⊎ (limit ≤ y)) r ⌝ }
+// 7 and 8: an edge from a vertex to itself closes a cycle too, so one is looked for only where there is a cycle.
+fn rings(edges: &[u8]) -> Check
+    ensures { λ r. ⌜ Answers (row7 (now (edges .entry)) ∷ row8 (now (edges .entry)) ∷ []) r ⌝ }
 {
-    limit <= x || limit <= y
+    if let Check::Refuse(k, p) = cycles(edges) {
+        if let Check::Refuse(j, q) = loops(edges) {
+            return Check::Refuse(j, q);
+        }
+        return Check::Refuse(k, p);
+    }
+    Check::Passed
 }
 
-// 9: an end that has as many edges as a vertex may have, which is `limit`.
-fn degrees(limit: u8, edges: &[u8]) -> Check
-    requires { ⌜ limit ≤ width ⌝ }
-    ensures { λ r. ⌜ Answers (row9 limit (now (edges .entry)) ∷ []) r ⌝ }
+// Whether one of two has room for no edge more.
+fn full(x: u8, y: u8) -> bool
+    ensures { λ r. ⌜ Tells ((x ≡ 0) ⊎ (y ≡ 0)) r ⌝ }
 {
-    let mut count = [0u8; 256];
+    x == 0 || y == 0
+}
+
+// 9 or 20, as `number` says: an end that has as many edges as it may have, which `room` tells. What is left of that room is written there.
+fn degrees(number: u8, room: &mut [u8; BYTES], edges: &[u8]) -> Check
+    requires { ⌜ length (now room) ≡ 256 ⌝ }
+    requires { ⌜ Clear (row7 (now edges) ∷ []) ⌝ }
+    ensures { λ r. ⌜ ((limit : ℕ → ℕ) → Limited limit (now (room .entry)) → Answers (crowdedRow number limit (now (edges .entry)) ∷ []) r) ⌝ }
+{
     let m = edges.len() / 2;
     let mut p: usize = 1;
     while p <= m {
         let a = one(edges, p);
         let b = other(edges, p);
-        if full(limit, count[a], count[b]) {
-            return Check::Refuse(9, p);
+        if full(room[a], room[b]) {
+            return Check::Refuse(number, p);
         }
-        count[a] += 1;
-        count[b] += 1;
+        room[a] -= 1;
+        room[b] -= 1;
         p += 1;
     }
     Check::Passed
+}
+
+// 6 to 9.
+fn joins(limit: u8, n: usize, edges: &[u8], root: usize) -> Check
+    requires { ⌜ limit ≤ width ⌝ }
+    ensures { λ r. ⌜ Answers (row6 n (now (edges .entry)) root ∷ row7 (now (edges .entry)) ∷ row8 (now (edges .entry)) ∷ row9 limit (now (edges .entry)) ∷ []) r ⌝ }
+{
+    if let Check::Refuse(k, p) = vertices(n, edges, root) {
+        return Check::Refuse(k, p);
+    }
+    if let Check::Refuse(k, p) = rings(edges) {
+        return Check::Refuse(k, p);
+    }
+    let mut room = [limit; BYTES];
+    degrees(9, &mut room, edges)
 }
 
 // Every refusal of an edge list of at most `most` vertices, each with at most `limit` neighbours. Where the caller names no root, vertex 1
@@ -203,16 +236,66 @@ pub fn check(most: usize, limit: u8, n: usize, edges: &[u8], root: usize) -> Che
     if let Check::Refuse(k, p) = sizes(most, n, edges) {
         return Check::Refuse(k, p);
     }
-    if let Check::Refuse(k, p) = vertices(n, edges, root) {
+    joins(limit, n, edges, root)
+}
+
+// How many neighbours each vertex may have by its letter. Behind the letters stands carbon.
+fn allow(letters: &[u8], room: &mut [u8; BYTES])
+    requires { ⌜ (length (now letters) ≤ size) × (now room ≡ replicate 256 4) ⌝ }
+    ensures { λ _. ⌜ Limited (λ v. bonds (atomAt (now (letters .entry)) v)) (now (room .exit)) ⌝ }
+{
+    let mut v = 0;
+    while v <= letters.len() {
+        room[v] = letters::bonds_at(letters, v);
+        v += 1;
+    }
+}
+
+// Every refusal of an edge list with letters: 2, 3, 5, 21, 6 to 9, and 20.
+pub fn check_letters(
+    most: usize,
+    limit: u8,
+    n: usize,
+    edges: &[u8],
+    root: usize,
+    letters: &[u8],
+) -> Check
+    requires { ⌜ (most ≤ size) × (limit ≤ width) ⌝ }
+    ensures { λ r. ⌜ Answers (letterRows most limit n (now (edges .entry)) root (now (letters .entry))) r ⌝ }
+{
+    if let Check::Refuse(k, p) = letters::known(letters) {
         return Check::Refuse(k, p);
     }
-    if let Check::Refuse(k, p) = loops(edges) {
+    if let Check::Refuse(k, p) = sizes(most, n, edges) {
         return Check::Refuse(k, p);
     }
-    if let Check::Refuse(k, p) = cycles(edges) {
+    if let Check::Refuse(k, p) = letters::as_many(n, letters) {
         return Check::Refuse(k, p);
     }
-    degrees(limit, edges)
+    if let Check::Refuse(k, p) = joins(limit, n, edges, root) {
+        return Check::Refuse(k, p);
+    }
+    let mut room = [BONDS; BYTES];
+    allow(letters, &mut room);
+    degrees(20, &mut room, edges)
+}
+
+// The same of a form that takes carbon only: behind all these 14 at another atom.
+pub fn check_carbon(
+    most: usize,
+    limit: u8,
+    n: usize,
+    edges: &[u8],
+    root: usize,
+    letters: &[u8],
+) -> Check
+    requires { ⌜ (most ≤ size) × (limit ≤ width) ⌝ }
+    ensures { λ r. ⌜ Answers (carbonRows most limit n (now (edges .entry)) root (now (letters .entry))) r ⌝ }
+{
+    if let Check::Refuse(k, p) = check_letters(most, limit, n, edges, root, letters) {
+        return Check::Refuse(k, p);
+    }
+    letters::carbon(letters)
 }
 
 // b goes behind the neighbours that a has.

@@ -1,5 +1,4 @@
 -- The answers of the C functions. Assumes nothing.
-pub mod Unpacked
 pub mod One
 pub mod OneReported
-pub mod document
+pub mod OneNamed

@@ -34,7 +34,9 @@ use Rattle.zurkhovel.specs.OneBits as bits
 use Rattle.zurkhovel.specs.OneMaps as carried
 use Rattle.zurkhovel.specs.OneMatrix as matrix
 use Rattle.zurkhovel.specs.OneText as text
-use Rattle.exports.specs.document.Packing.{packed, truth, withList, held, PackedAnswer, PackedFinding, PackedMapping, PackedValue}
+use Rattle.zurkhovel.specs.document.InEdition.{EdgeTable}
+use Rattle.zurkhovel.specs.document.Tabled.{Tabled}
+use Rattle.packing.specs.document.Packing.{packed, truth, withList, held, PackedAnswer, PackedFinding, PackedMapping, PackedValue}
 
 -- ---- each kind of answer
 
@@ -61,17 +63,17 @@ mapping (gives n) = (maps.Done n, refl)
 mapping (refuses (i, k) p) = (maps.Refused i k p, refl)
 
 -- a call that only checks
-one-check :
+pub one-check :
     {P : Outcome ℕ → Type 0} → ((r s : Answer) → P (told r) → P (told s) → r ≡ s) → (r s : ℕ) → PackedAnswer P r → PackedAnswer P s → r ≡ s
 one-check {P} f r s (o, x, e) (q, y, g) =
     let (a, i) = answer o in
     let (b, j) = answer q in
     e ∙ ap (packed (λ k. k) (λ n. n)) (i ∙ ap told (f a b (subst P i x) (subst P j y)) ∙ sym j) ∙ sym g
 
--- a call that writes
-one-written :
-    {P Q : Outcome ℕ → Type 0} {new new′ : List ℕ} → ((r s : Answer) → P (told r) → Q (told s) → (r ≡ s) × (new ≡ new′))
-    → (r s : ℕ) → PackedAnswer P r → PackedAnswer Q s → (r ≡ s) × (new ≡ new′)
+-- a call that writes; Same: what was lent then holds the same
+pub one-written :
+    {P Q : Outcome ℕ → Type 0} {Same : Type 0} → ((r s : Answer) → P (told r) → Q (told s) → (r ≡ s) × Same) → (r s : ℕ) → PackedAnswer P r → PackedAnswer Q s
+    → (r ≡ s) × Same
 one-written {P} {Q} f r s (o, x, e) (q, y, g) =
     let (a, i) = answer o in
     let (b, j) = answer q in
@@ -79,14 +81,14 @@ one-written {P} {Q} f r s (o, x, e) (q, y, g) =
     (e ∙ ap (packed (λ k. k) (λ n. n)) (i ∙ ap told h ∙ sym j) ∙ sym g, l)
 
 -- a call that is asked for a value, which the lent place then holds
-one-held :
+pub one-held :
     {A : Type 0} {P : Outcome A → Type 0} → ((o q : Outcome A) → P o → P q → o ≡ q)
     → (old new new′ : A) (r s : ℕ) → PackedValue P old new r → PackedValue P old new′ s → (r ≡ s) × (new ≡ new′)
 one-held f old new new′ r s (o, x, e, h) (q, y, g, l) =
     let same = f o q x y in
     (e ∙ ap (packed (λ k. k) (λ a. 0)) same ∙ sym g, h ∙ ap (held old) same ∙ sym l)
 
-one-number : (P : Outcome ℕ → Type 0) → ((r s : Number) → P (numbered r) → P (numbered s) → r ≡ s) → (o q : Outcome ℕ) → P o → P q → o ≡ q
+pub one-number : (P : Outcome ℕ → Type 0) → ((r s : Number) → P (numbered r) → P (numbered s) → r ≡ s) → (o q : Outcome ℕ) → P o → P q → o ≡ q
 one-number P f o q x y =
     let (a, i) = value o in
     let (b, j) = value q in
@@ -97,6 +99,14 @@ one-exact P f o q x y =
     let (a, i) = exact o in
     let (b, j) = exact q in
     i ∙ ap toldFraction (f a b (subst P i x) (subst P j y)) ∙ sym j
+
+-- a call on maps that only checks
+pub one-judged :
+    {P : MapOutcome → Type 0} → ((r s : Mapping) → P (mapped r) → P (mapped s) → r ≡ s) → (r s : ℕ) → PackedMapping P r → PackedMapping P s → r ≡ s
+one-judged {P} f r s (o, x, e) (q, y, g) =
+    let (a, i) = mapping o in
+    let (b, j) = mapping q in
+    e ∙ ap (packed withList (λ n. n)) (i ∙ ap mapped (f a b (subst P i x) (subst P j y)) ∙ sym j) ∙ sym g
 
 -- ---- the functions, in the edition e
 
@@ -155,70 +165,22 @@ module _ (e : ℕ) where
 
   pub one-zk-check-renumbering :
       (N : ℕ) (E : List ℕ) (P : ℕ) (F w : List ℕ) (r s : ℕ) → PackedMapping (CheckRenumbering e N E P F w) r → PackedMapping (CheckRenumbering e N E P F w) s → r ≡ s
-  one-zk-check-renumbering N E P F w r s (o, x, z) (q, y, g) =
-      let (a, i) = mapping o in
-      let (b, j) = mapping q in
-      z ∙ ap (packed withList (λ n. n)) (i ∙ ap mapped (carried.one-check-renumbering e N E P F w a b (subst (CheckRenumbering e N E P F w) i x) (subst (CheckRenumbering e N E P F w) j y)) ∙ sym j) ∙ sym g
-
-  pub one-zk-pack :
-      (N : ℕ) (E : List ℕ) (root : ℕ) (old new new′ : List ℕ) (r s : ℕ) → PackedAnswer (Pack e N E root old new) r → PackedAnswer (Pack e N E root old new′) s
-      → (r ≡ s) × (new ≡ new′)
-  one-zk-pack N E root old new new′ = one-written (bits.one-pack e N E root old new new′)
+  one-zk-check-renumbering N E P F w = one-judged (carried.one-check-renumbering e N E P F w)
 
   pub one-zk-unpack :
       (b : List ℕ) (old new new′ : List ℕ) (r s : ℕ) → PackedAnswer (Unpack e b old new) r → PackedAnswer (Unpack e b old new′) s
       → (r ≡ s) × (new ≡ new′)
   one-zk-unpack b old new new′ = one-written (bits.one-unpack e b old new new′)
 
-  pub one-zk-whole :
-      (N : ℕ) (E : List ℕ) (root : ℕ) (old new new′ : ℕ) (r s : ℕ) → PackedValue (Whole e N E root) old new r → PackedValue (Whole e N E root) old new′ s
-      → (r ≡ s) × (new ≡ new′)
-  one-zk-whole N E root = one-held (one-number (Whole e N E root) (bits.one-whole e N E root))
-
   pub one-zk-unwhole :
       (N : ℕ) (x : ℕ) (old new new′ : List ℕ) (r s : ℕ) → PackedAnswer (Unwhole e N x old new) r → PackedAnswer (Unwhole e N x old new′) s
       → (r ≡ s) × (new ≡ new′)
   one-zk-unwhole N x old new new′ = one-written (bits.one-unwhole e N x old new new′)
 
-  pub one-zk-fraction :
-      (N : ℕ) (E : List ℕ) (root : ℕ) (old new new′ : Float) (r s : ℕ) → PackedValue (InFraction e N E root) old new r → PackedValue (InFraction e N E root) old new′ s
-      → (r ≡ s) × (new ≡ new′)
-  one-zk-fraction N E root = one-held (one-exact (InFraction e N E root) (bits.one-fraction e N E root))
-
   pub one-zk-unfraction :
       (x : Float) (old new new′ : List ℕ) (r s : ℕ) → PackedAnswer (Unfraction e x old new) r → PackedAnswer (Unfraction e x old new′) s
       → (r ≡ s) × (new ≡ new′)
   one-zk-unfraction x old new new′ = one-written (bits.one-unfraction e x old new new′)
-
-  pub one-zk-cam :
-      (N : ℕ) (E : List ℕ) (old new new′ : List ℕ) (r s : ℕ) → PackedAnswer (Cam e N E old new) r → PackedAnswer (Cam e N E old new′) s
-      → (r ≡ s) × (new ≡ new′)
-  one-zk-cam N E old new new′ = one-written (matrix.one-cam e N E old new new′)
-
-  pub one-zk-zero-a :
-      (N : ℕ) (E : List ℕ) (old new new′ : ℕ) (r s : ℕ) → PackedValue (ZeroA e N E) old new r → PackedValue (ZeroA e N E) old new′ s
-      → (r ≡ s) × (new ≡ new′)
-  one-zk-zero-a N E = one-held (one-number (ZeroA e N E) (matrix.one-zero-a e N E))
-
-  pub one-zk-a-zero :
-      (N : ℕ) (E : List ℕ) (old new new′ : ℕ) (r s : ℕ) → PackedValue (AZero e N E) old new r → PackedValue (AZero e N E) old new′ s
-      → (r ≡ s) × (new ≡ new′)
-  one-zk-a-zero N E = one-held (one-number (AZero e N E) (matrix.one-a-zero e N E))
-
-  pub one-zk-cam-by-code :
-      (N : ℕ) (E : List ℕ) (old new new′ : List ℕ) (r s : ℕ) → PackedAnswer (CamByCode e N E old new) r → PackedAnswer (CamByCode e N E old new′) s
-      → (r ≡ s) × (new ≡ new′)
-  one-zk-cam-by-code N E old new new′ = one-written (matrix.one-cam-by-code e N E old new new′)
-
-  pub one-zk-zero-a-by-code :
-      (N : ℕ) (E : List ℕ) (old new new′ : ℕ) (r s : ℕ) → PackedValue (ZeroAByCode e N E) old new r → PackedValue (ZeroAByCode e N E) old new′ s
-      → (r ≡ s) × (new ≡ new′)
-  one-zk-zero-a-by-code N E = one-held (one-number (ZeroAByCode e N E) (matrix.one-zero-a-by-code e N E))
-
-  pub one-zk-a-zero-by-code :
-      (N : ℕ) (E : List ℕ) (old new new′ : ℕ) (r s : ℕ) → PackedValue (AZeroByCode e N E) old new r → PackedValue (AZeroByCode e N E) old new′ s
-      → (r ≡ s) × (new ≡ new′)
-  one-zk-a-zero-by-code N E = one-held (one-number (AZeroByCode e N E) (matrix.one-a-zero-by-code e N E))
 
   pub one-zk-decode-cam :
       (N : ℕ) (c : List ℕ) (old new new′ : List ℕ) (r s : ℕ) → PackedAnswer (DecodeCam e N c old new) r → PackedAnswer (DecodeCam e N c old new′) s
@@ -245,7 +207,56 @@ module _ (e : ℕ) where
       → (r ≡ s) × (new ≡ new′)
   one-zk-read-line t old new new′ = one-written (text.one-read-line e t old new new′)
 
-  pub one-zk-write-line :
-      (N : ℕ) (E : List ℕ) (old new new′ : List ℕ) (r s : ℕ) → PackedAnswer (WriteLine e N E old new) r → PackedAnswer (WriteLine e N E old new′) s
+-- ---- the forms of an edge list, over its table
+
+module _ (T : EdgeTable) where
+  pub one-zk-pack :
+      (N : ℕ) (E : List ℕ) (root : ℕ) (old new new′ : List ℕ) (r s : ℕ) → PackedAnswer (Pack T N E root old new) r → PackedAnswer (Pack T N E root old new′) s
       → (r ≡ s) × (new ≡ new′)
-  one-zk-write-line N E old new new′ = one-written (text.one-write-line e N E old new new′)
+  one-zk-pack N E root old new new′ = one-written (bits.one-pack T N E root old new new′)
+
+  pub one-zk-whole :
+      (N : ℕ) (E : List ℕ) (root : ℕ) (old new new′ : ℕ) (r s : ℕ) → PackedValue (Whole T N E root) old new r → PackedValue (Whole T N E root) old new′ s
+      → (r ≡ s) × (new ≡ new′)
+  one-zk-whole N E root = one-held (one-number (Whole T N E root) (bits.one-whole T N E root))
+
+  pub one-zk-fraction :
+      (N : ℕ) (E : List ℕ) (root : ℕ) (old new new′ : Float) (r s : ℕ) → PackedValue (InFraction T N E root) old new r → PackedValue (InFraction T N E root) old new′ s
+      → (r ≡ s) × (new ≡ new′)
+  one-zk-fraction N E root = one-held (one-exact (InFraction T N E root) (bits.one-fraction T N E root))
+
+  pub one-zk-cam :
+      (N : ℕ) (E : List ℕ) (old new new′ : List ℕ) (r s : ℕ) → PackedAnswer (Cam T N E old new) r → PackedAnswer (Cam T N E old new′) s
+      → (r ≡ s) × (new ≡ new′)
+  one-zk-cam N E old new new′ = one-written (matrix.one-cam T N E old new new′)
+
+  pub one-zk-zero-a :
+      (N : ℕ) (E : List ℕ) (old new new′ : ℕ) (r s : ℕ) → PackedValue (ZeroA T N E) old new r → PackedValue (ZeroA T N E) old new′ s
+      → (r ≡ s) × (new ≡ new′)
+  one-zk-zero-a N E = one-held (one-number (ZeroA T N E) (matrix.one-zero-a T N E))
+
+  pub one-zk-a-zero :
+      (N : ℕ) (E : List ℕ) (old new new′ : ℕ) (r s : ℕ) → PackedValue (AZero T N E) old new r → PackedValue (AZero T N E) old new′ s
+      → (r ≡ s) × (new ≡ new′)
+  one-zk-a-zero N E = one-held (one-number (AZero T N E) (matrix.one-a-zero T N E))
+
+module _ {T : EdgeTable} {R : ℕ} (t : Tabled T R) where
+  pub one-zk-cam-by-code :
+      (N : ℕ) (E : List ℕ) (old new new′ : List ℕ) (r s : ℕ) → PackedAnswer (CamByCode T N E old new) r → PackedAnswer (CamByCode T N E old new′) s
+      → (r ≡ s) × (new ≡ new′)
+  one-zk-cam-by-code N E old new new′ = one-written (matrix.one-cam-by-code t N E old new new′)
+
+  pub one-zk-zero-a-by-code :
+      (N : ℕ) (E : List ℕ) (old new new′ : ℕ) (r s : ℕ) → PackedValue (ZeroAByCode T N E) old new r → PackedValue (ZeroAByCode T N E) old new′ s
+      → (r ≡ s) × (new ≡ new′)
+  one-zk-zero-a-by-code N E = one-held (one-number (ZeroAByCode T N E) (matrix.one-zero-a-by-code t N E))
+
+  pub one-zk-a-zero-by-code :
+      (N : ℕ) (E : List ℕ) (old new new′ : ℕ) (r s : ℕ) → PackedValue (AZeroByCode T N E) old new r → PackedValue (AZeroByCode T N E) old new′ s
+      → (r ≡ s) × (new ≡ new′)
+  one-zk-a-zero-by-code N E = one-held (one-number (AZeroByCode T N E) (matrix.one-a-zero-by-code t N E))
+
+  pub one-zk-write-line :
+      (N : ℕ) (E : List ℕ) (old new new′ : List ℕ) (r s : ℕ) → PackedAnswer (WriteLine T N E old new) r → PackedAnswer (WriteLine T N E old new′) s
+      → (r ≡ s) × (new ≡ new′)
+  one-zk-write-line N E old new new′ = one-written (text.one-write-line t N E old new new′)

@@ -2,111 +2,28 @@
 // the refusal number plus the place, or the bytes written. The `ensures` of each is the promise of the call behind it, through `Packing`. A call
 // that reports how many pairs it looked at has two: the one whose name ends in `_pairs` hands that number over through a lent place. The four that
 // an exporter's host needs are of edition 1, and each has a second, whose name ends in `_edition`; every other is told the edition.
-use fraction::Fraction;
-use refusal::Answer;
-use refusal::Number;
-use zurkhovel::codes::Verdict;
-use zurkhovel::maps::Mapping;
-ghost use mathlib.Core.Path.{_≡_};
-ghost use Prim.Native.Nat.{_+_, _*_, _≤_, _<_};
-ghost use Rattle.refusal.specs.document.Outcome.{told, numbered};
-ghost use Rattle.refusal.specs.document.Small.{byteValues, Small, SmallAnswer, SmallRefusal};
-ghost use Rattle.fraction.specs.document.Outcome.{toldFraction};
+// Those on skeletons with named atoms are in `atoms`.
+mod atoms;
+
+use packing::answered;
+use packing::exact;
+use packing::found;
+use packing::sent;
+use packing::valued;
 ghost use Rattle.form.specs.document.Form.{nTuple, centred};
 ghost use Rattle.form_coder.specs.document.Pairs.{centredPairs, nTuplePairs};
-ghost use Rattle.zurkhovel.specs.document.Reported.{Reporting, atRoot, OfBoth};
+ghost use Rattle.refusal.specs.document.Reported.{Reporting};
+ghost use Rattle.zurkhovel.specs.document.Reported.{atRoot, OfBoth};
 ghost use Rattle.zurkhovel.specs.document.Codes.{CheckCode, DecodeCode, DecodeForm, CheckEdges, RootedCode, FormCode};
-ghost use Rattle.zurkhovel.specs.document.Same.{SameSkeleton, said};
-ghost use Rattle.zurkhovel.specs.document.Maps.{SmallOf, mapped, HandOut, CheckRenumbering};
+ghost use Rattle.zurkhovel.specs.document.Same.{SameSkeleton};
+ghost use Rattle.zurkhovel.specs.document.Maps.{HandOut, CheckRenumbering};
 ghost use Rattle.zurkhovel.specs.document.Bits.{Pack, Unpack, Whole, Unwhole, InFraction, Unfraction};
 ghost use Rattle.zurkhovel.specs.document.Matrix.{DecodeCam, DecodeZeroA, DecodeAZero, Cam, ZeroA, AZero, CamByCode, ZeroAByCode, AZeroByCode};
 ghost use Rattle.zurkhovel.specs.document.Alike.{EqualVertices};
-ghost use Rattle.zurkhovel.specs.document.Lines.{ReadLine, WriteLine, ReadText, Counted, ListText};
-ghost use Rattle.exports.specs.document.Packing.{packed, truth, withList, held, PackedAnswer, PackedFinding, PackedMapping, PackedValue};
-
-// The values of a byte.
-const BYTE: u32 = 256;
-
-// A refusal: 256 times the number plus the place.
-fn refused(k: u8, p: usize) -> u32
-    requires { ⌜ p < byteValues ⌝ }
-    ensures { λ r. ⌜ r ≡ byteValues * k + p ⌝ }
-{
-    BYTE * k as u32 + p as u32
-}
-
-// The answer of a call that writes or only checks.
-fn answered(answer: Answer) -> u32
-    requires { ⌜ SmallAnswer (told answer) ⌝ }
-    ensures { λ r. ⌜ r ≡ packed (λ k. k) (λ n. n) (told answer) ⌝ }
-{
-    match answer {
-        Answer::Done(n) => n as u32,
-        Answer::Refused(k, p) => refused(k, p),
-    }
-}
-
-// A refusal of one of several, which are called 1, 2 and 3: each adds 256 times 256 to the one before it. 22, which is called 0, adds nothing.
-fn refused_of(i: u8, k: u8, p: usize) -> u32
-    requires { ⌜ (i ≤ 3) × (p < byteValues) ⌝ }
-    ensures { λ r. ⌜ r ≡ byteValues * withList (i, k) + p ⌝ }
-{
-    if i == 0 {
-        return refused(k, p);
-    }
-    BYTE * BYTE * (i as u32 - 1) + refused(k, p)
-}
-
-// The verdict.
-fn found(verdict: Verdict) -> u32
-    requires { ⌜ Small (SmallOf 2) (λ b. Unit {0}) (said verdict) ⌝ }
-    ensures { λ r. ⌜ r ≡ packed withList truth (said verdict) ⌝ }
-{
-    match verdict {
-        Verdict::Same => 1,
-        Verdict::Different => 0,
-        Verdict::Refused(i, k, p) => refused_of(i, k, p),
-    }
-}
-
-// The answer of a call on maps.
-fn sent(answer: Mapping) -> u32
-    requires { ⌜ Small (SmallOf 3) (λ n. n < byteValues) (mapped answer) ⌝ }
-    ensures { λ r. ⌜ r ≡ packed withList (λ n. n) (mapped answer) ⌝ }
-{
-    match answer {
-        Mapping::Done(n) => n as u32,
-        Mapping::Refused(i, k, p) => refused_of(i, k, p),
-    }
-}
-
-// The answer of a call that is asked for a number.
-fn valued(answer: Number, value: &mut u64) -> u32
-    requires { ⌜ SmallRefusal (numbered answer) ⌝ }
-    ensures { λ r. ⌜ (r ≡ packed (λ k. k) (λ a. 0) (numbered answer)) × (now (value .exit) ≡ held (now (value .entry)) (numbered answer)) ⌝ }
-{
-    match answer {
-        Number::Value(v) => {
-            *value = v;
-            0
-        }
-        Number::Refused(k, p) => refused(k, p),
-    }
-}
-
-// The answer of a call that is asked for a fraction.
-fn exact(answer: Fraction, value: &mut f64) -> u32
-    requires { ⌜ SmallRefusal (toldFraction answer) ⌝ }
-    ensures { λ r. ⌜ (r ≡ packed (λ k. k) (λ a. 0) (toldFraction answer)) × (now (value .exit) ≡ held (now (value .entry)) (toldFraction answer)) ⌝ }
-{
-    match answer {
-        Fraction::Exact(x) => {
-            *value = x;
-            0
-        }
-        Fraction::Refused(k, p) => refused(k, p),
-    }
-}
+ghost use Rattle.zurkhovel.specs.document.Lines.{ReadLine, WriteLine, ReadText, ListText};
+ghost use Rattle.zurkhovel.specs.document.InEdition.{edgeTable};
+ghost use Rattle.texts.specs.document.Demand.{Counted};
+ghost use Rattle.packing.specs.document.Packing.{PackedAnswer, PackedFinding, PackedMapping, PackedValue};
 
 #[no_mangle]
 pub extern "C" fn zk_check_code(edition: usize, code: &[u8]) -> u32
@@ -316,7 +233,7 @@ pub extern "C" fn zk_check_renumbering(
 
 #[no_mangle]
 pub extern "C" fn zk_pack(n: usize, edges: &[u8], root: usize, out: &mut [u8]) -> u32
-    ensures { λ r. ⌜ PackedAnswer (Pack 1 n (now (edges .entry)) root (now (out .entry)) (now (out .exit))) r ⌝ }
+    ensures { λ r. ⌜ PackedAnswer (Pack (edgeTable 1) n (now (edges .entry)) root (now (out .entry)) (now (out .exit))) r ⌝ }
 {
     let r = zurkhovel::bit_tuple::pack(1, n, edges, root, out);
     let answer = r.answer;
@@ -331,7 +248,7 @@ pub extern "C" fn zk_pack_edition(
     root: usize,
     out: &mut [u8],
 ) -> u32
-    ensures { λ r. ⌜ PackedAnswer (Pack edition n (now (edges .entry)) root (now (out .entry)) (now (out .exit))) r ⌝ }
+    ensures { λ r. ⌜ PackedAnswer (Pack (edgeTable edition) n (now (edges .entry)) root (now (out .entry)) (now (out .exit))) r ⌝ }
 {
     let r = zurkhovel::bit_tuple::pack(edition, n, edges, root, out);
     let answer = r.answer;
@@ -347,7 +264,7 @@ pub extern "C" fn zk_pack_pairs(
     out: &mut [u8],
     pairs: &mut usize,
 ) -> u32
-    ensures { λ r. ⌜ PackedAnswer (λ o. Reporting (Pack edition n (now (edges .entry)) root (now (out .entry)) (now (out .exit))) (atRoot n (now (edges .entry)) root) o (now (pairs .exit))) r ⌝ }
+    ensures { λ r. ⌜ PackedAnswer (λ o. Reporting (Pack (edgeTable edition) n (now (edges .entry)) root (now (out .entry)) (now (out .exit))) (atRoot n (now (edges .entry)) root) o (now (pairs .exit))) r ⌝ }
 {
     let r = zurkhovel::bit_tuple::pack(edition, n, edges, root, out);
     *pairs = r.pairs;
@@ -370,7 +287,7 @@ pub extern "C" fn zk_whole(
     root: usize,
     value: &mut u64,
 ) -> u32
-    ensures { λ r. ⌜ PackedValue (Whole edition n (now (edges .entry)) root) (now (value .entry)) (now (value .exit)) r ⌝ }
+    ensures { λ r. ⌜ PackedValue (Whole (edgeTable edition) n (now (edges .entry)) root) (now (value .entry)) (now (value .exit)) r ⌝ }
 {
     let r = zurkhovel::bit_tuple::whole(edition, n, edges, root);
     let answer = r.answer;
@@ -386,7 +303,7 @@ pub extern "C" fn zk_whole_pairs(
     value: &mut u64,
     pairs: &mut usize,
 ) -> u32
-    ensures { λ r. ⌜ PackedValue (λ o. Reporting (Whole edition n (now (edges .entry)) root) (atRoot n (now (edges .entry)) root) o (now (pairs .exit))) (now (value .entry)) (now (value .exit)) r ⌝ }
+    ensures { λ r. ⌜ PackedValue (λ o. Reporting (Whole (edgeTable edition) n (now (edges .entry)) root) (atRoot n (now (edges .entry)) root) o (now (pairs .exit))) (now (value .entry)) (now (value .exit)) r ⌝ }
 {
     let r = zurkhovel::bit_tuple::whole(edition, n, edges, root);
     *pairs = r.pairs;
@@ -409,7 +326,7 @@ pub extern "C" fn zk_fraction(
     root: usize,
     value: &mut f64,
 ) -> u32
-    ensures { λ r. ⌜ PackedValue (InFraction edition n (now (edges .entry)) root) (now (value .entry)) (now (value .exit)) r ⌝ }
+    ensures { λ r. ⌜ PackedValue (InFraction (edgeTable edition) n (now (edges .entry)) root) (now (value .entry)) (now (value .exit)) r ⌝ }
 {
     let r = zurkhovel::bit_tuple::fraction(edition, n, edges, root);
     let answer = r.answer;
@@ -425,7 +342,7 @@ pub extern "C" fn zk_fraction_pairs(
     value: &mut f64,
     pairs: &mut usize,
 ) -> u32
-    ensures { λ r. ⌜ PackedValue (λ o. Reporting (InFraction edition n (now (edges .entry)) root) (atRoot n (now (edges .entry)) root) o (now (pairs .exit))) (now (value .entry)) (now (value .exit)) r ⌝ }
+    ensures { λ r. ⌜ PackedValue (λ o. Reporting (InFraction (edgeTable edition) n (now (edges .entry)) root) (atRoot n (now (edges .entry)) root) o (now (pairs .exit))) (now (value .entry)) (now (value .exit)) r ⌝ }
 {
     let r = zurkhovel::bit_tuple::fraction(edition, n, edges, root);
     *pairs = r.pairs;
@@ -442,28 +359,28 @@ pub extern "C" fn zk_unfraction(edition: usize, x: f64, out: &mut [u8]) -> u32
 
 #[no_mangle]
 pub extern "C" fn zk_cam(edition: usize, n: usize, edges: &[u8], out: &mut [u8]) -> u32
-    ensures { λ r. ⌜ PackedAnswer (Cam edition n (now (edges .entry)) (now (out .entry)) (now (out .exit))) r ⌝ }
+    ensures { λ r. ⌜ PackedAnswer (Cam (edgeTable edition) n (now (edges .entry)) (now (out .entry)) (now (out .exit))) r ⌝ }
 {
     answered(zurkhovel::matrix::cam(edition, n, edges, out))
 }
 
 #[no_mangle]
 pub extern "C" fn zk_zero_a(edition: usize, n: usize, edges: &[u8], value: &mut u64) -> u32
-    ensures { λ r. ⌜ PackedValue (ZeroA edition n (now (edges .entry))) (now (value .entry)) (now (value .exit)) r ⌝ }
+    ensures { λ r. ⌜ PackedValue (ZeroA (edgeTable edition) n (now (edges .entry))) (now (value .entry)) (now (value .exit)) r ⌝ }
 {
     valued(zurkhovel::matrix::zero_a(edition, n, edges), value)
 }
 
 #[no_mangle]
 pub extern "C" fn zk_a_zero(edition: usize, n: usize, edges: &[u8], value: &mut u64) -> u32
-    ensures { λ r. ⌜ PackedValue (AZero edition n (now (edges .entry))) (now (value .entry)) (now (value .exit)) r ⌝ }
+    ensures { λ r. ⌜ PackedValue (AZero (edgeTable edition) n (now (edges .entry))) (now (value .entry)) (now (value .exit)) r ⌝ }
 {
     valued(zurkhovel::matrix::a_zero(edition, n, edges), value)
 }
 
 #[no_mangle]
 pub extern "C" fn zk_cam_by_code(edition: usize, n: usize, edges: &[u8], out: &mut [u8]) -> u32
-    ensures { λ r. ⌜ PackedAnswer (CamByCode edition n (now (edges .entry)) (now (out .entry)) (now (out .exit))) r ⌝ }
+    ensures { λ r. ⌜ PackedAnswer (CamByCode (edgeTable edition) n (now (edges .entry)) (now (out .entry)) (now (out .exit))) r ⌝ }
 {
     let r = zurkhovel::matrix::cam_by_code(edition, n, edges, out);
     let answer = r.answer;
@@ -478,7 +395,7 @@ pub extern "C" fn zk_cam_by_code_pairs(
     out: &mut [u8],
     pairs: &mut usize,
 ) -> u32
-    ensures { λ r. ⌜ PackedAnswer (λ o. Reporting (CamByCode edition n (now (edges .entry)) (now (out .entry)) (now (out .exit))) (centredPairs n (now (edges .entry))) o (now (pairs .exit))) r ⌝ }
+    ensures { λ r. ⌜ PackedAnswer (λ o. Reporting (CamByCode (edgeTable edition) n (now (edges .entry)) (now (out .entry)) (now (out .exit))) (centredPairs n (now (edges .entry))) o (now (pairs .exit))) r ⌝ }
 {
     let r = zurkhovel::matrix::cam_by_code(edition, n, edges, out);
     *pairs = r.pairs;
@@ -488,7 +405,7 @@ pub extern "C" fn zk_cam_by_code_pairs(
 
 #[no_mangle]
 pub extern "C" fn zk_zero_a_by_code(edition: usize, n: usize, edges: &[u8], value: &mut u64) -> u32
-    ensures { λ r. ⌜ PackedValue (ZeroAByCode edition n (now (edges .entry))) (now (value .entry)) (now (value .exit)) r ⌝ }
+    ensures { λ r. ⌜ PackedValue (ZeroAByCode (edgeTable edition) n (now (edges .entry))) (now (value .entry)) (now (value .exit)) r ⌝ }
 {
     let r = zurkhovel::matrix::zero_a_by_code(edition, n, edges);
     let answer = r.answer;
@@ -503,7 +420,7 @@ pub extern "C" fn zk_zero_a_by_code_pairs(
     value: &mut u64,
     pairs: &mut usize,
 ) -> u32
-    ensures { λ r. ⌜ PackedValue (λ o. Reporting (ZeroAByCode edition n (now (edges .entry))) (centredPairs n (now (edges .entry))) o (now (pairs .exit))) (now (value .entry)) (now (value .exit)) r ⌝ }
+    ensures { λ r. ⌜ PackedValue (λ o. Reporting (ZeroAByCode (edgeTable edition) n (now (edges .entry))) (centredPairs n (now (edges .entry))) o (now (pairs .exit))) (now (value .entry)) (now (value .exit)) r ⌝ }
 {
     let r = zurkhovel::matrix::zero_a_by_code(edition, n, edges);
     *pairs = r.pairs;
@@ -513,7 +430,7 @@ pub extern "C" fn zk_zero_a_by_code_pairs(
 
 #[no_mangle]
 pub extern "C" fn zk_a_zero_by_code(edition: usize, n: usize, edges: &[u8], value: &mut u64) -> u32
-    ensures { λ r. ⌜ PackedValue (AZeroByCode edition n (now (edges .entry))) (now (value .entry)) (now (value .exit)) r ⌝ }
+    ensures { λ r. ⌜ PackedValue (AZeroByCode (edgeTable edition) n (now (edges .entry))) (now (value .entry)) (now (value .exit)) r ⌝ }
 {
     let r = zurkhovel::matrix::a_zero_by_code(edition, n, edges);
     let answer = r.answer;
@@ -528,7 +445,7 @@ pub extern "C" fn zk_a_zero_by_code_pairs(
     value: &mut u64,
     pairs: &mut usize,
 ) -> u32
-    ensures { λ r. ⌜ PackedValue (λ o. Reporting (AZeroByCode edition n (now (edges .entry))) (centredPairs n (now (edges .entry))) o (now (pairs .exit))) (now (value .entry)) (now (value .exit)) r ⌝ }
+    ensures { λ r. ⌜ PackedValue (λ o. Reporting (AZeroByCode (edgeTable edition) n (now (edges .entry))) (centredPairs n (now (edges .entry))) o (now (pairs .exit))) (now (value .entry)) (now (value .exit)) r ⌝ }
 {
     let r = zurkhovel::matrix::a_zero_by_code(edition, n, edges);
     *pairs = r.pairs;
@@ -598,7 +515,7 @@ pub extern "C" fn zk_read_line_edition(edition: usize, text: &[u8], out: &mut [u
 
 #[no_mangle]
 pub extern "C" fn zk_write_line(n: usize, edges: &[u8], out: &mut [u8]) -> u32
-    ensures { λ r. ⌜ PackedAnswer (WriteLine 1 n (now (edges .entry)) (now (out .entry)) (now (out .exit))) r ⌝ }
+    ensures { λ r. ⌜ PackedAnswer (WriteLine (edgeTable 1) n (now (edges .entry)) (now (out .entry)) (now (out .exit))) r ⌝ }
 {
     let r = zurkhovel::text::write_line(1, n, edges, out);
     let answer = r.answer;
@@ -612,7 +529,7 @@ pub extern "C" fn zk_write_line_edition(
     edges: &[u8],
     out: &mut [u8],
 ) -> u32
-    ensures { λ r. ⌜ PackedAnswer (WriteLine edition n (now (edges .entry)) (now (out .entry)) (now (out .exit))) r ⌝ }
+    ensures { λ r. ⌜ PackedAnswer (WriteLine (edgeTable edition) n (now (edges .entry)) (now (out .entry)) (now (out .exit))) r ⌝ }
 {
     let r = zurkhovel::text::write_line(edition, n, edges, out);
     let answer = r.answer;
@@ -627,7 +544,7 @@ pub extern "C" fn zk_write_line_pairs(
     out: &mut [u8],
     pairs: &mut usize,
 ) -> u32
-    ensures { λ r. ⌜ PackedAnswer (λ o. Reporting (WriteLine edition n (now (edges .entry)) (now (out .entry)) (now (out .exit))) (centredPairs n (now (edges .entry))) o (now (pairs .exit))) r ⌝ }
+    ensures { λ r. ⌜ PackedAnswer (λ o. Reporting (WriteLine (edgeTable edition) n (now (edges .entry)) (now (out .entry)) (now (out .exit))) (centredPairs n (now (edges .entry))) o (now (pairs .exit))) r ⌝ }
 {
     let r = zurkhovel::text::write_line(edition, n, edges, out);
     *pairs = r.pairs;

@@ -1,46 +1,25 @@
 // One worked example for each public call in edition 1, as docs/CALLS.md shows it.
-use fraction::Fraction;
-use refusal::Answer;
 use shown::answer;
-use shown::front;
 use shown::given;
 use shown::number;
 use shown::numbered;
-use shown::refused;
-use shown::reported;
+use shown::report::asked;
+use shown::report::exact;
+use shown::report::map_told;
+use shown::report::mapped;
+use shown::report::piece;
+use shown::report::progress;
+use shown::report::told;
+use shown::report::verdict;
 use shown::sized;
 use shown::text;
 use shown::value;
-use shown::valued;
-use zurkhovel::codes::Verdict;
-use zurkhovel::maps::Mapping;
-use zurkhovel::reported::Reported;
-use zurkhovel::reported::ReportedNumber;
 
 // A call with N, an edge list and a root.
 fn rooted(name: &[u8], n: usize, edges: &[u8], root: usize) {
     sized(name, n, edges);
     text(b", ");
     number(root as u64);
-}
-
-// How many pairs of digits a call reports that it looked at.
-fn looked(name: &[u8], pairs: usize) {
-    text(name);
-    text(b" looked at ");
-    number(pairs as u64);
-    text(b"\n");
-}
-
-// The answer of a call that reports, and what it reports.
-fn told(name: &[u8], r: Reported, out: &[u8]) {
-    reported(r, out);
-    looked(name, r.pairs);
-}
-
-fn asked(name: &[u8], r: ReportedNumber) {
-    valued(r);
-    looked(name, r.pairs);
 }
 
 fn digit_codes() {
@@ -86,36 +65,13 @@ fn edge_codes(edges: &[u8]) {
     told(b"equal_vertices", f, &out);
 }
 
-// A refusal of a call with two lists: which list, or 3 for the map, or 0 for the edition; its number, and its place.
-fn refused_of(list: u8, k: u8, p: usize) {
-    text(b" = Refused(");
-    number(list as u64);
-    text(b", ");
-    number(k as u64);
-    text(b", ");
-    number(p as u64);
-    text(b")\n");
-}
-
 pub(crate) fn same_in(edition: usize, n1: usize, edges1: &[u8], n2: usize, edges2: &[u8]) {
     sized(b"same_skeleton", n1, edges1);
     sized(b",", n2, edges2);
-    let r = zurkhovel::codes::same_skeleton(edition, n1, edges1, n2, edges2);
-    let a = r.answer;
-    match a {
-        Verdict::Same => text(b" = Same\n"),
-        Verdict::Different => text(b" = Different\n"),
-        Verdict::Refused(list, k, p) => refused_of(list, k, p),
-    }
-    looked(b"same_skeleton", r.pairs);
-}
-
-// An answer about a map, and what was written.
-fn mapped(a: Mapping, out: &[u8]) {
-    match a {
-        Mapping::Done(n) => answer(Answer::Done(n), out),
-        Mapping::Refused(list, k, p) => refused_of(list, k, p),
-    }
+    verdict(
+        b"same_skeleton",
+        zurkhovel::codes::same_skeleton(edition, n1, edges1, n2, edges2),
+    );
 }
 
 fn handed(edges1: &[u8], edges2: &[u8]) {
@@ -123,9 +79,7 @@ fn handed(edges1: &[u8], edges2: &[u8]) {
     sized(b"renumbering", 4, edges1);
     sized(b",", 4, edges2);
     let r = zurkhovel::maps::renumbering(1, 4, edges1, 4, edges2, &mut out);
-    let a = r.answer;
-    mapped(a, &out);
-    looked(b"renumbering", r.pairs);
+    map_told(b"renumbering", r, &out);
 }
 
 fn judged(edges1: &[u8], edges2: &[u8], map: &[u8]) {
@@ -156,17 +110,7 @@ fn bits_of(edges: &[u8]) {
     rooted(b"whole", 8, edges, 1);
     asked(b"whole", zurkhovel::bit_tuple::whole(1, 8, edges, 1));
     rooted(b"fraction", 8, edges, 1);
-    let r = zurkhovel::bit_tuple::fraction(1, 8, edges, 1);
-    let c = r.answer;
-    match c {
-        Fraction::Exact(x) => {
-            if x == 0.926025390625 {
-                text(b" = Exact(0.926025390625)\n");
-            }
-        }
-        Fraction::Refused(k, p) => refused(k, p),
-    }
-    looked(b"fraction", r.pairs);
+    exact(b"fraction", zurkhovel::bit_tuple::fraction(1, 8, edges, 1));
 }
 
 fn bits_read() {
@@ -243,17 +187,8 @@ fn lines() {
         &mut numbers,
         &mut places,
     );
-    text(b"read_text of the lines '6 220010', '6 311000' and '1 0' = lines ");
-    number(p.lines as u64);
-    text(b", at ");
-    number(p.at as u64);
-    given(b"; numbers", &numbers);
-    text(b"; places ");
-    number(places[0] as u64);
-    text(b" ");
-    number(places[1] as u64);
-    text(b" ");
-    number(places[2] as u64);
+    text(b"read_text of the lines '6 220010', '6 311000' and '1 0'");
+    progress(p, &numbers, &places);
     text(b"\n");
     let t = zurkhovel::text::count(&numbers);
     given(b"count", &numbers);
@@ -267,15 +202,8 @@ fn lines() {
 // The listing of the same three lines, from a byte on.
 fn listing(from: usize, out: &mut [u8]) {
     let n = zurkhovel::text::list(b"6 220010\n6 311000\n1 0\n", from, out);
-    text(b"list of the lines '6 220010', '6 311000' and '1 0' from ");
-    number(from as u64);
-    text(b", lent ");
-    number(out.len() as u64);
-    text(b" = ");
-    number(n as u64);
-    text(b";");
-    front(out, n);
-    text(b"\n");
+    text(b"list of the lines '6 220010', '6 311000' and '1 0'");
+    piece(from, out, n);
 }
 
 fn listings() {

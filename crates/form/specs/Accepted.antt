@@ -15,12 +15,14 @@ use Rattle.digit_code.specs.Right.{RightCode, Rightₗ, right-clear, clear-righ
 use Rattle.skeleton.specs.document.Skeleton.{IsSkeleton}
 use Rattle.skeleton.specs.Theorems.{decode-code, decoded-tree, degrees}
 use Rattle.skeleton.specs.Ordered.{code-ordered}
-use Rattle.skeleton.specs.Label.{Marks, digits, labels, Valences, markRows}
+use Rattle.skeleton.specs.document.Label.{Marks, digits, labels}
+use Rattle.skeleton.specs.Label.{Valences, markRows}
 use Rattle.skeleton.specs.Base.{base, digits-base}
 use Rattle.skeleton.specs.General.{decoded-tree as decoded-treeₗ}
 use Rattle.skeleton.specs.Accepted.{code-passes, marks-accepted, right-marks}
 use Rattle.form.specs.document.Form.{formRows}
-use Rattle.form.specs.Labelled.{Own, row14ₗ, formRowsₗ, IsFormₗ, is-rootedₗ, form-againₗ, form-decidedₗ}
+use Rattle.form.specs.document.Labelled.{Own, row14ₗ}
+use Rattle.form.specs.Labelled.{formRowsₗ, IsFormₗ, is-rootedₗ, form-againₗ, form-decidedₗ}
 use Rattle.form.specs.Forms.{IsForm, labelled, is-rooted, form-again}
 
 -- a right rooted code decodes to a skeleton

@@ -10,7 +10,7 @@ use Rattle.digit_code.specs.document.Code.{digit}
 use Rattle.skeleton.specs.document.Skeleton.{degree, IsTree, rooted, Renumbering}
 use Rattle.skeleton.specs.Forest.{Rooted}
 use Rattle.skeleton.specs.Grow.{rooted-tree}
-use Rattle.skeleton.specs.Label.{Marks, joinₗ, rootedₗ, Keeps}
+use Rattle.skeleton.specs.document.Label.{Marks, joinₗ, rootedₗ, Keeps}
 use Rattle.skeleton.specs.Codes.{neighbours-perm, near, rooted-join}
 use Rattle.skeleton.specs.Degree.{roots-length}
 use Rattle.skeleton.specs.Sorted.{branches-length}

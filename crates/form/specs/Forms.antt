@@ -2,7 +2,7 @@
 --
 -- In order: the form, which is that of `Labelled` at one label, and that both are one; what the code of a tree is and decodes to; that
 -- equal codes come from the same skeleton. What the refusal table lets pass of them is in `Accepted`. Assumes nothing.
-use mathlib.Core.Path.{_≡_, refl, sym, _∙_, subst}
+use mathlib.Core.Path.{_≡_, refl, ap, sym, _∙_, subst}
 use mathlib.Core.Logic.{_↔_}
 use mathlib.Core.List.{List}
 use Prim.Native.Nat.{ℕ, _≤_}
@@ -11,10 +11,11 @@ use Rattle.digit_code.specs.document.Code.{decode}
 use Rattle.digit_code.specs.Ends.{Ends}
 use Rattle.skeleton.specs.document.Skeleton.{IsTree, rooted, Renumbering}
 use Rattle.skeleton.specs.IsRooted.{IsRooted}
-use Rattle.skeleton.specs.Label.{rootedₗ}
+use Rattle.skeleton.specs.document.Label.{rootedₗ, digits, labels}
 use Rattle.skeleton.specs.Base.{base, rooted-base, digits-base}
 use Rattle.skeleton.specs.Theorems.{decode-code}
 use Rattle.form.specs.document.Form.{NTuple, Centred, nTuple, centred}
+use Rattle.form.specs.document.Labelled.{centredₗ, Own}
 use Rattle.form.specs.Labelled.{IsFormₗ, n-tuple-formₗ, centred-formₗ, form-sizeₗ, form-decodedₗ, form-againₗ, form-verdictₗ}
 
 -- c is the rooted code of the tree at one of its vertices
@@ -53,6 +54,12 @@ unlabelled f = record {
 -- the codes at each root
 at-base : (N : ℕ) (E : List ℕ) (l : ℕ → Unit {0}) → rootedₗ base l N E ≡ rooted N E
 at-base N E l = λ i r. rooted-base l N E r i
+
+-- digits are the centred code of what they decode to, with one label or with none
+pub own-base : (c : List ℕ) → Own base (centredₗ base) c ≡ centred (length c) (decode c) c
+own-base c =
+    ap (λ at. Centred (length c) (decode (digits base c)) at c) (at-base (length c) (decode (digits base c)) (labels base c))
+    ∙ ap (λ d. centred (length c) (decode d) c) (digits-base c)
 
 pub n-tuple-form : IsForm nTuple
 n-tuple-form = unlabelled (subst (IsFormₗ base) (λ i N E l c. NTuple N E (at-base N E l i) c) (n-tuple-formₗ base))

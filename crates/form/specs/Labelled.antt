@@ -1,7 +1,7 @@
 -- What the N-tuple code and the centred code have in common where vertices have labels (`IsFormₗ`), and what follows from that alone;
 -- `Forms` has it for document 01's codes, where there is one label.
 --
--- In order: the two codes, and row 14; the form, and that both are one; what the code of a tree is and decodes to; that equal codes come
+-- In order: its root; its rows; the form, and that both are one; what the code of a tree is and decodes to; that equal codes come
 -- from the same skeleton with the same labels; whether marks are of the form. Assumes nothing.
 use mathlib.Core.Path.{_≡_, ap, sym, _∙_, subst}
 use mathlib.Core.Logic.{_↔_, ⊎-elim}
@@ -13,32 +13,23 @@ use Rattle.refusal.specs.document.Table.{Row, row3}
 use Rattle.digit_code.specs.document.Code.{decode}
 use Rattle.digit_code.specs.Ends.{Ends}
 use Rattle.skeleton.specs.document.Skeleton.{IsTree, Renumbering}
-use Rattle.skeleton.specs.Label.{Marks, rootedₗ, digits, labels, Keeps, IsRootedₗ, markRows}
+use Rattle.skeleton.specs.document.Label.{Marks, rootedₗ, digits, labels, Keeps}
+use Rattle.skeleton.specs.Label.{IsRootedₗ, markRows}
 use Rattle.skeleton.specs.General.{code-length, decoded-tree, code-decode, equal-codes}
 use Rattle.longest_path.specs.Theorems.{centre-inside}
-use Rattle.form.specs.document.Form.{NTuple, Centred}
+use Rattle.form.specs.document.Labelled.{nTupleₗ, centredₗ, Own, row14ₗ}
+use Rattle.form.specs.document.Root.{RootOf}
 use Rattle.form.specs.One.{one-n-tuple, one-centred, some-n-tuple, some-centred}
 use Rattle.form.specs.Carried.{rooted-carriedₗ, carry-n-tuple, carry-centred}
 
 module _ (M : Marks) where
-  -- c is the N-tuple code, or the centred code, of the skeleton with the edges E and the labels l
-  abbrev pub nTupleₗ : ℕ → List ℕ → (ℕ → M .Label) → List ℕ → Type 0
-  nTupleₗ N E l c = NTuple N E (rootedₗ M l N E) c
-
-  abbrev pub centredₗ : ℕ → List ℕ → (ℕ → M .Label) → List ℕ → Type 0
-  centredₗ N E l c = Centred N E (rootedₗ M l N E) c
-
-  -- c is the code of what it decodes to
-  abbrev pub Own : (ℕ → List ℕ → (ℕ → M .Label) → List ℕ → Type 0) → List ℕ → Type 0
-  Own form c = form (length c) (decode (digits M c)) (labels M c) c
-
-  -- 14: a right rooted code is not of the form asked for
-  abbrev pub row14ₗ : (ℕ → List ℕ → (ℕ → M .Label) → List ℕ → Type 0) → List ℕ → Row
-  row14ₗ form c = record { number = 14; applies = λ p. (p ≡ 0) × (Own form c → ⊥) }
+  -- r is the root of the centred code's numbering
+  abbrev pub CentredRootₗ : ℕ → List ℕ → (ℕ → M .Label) → ℕ → Type 0
+  CentredRootₗ N E l r = RootOf N E (rootedₗ M l N E) r
 
   -- what is refused of marks that are to be of a form
   abbrev pub formRowsₗ : (ℕ → List ℕ → (ℕ → M .Label) → List ℕ → Type 0) → ℕ → ℕ → (M .Label → ℕ) → List ℕ → List Row
-  formRowsₗ form code-length R most c = (row3 code-length (length c) ∷ markRows M R most c) ++ (row14ₗ form c ∷ [])
+  formRowsₗ form code-length R most c = (row3 code-length (length c) ∷ markRows M R most c) ++ (row14ₗ M form c ∷ [])
 
   -- c is the rooted code of the tree at one of its vertices
   abbrev pub AtRootₗ : ℕ → List ℕ → (ℕ → M .Label) → List ℕ → Type 0
@@ -59,7 +50,7 @@ module _ (M : Marks) where
     -- and the same skeleton under other numbers, with the same labels, has it too
     pub carried : (N : ℕ) (E F : List ℕ) (l m : ℕ → M .Label) (c : List ℕ) → IsTree N E → Alike N E F l m → form N E l c → form N F m c
 
-  pub n-tuple-formₗ : IsFormₗ nTupleₗ
+  pub n-tuple-formₗ : IsFormₗ (nTupleₗ M)
   n-tuple-formₗ = record {
     one = λ N E l t x y. one-n-tuple t x y;
     some = λ N E l t. some-n-tuple N E (rootedₗ M l N E) t;
@@ -67,7 +58,7 @@ module _ (M : Marks) where
     carried = λ N E F l m c t (ρ, k) x. carry-n-tuple N E F t ρ (rootedₗ M l N E) (rootedₗ M m N F) (rooted-carriedₗ M N E F l m t ρ k) x;
   }
 
-  pub centred-formₗ : IsFormₗ centredₗ
+  pub centred-formₗ : IsFormₗ (centredₗ M)
   centred-formₗ = record {
     one = λ N E l t x y. one-centred t x y;
     some = λ N E l t. some-centred N E (rootedₗ M l N E) t;

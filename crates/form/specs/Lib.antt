@@ -3,6 +3,7 @@ pub mod One
 pub mod Root
 pub mod Carried
 pub mod Labelled
+pub mod Rewritten
 pub mod Forms
 pub mod Accepted
 pub mod Theorems

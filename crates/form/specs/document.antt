@@ -1,3 +1,4 @@
 -- What must be believed: docs/READING.md lists it in the order of document 01. Assumes nothing.
 pub mod Form
 pub mod Root
+pub mod Labelled

@@ -15,6 +15,11 @@ use Rattle.skeleton.specs.document.Skeleton.{degree, IsTree, IsSkeleton}
 use Rattle.longest_path.specs.Theorems.{one-centre, centre-inside}
 use Rattle.numbering.specs.document.Pairs.{rootedPairs, log2}
 use Rattle.skeleton.specs.Base.{base}
+use Rattle.skeleton.specs.document.Atom.{Atom}
+use Rattle.skeleton.specs.document.AtomMarks.{atoms}
+use Rattle.skeleton.specs.Carbon.{carbon}
+use Rattle.numbering.specs.Numbers.{pairsₗ}
+use Rattle.numbering.specs.Rewritten.{carbon-counted}
 use Rattle.numbering.specs.Pairs.{pairs-counted}
 use Rattle.numbering.specs.Bound.{pairs-bound, pairsₗ-power}
 use Rattle.form.specs.Forms.{n-tuple-form, centred-form}
@@ -45,7 +50,7 @@ one-over-middles {N} {E} {at} {n} {m} t x y =
     which (inr (e, f)) = both-swap at (x .first) (x .second) ∙ sym (ap₂ (atBoth at) e f)
 
 -- B bounds the number at each vertex
-over-middles-bound :
+pub over-middles-bound :
     {N : ℕ} {E : List ℕ} {at : ℕ → ℕ} {B n k : ℕ} → IsTree N E → ((v : ℕ) → 1 ≤ v → v ≤ N → at v ≤ B)
     → OverMiddles N E at n → OverMiddles N E (λ v. 1) k → n ≤ k * B
 over-middles-bound {N} {E} {at} {B} {n} {k} t b x y =
@@ -59,6 +64,18 @@ over-middles-bound {N} {E} {at} {B} {n} {k} t b x y =
     step : (u v : ℕ) (d : Dec (u ≡ v)) → at u ≤ B → at v ≤ B → ite d (at u) (at u + at v) ≤ ite d 1 2 * B
     step u v (yes p) g h = omega arith
     step u v (no p) g h = omega arith
+
+-- there are two at most
+over-middles-twice : {N : ℕ} {E : List ℕ} {at : ℕ → ℕ} {B n : ℕ} → IsTree N E → ((v : ℕ) → 1 ≤ v → v ≤ N → at v ≤ B) → OverMiddles N E at n → n ≤ 2 * B
+over-middles-twice {N} {E} {at} {B} t b x =
+    let u : ℕ = x .first in
+    let v : ℕ = x .second in
+    let ((g, h), (i, j)) = centre-inside N E t u v (x .centre) in
+    rw (x .is) (step (ℕ-discrete u v) (b u g h) (b v i j))
+  where
+    step : {u v : ℕ} (d : Dec (u ≡ v)) → at u ≤ B → at v ≤ B → ite d (at u) (at u + at v) ≤ 2 * B
+    step (yes p) g h = omega arith
+    step (no p) g h = omega arith
 
 -- ---- over the vertices of maximum degree
 
@@ -81,7 +98,7 @@ of-degree-bound N E at B d (suc v) b h = step (ℕ-discrete (degree E (suc v)) d
     step (yes p) g k = omega arith
     step (no p) g k = omega arith
 
-over-widest-bound :
+pub over-widest-bound :
     {N : ℕ} {E : List ℕ} {at : ℕ → ℕ} {B n k : ℕ} → ((v : ℕ) → 1 ≤ v → v ≤ N → at v ≤ B)
     → OverWidest N E at n → OverWidest N E (λ v. 1) k → n ≤ k * B
 over-widest-bound {N} {E} {at} {B} {n} {k} b x y =
@@ -111,19 +128,46 @@ module _ (most R N : ℕ) (E : List ℕ) (s : IsSkeleton most R N E) (j : ℕ) (
   pairs-power r a b = rw (← (pairs-counted N E r (s .tree) a b)) (pairsₗ-power base (λ v. tt) R N E r (s .tree) (s .degrees) a b j h)
 
   pub centred-power : (n : ℕ) → centredPairs N E n → n ≤ 2 * ((R - 1) * (N * j))
-  centred-power n x =
-      let u : ℕ = x .first in
-      let v : ℕ = x .second in
-      let ((a, b), (c, d)) = centre-inside N E (s .tree) u v (x .centre) in
-      rw (x .is) (step (ℕ-discrete u v) (pairs-power u a b) (pairs-power v c d))
-    where
-      step : {u v B : ℕ} (d : Dec (u ≡ v)) → rootedPairs N E u ≤ B → rootedPairs N E v ≤ B → ite d (rootedPairs N E u) (rootedPairs N E u + rootedPairs N E v) ≤ 2 * B
-      step (yes p) g h = omega arith
-      step (no p) g h = omega arith
+  centred-power n x = over-middles-twice (s .tree) pairs-power x
 
 -- of a skeleton that the code takes
 pub centred-few : {N n : ℕ} {E : List ℕ} → IsSkeleton size width N E → centredPairs N E n → n ≤ 2 * (size * size)
 centred-few {N} {n} {E} s x = omega (arith, centred-power size width N E s 6 (omega (arith, s .few)) n x, s .few)
+
+-- with atoms
+module _ {N : ℕ} {E : List ℕ} (s : IsSkeleton size width N E) (label : ℕ → Atom) where
+  pub marks-at : (r : ℕ) → 1 ≤ r → r ≤ N → pairsₗ atoms label N E r ≤ size * size
+  marks-at r h k = omega (arith, pairsₗ-power atoms label width N E r (s .tree) (s .degrees) h k 6 (omega (arith, s .few)), s .few)
+
+  pub marks-few : {n : ℕ} → OverMiddles N E (pairsₗ atoms label N E) n → n ≤ 2 * (size * size)
+  marks-few x = over-middles-twice (s .tree) marks-at x
+
+-- ---- sums of the same numbers
+
+module _ {N : ℕ} {E : List ℕ} (t : IsTree N E) (at to : ℕ → ℕ) (same : (v : ℕ) → 1 ≤ v → v ≤ N → at v ≡ to v) where
+  pub middles-same : {n : ℕ} → OverMiddles N E at n → OverMiddles N E to n
+  middles-same x =
+      let u : ℕ = x .first in
+      let v : ℕ = x .second in
+      let ((a, b), (c, d)) = centre-inside N E t u v (x .centre) in
+      record { first = u; second = v; centre = x .centre; is = x .is ∙ ap₂ (λ i j. ite (ℕ-discrete u v) i (i + j)) (same u a b) (same v c d) }
+
+  of-degree-same : (d v : ℕ) → v ≤ N → ofDegree E at d v ≡ ofDegree E to d v
+  unfolding ofDegree
+  of-degree-same d zero h = refl
+  of-degree-same d (suc v) h =
+      ap₂ (λ i j. i + ite (ℕ-discrete (degree E (suc v)) d) j 0) (of-degree-same d v (omega arith)) (same (suc v) (omega arith) h)
+
+  pub widest-same : {n : ℕ} → OverWidest N E at n → OverWidest N E to n
+  widest-same x = record { root = x .root; inside = x .inside; maximum = x .maximum; is = x .is ∙ of-degree-same (degree E (x .root)) N (omega arith) }
+
+-- where every vertex is carbon
+module _ {N : ℕ} {E : List ℕ} (t : IsTree N E) where
+  pub middles-carbon : {n : ℕ} → OverMiddles N E (pairsₗ atoms carbon N E) n → centredPairs N E n
+  middles-carbon = middles-same t (pairsₗ atoms carbon N E) (rootedPairs N E) (λ v a b. carbon-counted N E v t a b)
+
+  pub widest-carbon : {n : ℕ} → OverWidest N E (pairsₗ atoms carbon N E) n → nTuplePairs N E n
+  widest-carbon = widest-same t (pairsₗ atoms carbon N E) (rootedPairs N E) (λ v a b. carbon-counted N E v t a b)
 
 -- ---- how many roots
 

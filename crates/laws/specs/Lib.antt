@@ -1,5 +1,6 @@
 -- Laws of lists, and of tests, that more than one crate cites. Assumes nothing.
 pub mod Sorting
+pub mod Rising
 pub mod Laid
 pub mod Laying
 pub mod Perms
@@ -8,4 +9,5 @@ pub mod Places
 pub mod Part
 pub mod Falling
 pub mod Tells
+pub mod Each
 pub mod document

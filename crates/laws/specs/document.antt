@@ -2,3 +2,4 @@
 pub mod Order
 pub mod Laid
 pub mod Once
+pub mod Each

@@ -1,5 +1,4 @@
 -- Laws that more than one proof of this crate cites. Assumes nothing.
-pub mod Forming
 pub mod Writing
 pub mod Locating
 pub mod Passing

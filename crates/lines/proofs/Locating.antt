@@ -2,10 +2,10 @@
 use mathlib.Core.Path.{_≡_, refl, sym, subst, _∙_}
 use mathlib.Core.Logic.{⊎-elim}
 use mathlib.Core.List.{List, [], _∷_}
-use Prim.Native.Nat.{ℕ, zero, suc, _-_, _≤_}
+use Prim.Native.Nat.{ℕ, suc, _-_, _≤_}
 use native.Mathlib.Omega.{arith}
 use lib.ListN.{length, take, drop}
-use lib.Seq.{take-nil, length-take-le}
+use lib.Seq.{length-take-le}
 use Rattle.laws.specs.Part.{part, part-length}
 use Rattle.refusal.specs.document.Table.{Row, FirstRefusal, Outside}
 use Rattle.refusal.specs.Laws.{clear-one, first-place, refusal-front, refusal-back}
@@ -21,6 +21,7 @@ use Rattle.lines.specs.document.Line.{Front, front, Formed, row3-line, r
 use Rattle.lines.specs.Form.{values, Forms, formed, unformed, Stands, frontRows, Located, stands, refused}
 use Rattle.lines.specs.document.Marks.{WrittenDigits}
 use Rattle.lines.specs.Plain.{plain-once}
+use Rattle.lines.specs.Forming.{drop-take}
 use Rattle.lines.specs.Taking.{length-values}
 
 -- the first row applies at 0
@@ -57,12 +58,6 @@ module _ (most : ℕ) {t : List ℕ} where
         (here {r = ofLine Formed t row5-line} [] (record { parts = q; shape = s; holds = (refl, e) })))
 
 -- ---- what was found
-
-drop-take : (s e : ℕ) (l : List ℕ) → drop s (take e l) ≡ part s e l
-drop-take zero e l = let q : e - 0 ≡ e = omega arith in rw q
-drop-take (suc s) zero l = let q : 0 - suc s ≡ 0 = omega arith in rw q
-drop-take (suc s) (suc e) [] = sym (take-nil (suc e - suc s))
-drop-take (suc s) (suc e) (a ∷ l) = let q : suc e - suc s ≡ e - s = omega arith in rw q (drop-take s e l)
 
 -- the first line ends at e, and its form is found: the count n, and the digits from s on
 pub record Found (t : List ℕ) (e n s : ℕ) : Type 0 where

@@ -1,9 +1,7 @@
 -- A line as it is written, byte behind byte. Assumes nothing.
 use mathlib.Core.Path.{_≡_, refl, sym, ap, _∙_}
-use mathlib.Core.Logic.{if-pos, if-neg}
 use mathlib.Core.List.{List, [], _∷_, _++_}
 use Prim.Native.Nat.{ℕ, _+_, _-_, _/_, _%_, _≤_, _<_}
-use native.Mathlib.Decide.{decLt}
 use native.Mathlib.Omega.{arith}
 use lib.ListN.{length, set, length-set, length-append, length-take, length-drop}
 use lib.Seq.{append-snoc}
@@ -12,23 +10,9 @@ use Rattle.laws.specs.Laid.{laid-length}
 use Rattle.laws.specs.document.Laid.{laidOver, Laid}
 use Rattle.laws.specs.Laying.{laid-none, laid-more, laid-part}
 use Rattle.texts.specs.document.Numerals.{figures, decimal}
-use Rattle.texts.specs.Numerals.{length-figures}
+use Rattle.texts.specs.Numerals.{length-figures, decimal-short, decimal-long, length-short, length-long}
 use Rattle.lines.specs.document.Line.{body, line}
 use Rattle.lines.specs.Plain.{length-line}
-
-decimal-short : (n : ℕ) → n < 10 → decimal n ≡ (48 + n) ∷ []
-unfolding decimal figures
-decimal-short n h = if-pos (decLt n 10) h _ _
-
-decimal-long : (n : ℕ) → 10 ≤ n → decimal n ≡ (48 + n / 10) ∷ (48 + n % 10) ∷ []
-unfolding decimal figures
-decimal-long n h = if-neg (decLt n 10) (λ l. omega arith) _ _
-
-pub length-short : (n : ℕ) → n < 10 → length (decimal n) ≡ 1
-length-short n h = ap length (decimal-short n h)
-
-pub length-long : (n : ℕ) → 10 ≤ n → length (decimal n) ≡ 2
-length-long n h = ap length (decimal-long n h)
 
 -- ---- the count
 

@@ -23,7 +23,7 @@ use Rattle.texts.specs.Answered.{answered-once}
 use Rattle.texts.specs.Taking.{read-once}
 use Rattle.texts.specs.FirstLines.{Pairwise, all-taken, taken-most, taken-pairs}
 use Rattle.texts.specs.Turns.{as-many}
-use Rattle.lines.specs.document.Line.{Front, Formed, digitRow, plainLines, Reply}
+use Rattle.lines.specs.document.Line.{Front, Formed, digitRow, plainLines}
 use Rattle.lines.specs.document.Judged.{digitTable}
 use Rattle.lines.specs.document.Reading.{digitsLent, linesOf, LineRead, TextRead}
 use Rattle.lines.specs.OfEdition.{answer-of, read-of}
@@ -55,7 +55,7 @@ module _ (most : ℕ) {R S : ℕ} (h : R ≤ S) where
   line-relaxed t more p = relaxed (frontRows most t) (behind t ++ more) (ofDigits t (row10 R)) (ofDigits t (row10 S)) (above-line t) p
 
   -- a line
-  pub limits-across : {t : List ℕ} {o u : Reply} → LineAnswers (for R) t o → LineAnswers (for S) t u → SameOrTen o u
+  pub limits-across : {t : List ℕ} {o u : Outcome (List ℕ)} → LineAnswers (for R) t o → LineAnswers (for S) t u → SameOrTen o u
   limits-across {t} a b = ⊎-elim (λ g. inl (answered-once (for S) plain-once g b)) inr (line-relaxed t [] a)
 
   -- what is handed out is the same for both limits
@@ -78,7 +78,7 @@ module _ (most : ℕ) {R S : ℕ} (h : R ≤ S) where
 -- Two editions, of which d has the narrower limit.
 module _ {d e : ℕ} (i : IsEdition d) (j : IsEdition e) (h : neighboursIn d ≤ neighboursIn e) where
   -- a line of a text
-  pub line-across : {t : List ℕ} {o u : Reply} → LineAnswers (linesOf d) t o → LineAnswers (linesOf e) t u → SameOrTen o u
+  pub line-across : {t : List ℕ} {o u : Outcome (List ℕ)} → LineAnswers (linesOf d) t o → LineAnswers (linesOf e) t u → SameOrTen o u
   line-across a b = limits-across size h (answer-of d i a) (answer-of e j b)
 
   -- a line that is read into a lent output: the same answer and the same output, or 10
@@ -88,7 +88,7 @@ module _ {d e : ℕ} (i : IsEdition d) (j : IsEdition e) (h : neighboursIn d ≤
   read-across a b = limits-read-across size h (read-of d i a) (read-of e j b)
 
   -- a text: as many answers, and each is that of its line
-  pub text-across : {t : List ℕ} {os us : List Reply} → TextAnswers (linesOf d) t os → TextAnswers (linesOf e) t us → Pairwise SameOrTen os us
+  pub text-across : {t : List ℕ} {os us : List (Outcome (List ℕ))} → TextAnswers (linesOf d) t os → TextAnswers (linesOf e) t us → Pairwise SameOrTen os us
   text-across a b =
       let g = all-taken (linesOf d) a in
       let k = all-taken (linesOf e) b in

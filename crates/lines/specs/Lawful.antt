@@ -2,27 +2,23 @@
 -- number. Assumes nothing.
 use mathlib.Core.Path.{_≡_, refl}
 use mathlib.Core.List.{List, _∷_}
-use Prim.Native.Nat.{ℕ, zero, suc, _+_, _-_, _≤_, _<_}
+use Prim.Native.Nat.{ℕ, _+_, _-_, _≤_, _<_}
 use native.Mathlib.Decide.{ℕ-discrete, decLt}
 use native.Mathlib.Omega.{arith}
 use lib.ListN.{length, getD}
 use Rattle.digit_code.specs.document.Code.{sum, EndsAt, cap, row10, row11, row12}
+use Rattle.digit_code.specs.Editions.{cap-most}
 use Rattle.digit_code.specs.Ends.{ends-iff, ends-sum}
 use Rattle.refusal.specs.document.Table.{Row, Clear}
 use Rattle.refusal.specs.Laws.{never, others}
 use Rattle.texts.specs.document.Numerals.{Digit, Digits}
-use Rattle.texts.specs.Each.{each-of}
+use Rattle.laws.specs.Each.{each-of}
 
 -- a code that these rows do not refuse
 pub record Code (c : List ℕ) : Type 0 where
   pub some : 1 ≤ length c
   pub digits : Digits c
   pub total : sum c + 1 ≡ length c
-
-cap-most : (R p : ℕ) → cap R p ≤ R
-cap-most R zero = omega arith
-cap-most R (suc zero) = omega arith
-cap-most R (suc (suc p)) = omega arith
 
 -- 11 and 12 alone fix the sum
 pub summed : (c : List ℕ) {rows : List Row} → Clear (row11 c ∷ row12 c ∷ rows) → sum c + 1 ≡ length c

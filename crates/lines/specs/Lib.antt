@@ -2,6 +2,7 @@
 -- line holds; then the form of a line as the code finds it, that plain lines are a sound format, the examples, and the laws behind them.
 -- What holds of a text of lines is in the crate `texts`. Assumes nothing.
 pub mod Form
+pub mod Forming
 pub mod Judged
 pub mod Plain
 pub mod Examples

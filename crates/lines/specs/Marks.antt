@@ -9,13 +9,14 @@ use native.Mathlib.Omega.{arith}
 use lib.ListN.{length}
 use Rattle.refusal.specs.document.Table.{Outcome, refuses, left}
 use Rattle.limits.specs.document.Limits.{size}
-use Rattle.texts.specs.document.Bytes.{Each, Cut}
+use Rattle.laws.specs.document.Each.{Each}
+use Rattle.texts.specs.document.Bytes.{Cut}
 use Rattle.texts.specs.document.Numerals.{figures, Digits, IsCount, one-digit, two-digits}
 use Rattle.texts.specs.document.Text.{LineAnswers}
-use Rattle.texts.specs.Each.{each-join, each-right, each-follows}
+use Rattle.laws.specs.Each.{each-join, each-right, each-follows}
 use Rattle.texts.specs.Answered.{unformed-2, answered-once}
 use Rattle.texts.specs.Taking.{read-once}
-use Rattle.lines.specs.document.Line.{body, line, Front, front, Formed, plainLines, Reply}
+use Rattle.lines.specs.document.Line.{body, line, Front, front, Formed, plainLines}
 use Rattle.lines.specs.document.Marks.{WrittenDigits, Allowed, DigitsOnly, Mark}
 use Rattle.lines.specs.document.Judged.{digitTable}
 use Rattle.lines.specs.document.Reading.{digitsLent, LineRead}
@@ -64,7 +65,7 @@ module _ {t b rest : List ℕ} (c : Cut 10 t b rest) (x y : List ℕ) (m : ℕ) 
   unformed q f = each-right (λ a. Mark a → ⊥) x (m ∷ y) (rw p at (formed-unmarked f)) .0 k
 
   -- it is refused 2 in a text
-  pub marked-answer : (R : ℕ) {o : Reply} → LineAnswers (plainLines size (digitTable R)) t o → o ≡ refuses 2 0
+  pub marked-answer : (R : ℕ) {o : Outcome (List ℕ)} → LineAnswers (plainLines size (digitTable R)) t o → o ≡ refuses 2 0
   marked-answer R h = answered-once (plainLines size (digitTable R)) plain-once h (left (unformed-2 Formed c unformed _) refl)
 
   -- and by itself

@@ -15,7 +15,7 @@ use Rattle.texts.specs.document.Lent.{Hands, lineRow15}
 use Rattle.texts.specs.Damage.{Accept}
 use Rattle.texts.specs.Sound.{Sound}
 use Rattle.texts.specs.Judging.{judged}
-use Rattle.lines.specs.document.Line.{Front, plainLines, Reply}
+use Rattle.lines.specs.document.Line.{Front, plainLines}
 use Rattle.lines.specs.document.Judged.{digitTable}
 use Rattle.lines.specs.document.Reading.{digitsLent, linesOf, LineRead}
 use Rattle.lines.specs.Judged.{table-sound, table-accept}
@@ -44,10 +44,10 @@ module _ (e : ℕ) where
     of-limit rows (kept c h) = kept (others c) h
     of-limit rows (left l q) = left (refusal-behind (row22 e ∷ []) rows (edition-clear i) l) q
 
-    pub answer-in : {t : List ℕ} {o : Reply} → LineAnswers limited t o → LineAnswers (linesOf e) t o
+    pub answer-in : {t : List ℕ} {o : Outcome (List ℕ)} → LineAnswers limited t o → LineAnswers (linesOf e) t o
     answer-in {t} a = in-edition (lineRows limited t) a
 
-    pub answer-of : {t : List ℕ} {o : Reply} → LineAnswers (linesOf e) t o → LineAnswers limited t o
+    pub answer-of : {t : List ℕ} {o : Outcome (List ℕ)} → LineAnswers (linesOf e) t o → LineAnswers limited t o
     answer-of {t} a = of-limit (lineRows limited t) a
 
     -- what is handed out is the same

@@ -16,7 +16,8 @@ use Rattle.texts.specs.Judging.{judged, judged-through, none}
 use Rattle.texts.specs.Damage.{Accept}
 use Rattle.texts.specs.Sound.{Once, Reads, Sound}
 use Rattle.texts.specs.Numerals.{length-figures, sum-figures, same-figures, decimal-counts, count-decimal, count-short, count-some, one-count, marks-figures, marks-count}
-use Rattle.texts.specs.Spaced.{spaced, Marked, Alike, Tied, same-parts}
+use Rattle.texts.specs.document.Parts.{spaced}
+use Rattle.texts.specs.Spaced.{Marked, Alike, Tied, same-parts}
 use Rattle.texts.specs.Parted.{parted-sound}
 use Rattle.lines.specs.document.Line.{body, line, Front, front, Formed, row3-line, row5-line, DigitRow, plainLines}
 

@@ -4,10 +4,14 @@ use limits::SIZE;
 use refusal::Answer;
 use refusal::Check;
 ghost use mathlib.Core.Path.{_≡_};
+ghost use mathlib.Core.Bool.{true};
 ghost use mathlib.Core.List.{List, _∷_};
 ghost use Prim.Native.Nat.{ℕ, _≤_, _<_};
 ghost use lib.ListN.{length, set};
 ghost use Rattle.laws.specs.document.Laid.{laidOver, Laid};
+ghost use Rattle.laws.specs.document.Each.{Each};
+ghost use Rattle.laws.specs.Each.{Passed};
+ghost use Rattle.texts.specs.document.Bytes.{Other};
 ghost use Rattle.limits.specs.document.Limits.{size};
 ghost use Rattle.refusal.specs.document.Table.{row3};
 ghost use Rattle.refusal.specs.Checks.{Answers};
@@ -15,12 +19,15 @@ ghost use Rattle.refusal.specs.document.Outcome.{told};
 ghost use Rattle.texts.specs.document.Numerals.{Digits, figures, decimal};
 ghost use Rattle.texts.specs.document.Lent.{numberOf, placeOf};
 ghost use Rattle.texts.specs.Judging.{judged};
-ghost use Rattle.texts.specs.Ending.{UpTo, Behind};
+ghost use Rattle.texts.specs.Ending.{Until, UpTo, Behind};
 ghost use Rattle.lines.specs.document.Line.{line, plainLines};
 ghost use Rattle.lines.specs.document.Judged.{digitTable};
 ghost use Rattle.lines.specs.document.Reading.{linesOf, LineRead, TextRead};
 ghost use Rattle.lines.specs.Form.{Room, Value, values, Figured, Opens, Forms, Located};
 ghost use Rattle.lines.specs.document.Marks.{WrittenDigits};
+
+// Bytes that are compared at once.
+const BLOCK: usize = 16;
 
 // How a line begins.
 pub enum Opening {
@@ -44,18 +51,82 @@ pub struct Progress {
     pub at: usize,
 }
 
-// The place of the first line feed, or the length where there is none.
-pub fn feed(text: &[u8]) -> usize
-    ensures { λ r. ⌜ UpTo (now (text .entry)) r ⌝ }
+// Whether no byte of `t` is k, where it says so. All are looked at, so that the machine can compare many at once.
+fn none(k: u8, t: &[u8]) -> bool
+    ensures { λ r. ⌜ (r ≡ true → Each (Other k) (now (t .entry))) ⌝ }
 {
+    let mut free = true;
     let mut i = 0;
-    while i < text.len() {
-        if text[i] == 10 {
+    while i < t.len() {
+        let b = t[i];
+        i += 1;
+        if b == k {
+            free = false;
+        }
+    }
+    free
+}
+
+// A place before which no byte is k, as there is none before `from`: whole blocks are passed while they are free of it.
+fn passed(k: u8, t: &[u8], from: usize) -> usize
+    requires { ⌜ Passed (Other k) (now t) from ⌝ }
+    ensures { λ r. ⌜ Passed (Other k) (now (t .entry)) r ⌝ }
+{
+    let mut i = from;
+    while BLOCK <= t.len() - i {
+        if !none(k, &t[i..i + BLOCK]) {
+            return i;
+        }
+        i += BLOCK;
+    }
+    i
+}
+
+// The place of the first byte k, or the length where there is none; before `from` there is none.
+fn seek(k: u8, t: &[u8], from: usize) -> usize
+    requires { ⌜ Passed (Other k) (now t) from ⌝ }
+    ensures { λ r. ⌜ Until k (now (t .entry)) r ⌝ }
+{
+    let mut i = from;
+    while i < t.len() {
+        if t[i] == k {
             return i;
         }
         i += 1;
     }
     i
+}
+
+// The same of a block and more. A near one is found byte by byte, since most parts of a line are short; then whole blocks are passed.
+fn seek_far(k: u8, t: &[u8]) -> usize
+    requires { ⌜ 16 ≤ length (now t) ⌝ }
+    ensures { λ r. ⌜ Until k (now (t .entry)) r ⌝ }
+{
+    let near = seek(k, &t[..BLOCK], 0);
+    if near < BLOCK {
+        return near;
+    }
+    seek(k, t, passed(k, t, BLOCK))
+}
+
+// The place of the first byte k, or the length where there is none.
+pub fn until(k: u8, t: &[u8]) -> usize
+    ensures { λ r. ⌜ Until k (now (t .entry)) r ⌝ }
+{
+    if t.len() < BLOCK {
+        return seek(k, t, 0);
+    }
+    seek_far(k, t)
+}
+
+// The place of the first line feed, or the length where there is none. A text that is one short line is looked through here: `until` would cost a call.
+pub fn feed(text: &[u8]) -> usize
+    ensures { λ r. ⌜ UpTo (now (text .entry)) r ⌝ }
+{
+    if text.len() < BLOCK {
+        return seek(10, text, 0);
+    }
+    until(10, text)
 }
 
 // The value of a digit's byte, and 10 of any other byte.
@@ -72,7 +143,7 @@ fn value(b: u8) -> u8
 }
 
 // Whether `t` is one or more digits.
-fn digits(t: &[u8]) -> bool
+pub fn digits(t: &[u8]) -> bool
     ensures { λ r. ⌜ Figured (now (t .entry)) r ⌝ }
 {
     if t.len() == 0 {
@@ -89,7 +160,7 @@ fn digits(t: &[u8]) -> bool
 }
 
 // The count and the space that `b` begins with.
-fn begin(b: &[u8]) -> Opening
+pub fn begin(b: &[u8]) -> Opening
     ensures { λ r. ⌜ Opens (now (b .entry)) r ⌝ }
 {
     if b.len() < 2 {
@@ -174,7 +245,7 @@ pub fn read_digits(t: &[u8], out: &mut [u8])
 }
 
 // Values as written digits, to the start of what is lent.
-fn write_digits(code: &[u8], out: &mut [u8])
+pub fn write_digits(code: &[u8], out: &mut [u8])
     requires digits { ⌜ Digits (now code) ⌝ }
     requires room { ⌜ length (now code) ≤ length (now out) ⌝ }
     ensures { λ _. ⌜ now (out .exit) ≡ laidOver (figures (now (code .entry))) (now (out .entry)) ⌝ }
@@ -187,7 +258,7 @@ fn write_digits(code: &[u8], out: &mut [u8])
 }
 
 // The count of n digits, to the start of what is lent; how many bytes that is.
-fn write_count(n: usize, out: &mut [u8]) -> usize
+pub fn write_count(n: usize, out: &mut [u8]) -> usize
     requires few { ⌜ n ≤ 99 ⌝ }
     requires room { ⌜ length (decimal n) ≤ length (now out) ⌝ }
     ensures { λ r. ⌜ Laid (decimal n) (now (out .entry)) (now (out .exit)) r ⌝ }
@@ -274,7 +345,7 @@ pub fn read_line_of(edition: usize, text: &[u8], out: &mut [u8]) -> Answer
 }
 
 // How many lines there is room for: SIZE bytes, a number and a place for each.
-fn room(records: usize, numbers: usize, places: usize) -> usize
+pub fn room(records: usize, numbers: usize, places: usize) -> usize
     ensures { λ r. ⌜ Room size records numbers places r ⌝ }
 {
     let n = records / SIZE;
@@ -303,7 +374,7 @@ pub fn behind(text: &[u8], at: usize) -> usize
 }
 
 // Number and place of an answer, for line k.
-fn note(r: Answer, numbers: &mut [u8], places: &mut [usize], k: usize)
+pub fn note(r: Answer, numbers: &mut [u8], places: &mut [usize], k: usize)
     requires { ⌜ k < length (now numbers) ⌝ }
     requires { ⌜ k < length (now places) ⌝ }
     ensures { λ _. ⌜ now (numbers .exit) ≡ set (now (numbers .entry)) k (numberOf (told r)) ⌝ }

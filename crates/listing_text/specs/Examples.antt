@@ -14,7 +14,7 @@ written-number = refl
 
 -- the lines `8 32100100`, `6 220010`, `6 311000`, `6 2200,10`, `3 20`, and `1 0` without its line feed
 document-01 :
-    (c d : List ℕ)
+    {A : Type 0} (c d : A)
     → listed (gives c ∷ gives d ∷ refuses 14 0 ∷ refuses 2 0 ∷ refuses 5 0 ∷ refuses 1 0 ∷ [])
     ≡ (49 ∷ 32 ∷ 48 ∷ 32 ∷ 48 ∷ 10 ∷ [])
     ++ (50 ∷ 32 ∷ 48 ∷ 32 ∷ 48 ∷ 10 ∷ [])
@@ -27,6 +27,6 @@ unfolding listed answerLines answerLine totals numeral numeralIn records refusal
 document-01 c d = refl
 
 -- "Empty input gives only `read 0 refused 0`."
-empty : listed [] ≡ 114 ∷ 101 ∷ 97 ∷ 100 ∷ 32 ∷ 48 ∷ 32 ∷ 114 ∷ 101 ∷ 102 ∷ 117 ∷ 115 ∷ 101 ∷ 100 ∷ 32 ∷ 48 ∷ 10 ∷ []
+empty : listed {A = List ℕ} [] ≡ 114 ∷ 101 ∷ 97 ∷ 100 ∷ 32 ∷ 48 ∷ 32 ∷ 114 ∷ 101 ∷ 102 ∷ 117 ∷ 115 ∷ 101 ∷ 100 ∷ 32 ∷ 48 ∷ 10 ∷ []
 unfolding listed answerLines totals numeral numeralIn records refusals decLt
 empty = refl

@@ -1,18 +1,27 @@
 // The listing: an answer to each line of a text and then the totals, as document 01 has them written. What it is stands in
-// specs/Listing.antt. It is handed out in pieces: it is put together from its start, number by number, and a window goes along, into
+// specs/document/Listing.antt. It is handed out in pieces: it is put together from its start, number by number, and a window goes along, into
 // which falls what is asked for.
 use limits::SIZE;
 use refusal::Answer;
 ghost use mathlib.Core.Path.{_≡_};
 ghost use mathlib.Core.List.{[], _∷_, _++_};
 ghost use Prim.Native.Nat.{_≤_, min};
-ghost use lib.ListN.{length, drop};
+ghost use lib.ListN.{length};
 ghost use Rattle.limits.specs.document.Limits.{size};
 ghost use Rattle.refusal.specs.document.Outcome.{told};
 ghost use Rattle.lines.specs.document.Judged.{digitTable};
-ghost use Rattle.listing_text.specs.document.Listing.{longest, numeral, answerLine, totals as Listing·totals, Lists};
+ghost use Rattle.named_lines.specs.document.Named.{namedLines, namedTable};
+ghost use Rattle.listing_text.specs.document.Listing.{longest, numeral, answerLine, totals as Listing·totals, ListsOf, Lists};
 ghost use Rattle.listing_text.specs.Window.{Puts};
-ghost use Rattle.listing_text.specs.Steps.{Replied, isRecord, Spelt};
+ghost use Rattle.listing_text.specs.Steps.{linesOfKind, Allowed, Replied, isRecord, Spelt};
+
+// Which lines a text has.
+pub enum Kind {
+    // plain ones, where a vertex may have so many neighbours
+    Plain(u8),
+    // named ones
+    Named,
+}
 
 // How far the window is: so many bytes are still to be passed over, and so many lie in what is lent.
 struct Window {
@@ -101,13 +110,33 @@ fn totals(read: usize, refused: usize, w: Window, out: &mut [u8]) -> Window
     number(refused, 10, c, out)
 }
 
-// The answer to a text's first line.
-fn first(limit: u8, text: &[u8]) -> Answer
+// The answer to a text's first line, as a plain line.
+fn first_plain(limit: u8, text: &[u8]) -> Answer
     requires { ⌜ 1 ≤ limit ⌝ }
-    ensures { λ r. ⌜ Replied limit (now (text .entry)) (told r) ⌝ }
+    ensures { λ r. ⌜ Replied (linesOfKind (Kind.Plain limit)) (now (text .entry)) (told r) ⌝ }
 {
     let mut digits = [0u8; SIZE];
     lines::read_line(limit, text, &mut digits)
+}
+
+// The answer to a text's first line, as a named line.
+fn first_named(text: &[u8]) -> Answer
+    ensures { λ r. ⌜ Replied (linesOfKind Kind.Named) (now (text .entry)) (told r) ⌝ }
+{
+    let mut digits = [0u8; SIZE];
+    let mut letters = [0u8; SIZE];
+    named_lines::read_line(text, &mut digits, &mut letters)
+}
+
+// The answer to a text's first line.
+fn first(kind: Kind, text: &[u8]) -> Answer
+    requires { ⌜ Allowed kind ⌝ }
+    ensures { λ r. ⌜ Replied (linesOfKind kind) (now (text .entry)) (told r) ⌝ }
+{
+    match kind {
+        Kind::Plain(limit) => first_plain(limit, text),
+        Kind::Named => first_named(text),
+    }
 }
 
 // 1 for a record, and 0 for a refusal.
@@ -121,10 +150,10 @@ fn is_record(a: Answer) -> usize
 }
 
 // The listing of a text that is not too long.
-fn list_lines(limit: u8, text: &[u8], from: usize, out: &mut [u8]) -> usize
+fn list_lines(kind: Kind, text: &[u8], from: usize, out: &mut [u8]) -> usize
     requires { ⌜ length (now text) ≤ longest ⌝ }
-    requires { ⌜ 1 ≤ limit ⌝ }
-    ensures { λ r. ⌜ Lists size (digitTable limit) (now (text .entry)) (now (out .entry)) (now (out .exit)) from r ⌝ }
+    requires { ⌜ Allowed kind ⌝ }
+    ensures { λ r. ⌜ ListsOf (linesOfKind kind .format) (now (text .entry)) (now (out .entry)) (now (out .exit)) from r ⌝ }
 {
     let mut w = Window {
         skip: from,
@@ -134,7 +163,7 @@ fn list_lines(limit: u8, text: &[u8], from: usize, out: &mut [u8]) -> usize
     let mut line = 0;
     let mut read = 0;
     while at < text.len() {
-        let a = first(limit, &text[at..]);
+        let a = first(kind, &text[at..]);
         line += 1;
         w = answer(a, line, w, out);
         read += is_record(a);
@@ -144,10 +173,10 @@ fn list_lines(limit: u8, text: &[u8], from: usize, out: &mut [u8]) -> usize
     end.done
 }
 
-// The listing of a text from byte `from` on, as much as there is room for; how many bytes that is. A vertex may have `limit` neighbours.
-pub fn list(limit: u8, text: &[u8], from: usize, out: &mut [u8]) -> usize
-    requires { ⌜ 1 ≤ limit ⌝ }
-    ensures { λ r. ⌜ Lists size (digitTable limit) (now (text .entry)) (now (out .entry)) (now (out .exit)) from r ⌝ }
+// The listing of a text from byte `from` on, as much as there is room for; how many bytes that is.
+pub fn list_kind(kind: Kind, text: &[u8], from: usize, out: &mut [u8]) -> usize
+    requires { ⌜ Allowed kind ⌝ }
+    ensures { λ r. ⌜ ListsOf (linesOfKind kind .format) (now (text .entry)) (now (out .entry)) (now (out .exit)) from r ⌝ }
 {
     if 65536 < text.len() {
         let w = Window {
@@ -157,5 +186,20 @@ pub fn list(limit: u8, text: &[u8], from: usize, out: &mut [u8]) -> usize
         let end = put(b"input too long\n", w, out);
         return end.done;
     }
-    list_lines(limit, text, from, out)
+    list_lines(kind, text, from, out)
+}
+
+// The listing of a text of plain lines, where a vertex may have `limit` neighbours.
+pub fn list(limit: u8, text: &[u8], from: usize, out: &mut [u8]) -> usize
+    requires { ⌜ 1 ≤ limit ⌝ }
+    ensures { λ r. ⌜ Lists size (digitTable limit) (now (text .entry)) (now (out .entry)) (now (out .exit)) from r ⌝ }
+{
+    list_kind(Kind::Plain(limit), text, from, out)
+}
+
+// The listing of a text of named lines.
+pub fn list_named(text: &[u8], from: usize, out: &mut [u8]) -> usize
+    ensures { λ r. ⌜ ListsOf (namedLines size namedTable) (now (text .entry)) (now (out .entry)) (now (out .exit)) from r ⌝ }
+{
+    list_kind(Kind::Named, text, from, out)
 }

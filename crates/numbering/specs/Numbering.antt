@@ -16,7 +16,7 @@ use Rattle.skeleton.specs.document.Skeleton.{Arc, arcs, neighbours, degree, chi
 use Rattle.skeleton.specs.Forest.{Forest, none, tree, vertices, count, Rooted}
 use Rattle.skeleton.specs.Forests.{count-vertices, distinct-once}
 use Rattle.skeleton.specs.Grow.{rooted-tree}
-use Rattle.skeleton.specs.Label.{Marks, joinₗ, rootedₗ, digits}
+use Rattle.skeleton.specs.document.Label.{Marks, joinₗ, rootedₗ, digits}
 use Rattle.skeleton.specs.Codes.{roots, root-in, neighbours-perm, near, Good, good, children-all, children-but, branches, rooted-join}
 use Rattle.skeleton.specs.Decoding.{width, marks, marks-digits, marks-labels}
 use Rattle.skeleton.specs.Sorted.{branches-length}

@@ -1,7 +1,7 @@
 -- Document 01, "Numbering by code": "The vertex of the i-th digit gets number i", of an edge list and a root: which vertex that is. Of equal
 -- siblings the one whose edge is listed first goes first.
 --
--- In order: the order of the vertices (`document.Order`) with labels; what it is to be one (`Numbers`); two orders side by side
+-- In order: the pairs looked at for the order of the vertices (`document.Order`); what it is to be one (`Numbers`); two orders side by side
 -- (`Beside`); then the theorems, with labels, and for document 01's codes (`order-numbers`, `orders-beside`). Assumes nothing.
 use mathlib.Core.Path.{_≡_, refl, ap, sym, _∙_, subst}
 use mathlib.Core.Logic.{ite, if-pos, if-neg}
@@ -16,26 +16,18 @@ use Rattle.digit_code.specs.document.Code.{decode}
 use Rattle.skeleton.specs.document.Skeleton.{arcs, degree, children, IsTree, rooted, Renumbering}
 use Rattle.skeleton.specs.Forest.{Rooted}
 use Rattle.skeleton.specs.Grow.{rooted-tree}
-use Rattle.skeleton.specs.Label.{Marks, rootedₗ, digits, labels, Keeps}
+use Rattle.skeleton.specs.document.Label.{Marks, rootedₗ, digits, labels, Keeps}
 use Rattle.skeleton.specs.Base.{base, rooted-base, digits-base}
 use Rattle.skeleton.specs.Renumber.{rooted-within, back, after}
 use Rattle.skeleton.specs.Numbered.{ToldBy, getD-map-in}
-use Rattle.numbering.specs.document.Order.{orderBy, kidsOf, order}
+use Rattle.numbering.specs.document.Order.{kidsOf, order, markAt, orderₗ}
 use Rattle.numbering.specs.Order.{pairsBy}
 use Rattle.numbering.specs.Numbering.{Reads, Orders, tree-numbering}
 
 module _ (M : Marks) (label : ℕ → M .Label) where
-  -- with labels: the mark of v where r is the root
-  abbrev pub markAt : List ℕ → ℕ → ℕ → ℕ
-  markAt E r v = M .mark (kidsOf E r v) (label v)
-
-  -- the vertices in the order of the marks of the rooted code
-  unfoldable pub orderₗ : ℕ → List ℕ → ℕ → List ℕ
-  orderₗ N E r = orderBy (markAt E r) (children (arcs E)) N 0 r
-
   -- the pairs of marks looked at where every two siblings are compared once
   unfoldable pub pairsₗ : ℕ → List ℕ → ℕ → ℕ
-  pairsₗ N E r = pairsBy (markAt E r) (children (arcs E)) N 0 r
+  pairsₗ N E r = pairsBy (markAt M label E r) (children (arcs E)) N 0 r
 
 -- o is the order of the vertices: each once, the root first; the i-th digit is the number of the i-th one's children; and the tree so
 -- numbered is what its rooted code decodes to
@@ -121,6 +113,14 @@ module _ (M : Marks) (N : ℕ) (E F : List ℕ) (r q : ℕ) (l k : ℕ → M .La
         },
       )
 
+-- trees with equal codes: the orders of their marks side by side are a renumbering that keeps the labels, root to root
+pub orders-besideₗ : (M : Marks) (N : ℕ) (E F : List ℕ) (r q : ℕ) (l k : ℕ → M .Label) → IsTree N E → 1 ≤ r → r ≤ N → IsTree N F → 1 ≤ q → q ≤ N → rootedₗ M l N E r ≡ rootedₗ M k N F q
+    → (ρ : Renumbering N E F) × (ρ .to r ≡ q) × Keeps M N E F l k ρ × ((i : ℕ) → i < N → ρ .to (getD (orderₗ M l N E r) i 0) ≡ getD (orderₗ M k N F q) i 0)
+orders-besideₗ M N E F r q l k t a b u i j e =
+    let (ρ, x) =
+    beside M N E F r q l k (markAt M l E r) (markAt M k F q) (orderₗ M l N E r) (orderₗ M k N F q) (orderₗ-numbers M l N E r t a b) (orderₗ-numbers M k N F q u i j) (rooted-tree N F q u i j) e in
+    (ρ, x .root, x .keeps, x .at)
+
 -- ---- document 01's codes
 
 module _ (N : ℕ) (E : List ℕ) (r : ℕ) where
@@ -153,7 +153,5 @@ pub orders-beside : (N : ℕ) (E F : List ℕ) (r q : ℕ) → IsTree N E → 1 
 unfolding order orderₗ
 orders-beside N E F r q t a b u i j e =
     let l : ℕ → base .Label = λ v. tt in
-    let (ρ, x) =
-    beside base N E F r q l l (markAt base l E r) (markAt base l F q) (order N E r) (order N F q) (orderₗ-numbers base l N E r t a b) (orderₗ-numbers base l N F q u i j) (rooted-tree N F q u i j)
-    (rooted-base l N E r ∙ e ∙ sym (rooted-base l N F q)) in
-    (ρ, x .root, x .at)
+    let (ρ, root, keeps, at) = orders-besideₗ base N E F r q l l t a b u i j (rooted-base l N E r ∙ e ∙ sym (rooted-base l N F q)) in
+    (ρ, root, at)

@@ -11,7 +11,7 @@ use Rattle.laws.specs.document.Order.{dec≽, sort}
 use Rattle.laws.specs.Perms.{perm-in}
 use Rattle.digit_code.specs.document.Code.{sum}
 use Rattle.skeleton.specs.Forest.{Forest, none, tree, vertices, count, Rooted}
-use Rattle.skeleton.specs.Label.{Marks}
+use Rattle.skeleton.specs.document.Label.{Marks}
 use Rattle.skeleton.specs.Codes.{roots}
 use Rattle.numbering.specs.document.Order.{insertBy, sortBy, orderBy}
 use Rattle.numbering.specs.Order.{pairs, marksBy, pairsBy}

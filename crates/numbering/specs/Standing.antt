@@ -1,24 +1,25 @@
 -- Where each vertex stands in what a code decodes to, on forests: for the proofs of `Decoded` alone.
 --
 -- In order: the neighbours of each vertex as they are listed; a forest that is numbered from j, as a part of the digits and of the edges; the
--- vertex i found in it; what is then known of vertex i. Assumes nothing.
-use mathlib.Core.Path.{_≡_, refl, ap, ap₂, sym, _∙_}
-use mathlib.Core.List.{List, [], _∷_, _++_, append-nil, append-assoc, List·Memᴰ, Permᴰ·refl}
-use Prim.Native.Nat.{ℕ, suc, _+_, _-_, _*_, _≤_, _<_}
+-- vertex i found in it; what is then known of vertex i, by the digits alone and by marks of which they are the digits. Assumes nothing.
+use mathlib.Core.Path.{_≡_, refl, ap, ap₂, sym, _∙_, subst}
+use mathlib.Core.List.{List, [], _∷_, _++_, map, append-nil, append-assoc, List·Memᴰ, Permᴰ·refl}
+use Prim.Native.Nat.{ℕ, zero, suc, _+_, _-_, _*_, _≤_, _<_}
 use native.Mathlib.Decide.{ℕ-discrete, decLt}
 use native.Mathlib.Omega.{arith}
-use lib.ListN.{length, getD, take, drop, length-append}
-use lib.Seq.{getD-at, drop-at}
-use Rattle.laws.specs.Falling.{Falling}
+use lib.ListN.{length, getD, take, drop, length-append, length-map}
+use lib.Seq.{getD-at, getD-drop, drop-at}
 use Rattle.digit_code.specs.document.Code.{plain, codes, childCodes, digit, decode}
 use Rattle.digit_code.specs.Ordered.{Ordered}
+use Rattle.digit_code.specs.Two.{map-drop, digit-at}
 use Rattle.skeleton.specs.document.Skeleton.{Arc, arcs, neighbours, children}
 use Rattle.skeleton.specs.Forest.{Forest, none, tree, vertices, count, hung}
+use Rattle.skeleton.specs.document.Label.{Marks, digits, labels}
 use Rattle.skeleton.specs.Codes.{roots, root-in, neighbours-none, neighbours-past, neighbours-append, far, near, full, Good, but, but-none, but-first}
-use Rattle.skeleton.specs.Decoding.{width, shape, shape-length, number, number-count, edgesOf, edges-hung, decode-forest}
+use Rattle.skeleton.specs.Decoding.{width, shape, shape-length, number, number-count, edgesOf, edges-hung, decode-forest, marks}
 use Rattle.skeleton.specs.Right.{number-in, edges-length}
 use Rattle.skeleton.specs.Base.{base, marks-base}
-use Rattle.skeleton.specs.Ordered.{strings, first-codes, Down, ordered-forest}
+use Rattle.skeleton.specs.Ordered.{strings, first-codes, Down, ordered-forest, number-width, read-part}
 
 -- no labels
 abbrev pub bare : ℕ → Unit {0}
@@ -244,11 +245,40 @@ module _ (c : List ℕ) where
         ap₂ (λ n l. take n (codes plain l)) its-digit (ap (λ n. drop n c) (sym (k .place)) ∙ behind)
         ∙ first
 
-    pub its-order : Ordered plain c → Falling (strings base bare (k .below)) × Down base bare (k .below)
-    its-order o =
-        let (a, b) = tail (k .front) (width (k .below) ∷ (shape (k .below) ++ k .rest)) (rw (k .digits) at o) in
-        (rw first at a, (rw marks-base at (ordered-forest base bare (k .below) (k .rest))) .0 b .0)
-      where
-        tail : (x y : List ℕ) → Ordered plain (x ++ y) → Ordered plain y
-        tail [] y o = o
-        tail (n ∷ x) y o = tail x y (o .1)
+-- ---- where the digits are of marks
+
+ordered-drop : (arity : ℕ → ℕ) (n : ℕ) (c : List ℕ) → Ordered arity c → Ordered arity (drop n c)
+ordered-drop arity zero c o = o
+ordered-drop arity (suc n) [] o = o
+ordered-drop arity (suc n) (m ∷ c) o = ordered-drop arity n c (o .1)
+
+module _ (M : Marks) (c : List ℕ) {p i : ℕ} (k : Known (digits M c) p i) where
+  -- what hangs below vertex i, by its numbers
+  abbrev pub hangs : Forest
+  hangs = number (suc i) (k .below)
+
+  -- the marks behind its own are first those
+  marked : (r : List ℕ) × (drop i c ≡ marks M (labels M c) hangs ++ r)
+  unfolding digits labels
+  marked =
+      let e : map (M .arity) (drop i c) ≡ shape (k .below) ++ k .rest = map-drop (M .arity) i c ∙ ap (λ n. drop n (map (M .arity) c)) (sym (k .place)) ∙ behind (map (M .arity) c) k in
+      let (r, q, g) = read-part M (labels M c) (drop i c) (suc i) (k .below) (k .rest) e
+      (λ j. let n : suc i + j - 1 ≡ i + j = omega arith in ap (M .atom) (ap (λ t. getD c t 0) n ∙ sym (getD-drop i c j 0))) in
+      (r, q)
+
+  pub its-arity : M .arity (digit c i) ≡ width (k .below)
+  unfolding digits
+  its-arity =
+      let n : length c ≡ length (k .front) + suc (length (shape (k .below)) + length (k .rest)) = sym (length-map c (M .arity)) ∙ ap length (k .digits) ∙ (simp length-append) in
+      sym (digit-at (M .arity) c refl (i - 1) (omega (arith, k .place))) ∙ its-digit (map (M .arity) c) k
+
+  -- its children's codes
+  pub marked-codes : childCodes (M .arity) c i ≡ strings M (labels M c) hangs
+  unfolding childCodes
+  marked-codes =
+      let (r, q) = marked in
+      ap₂ (λ n l. take n (codes (M .arity) l)) (its-arity ∙ sym (number-width (suc i) (k .below))) q ∙ first-codes M (labels M c) hangs r
+
+  -- which go down, there and below, where the marks are ordered
+  pub marked-down : Ordered (M .arity) c → Down M (labels M c) hangs
+  marked-down o = let (r, q) = marked in ordered-forest M (labels M c) hangs r .0 (subst (λ x. Ordered (M .arity) x) q (ordered-drop (M .arity) i c o)) .0

@@ -1,4 +1,4 @@
--- Parents in what a rooted code decodes to, from what is known of each vertex there (`IsVertex` of the crate `numbering`).
+-- Parents in what a rooted code of marks decodes to, from what is known of each vertex there (`IsVertexₗ` of the crate `numbering`).
 --
 -- In order: who has a parent; lists of vertices and of codes; a parent has a lower number, and every arc joins a vertex to its parent
 -- (`arc-parent`); the code of what hangs at a vertex is its subtree code (`side-code`). Assumes nothing.
@@ -15,15 +15,16 @@ use Rattle.laws.specs.Sorting.{sort-stays}
 use Rattle.digit_code.specs.document.Code.{plain, digit, codes, childCodes, decode}
 use Rattle.digit_code.specs.Ordered.{by-places}
 use Rattle.digit_code.specs.Siblings.{child-codes}
-use Rattle.skeleton.specs.document.Skeleton.{Arc, arcs, neighbours, children, IsTree, join, codeAt}
-use Rattle.skeleton.specs.IsRooted.{IsRooted}
+use Rattle.skeleton.specs.document.Skeleton.{Arc, arcs, neighbours, children, IsTree}
+use Rattle.skeleton.specs.document.Label.{Marks, joinₗ, codeₗ, digits, labels}
+use Rattle.skeleton.specs.Label.{IsRootedₗ}
+use Rattle.skeleton.specs.General.{decoded-tree}
 use Rattle.skeleton.specs.Arcs.{near-arc, arc-near}
 use Rattle.skeleton.specs.Codes.{but}
-use Rattle.skeleton.specs.Ordered.{code-ordered}
-use Rattle.skeleton.specs.Theorems.{decoded-tree}
+use Rattle.skeleton.specs.Ordered.{code-orderedₗ}
 use Rattle.skeleton.specs.Walks.{turn, arc-end}
-use Rattle.numbering.specs.document.Decoded.{IsVertex, starts, begins, parent}
-use Rattle.numbering.specs.Decoded.{rooted-decoded}
+use Rattle.numbering.specs.document.Decoded.{starts, begins, parent}
+use Rattle.numbering.specs.Decoded.{IsVertexₗ, marks-decoded}
 
 -- the root has no parent, and what has one is another vertex
 pub root-parent : (c : List ℕ) → parent c 1 ≡ 0
@@ -54,62 +55,66 @@ starts-high v j [] m = absurd (List·Memᴰ·not-nil m)
 starts-high v j (c ∷ cs) (List·Memᴰ·head e) = omega arith
 starts-high v j (c ∷ cs) (List·Memᴰ·tail m) = omega (arith, starts-high v (j + length c) cs m)
 
--- the code of vertex v with all that hangs on it: the first of those that the digits from v on make
-abbrev pub subtree : List ℕ → ℕ → List ℕ
-subtree c v = getD (codes plain (drop (v - 1) c)) 0 []
+-- the code of vertex v with all that hangs on it: the first of those that the marks from v on make
+abbrev pub subtreeₗ : Marks → List ℕ → ℕ → List ℕ
+subtreeₗ M c v = getD (codes (M .arity) (drop (v - 1) c)) 0 []
 
--- the subtree code of a vertex: its digit, then its children's codes
-subtree-is : (c : List ℕ) (v : ℕ) → 1 ≤ v → v ≤ length c → subtree c v ≡ digit c v ∷ flatten (childCodes plain c v)
+-- the subtree code of a vertex: its mark, then its children's codes
+subtree-is : (M : Marks) (c : List ℕ) (v : ℕ) → 1 ≤ v → v ≤ length c → subtreeₗ M c v ≡ digit c v ∷ flatten (childCodes (M .arity) c v)
 unfolding codes childCodes
-subtree-is c v a b =
+subtree-is M c v a b =
     let e : suc (v - 1) ≡ v = omega arith in
-    ap (λ l. getD (codes plain l) 0 []) (drop-cons c (v - 1) 0 (omega arith) ∙ ap (λ n. digit c v ∷ drop n c) e)
+    ap (λ l. getD (codes (M .arity) l) 0 []) (drop-cons c (v - 1) 0 (omega arith) ∙ ap (λ n. digit c v ∷ drop n c) e)
 
-module _ (c : List ℕ) (x : IsRooted c) where
+module _ (M : Marks) (c : List ℕ) (x : IsRootedₗ M c) where
+  abbrev ds : List ℕ
+  ds = digits M c
+
   abbrev A : List Arc
-  A = arcs (decode c)
+  A = arcs (decode ds)
 
-  pub tree-of : IsTree (length c) (decode c)
-  tree-of = decoded-tree c (code-ordered c .0 x .0)
+  pub tree-ofₗ : IsTree (length c) (decode ds)
+  tree-ofₗ = decoded-tree M c (code-orderedₗ M c .0 x .0)
 
   -- a parent has a lower number
-  pub parent-low : (v : ℕ) → 2 ≤ v → v ≤ length c → (1 ≤ parent c v) × (parent c v < v)
-  parent-low v a b = let (h, k, e) = rooted-decoded c x v (omega arith) b .edge a in (h, k)
+  pub parent-lowₗ : (v : ℕ) → 2 ≤ v → v ≤ length c → (1 ≤ parent ds v) × (parent ds v < v)
+  parent-lowₗ v a b = let (h, k, e) = marks-decoded M c x v (omega arith) b .edge a in (h, k)
 
   -- and is joined to its child
-  pub parent-arc : (v : ℕ) → 2 ≤ v → v ≤ length c → List·Memᴰ (v, parent c v) A
-  parent-arc v a b = near-arc A v (parent c v) (rw (rooted-decoded c x v (omega arith) b .near a) (List·Memᴰ·head refl))
+  pub parent-arc : (v : ℕ) → 2 ≤ v → v ≤ length c → List·Memᴰ (v, parent ds v) A
+  parent-arc v a b = near-arc A v (parent ds v) (rw (marks-decoded M c x v (omega arith) b .near a) (List·Memᴰ·head refl))
 
   -- a vertex is joined to its parent and to its children
-  pub arc-down : (u v : ℕ) → List·Memᴰ (u, v) A → (v ≡ parent c u) ⊎ List·Memᴰ v (begins c u)
+  pub arc-down : (u v : ℕ) → List·Memᴰ (u, v) A → (v ≡ parent ds u) ⊎ List·Memᴰ v (begins ds u)
   unfolding children
   arc-down u v m =
-      let (h, k) = tree-of .inside u (arc-end (decode c) (turn (decode c) m)) in
-      ⊎-elim inl (λ n. inr (subst (λ l. List·Memᴰ v l) (rooted-decoded c x u h k .below) n)) (but-or (parent c u) v (neighbours A u) (arc-near A u v m))
+      let (h, k) = tree-ofₗ .inside u (arc-end (decode ds) (turn (decode ds) m)) in
+      ⊎-elim inl (λ n. inr (subst (λ l. List·Memᴰ v l) (marks-decoded M c x u h k .below) n)) (but-or (parent ds u) v (neighbours A u) (arc-near A u v m))
 
   -- of two joined vertices one is the other's parent
-  pub arc-parent : (u v : ℕ) → List·Memᴰ (u, v) A → (v ≡ parent c u) ⊎ (u ≡ parent c v)
+  pub arc-parent : (u v : ℕ) → List·Memᴰ (u, v) A → (v ≡ parent ds u) ⊎ (u ≡ parent ds v)
   unfolding begins
-  arc-parent u v m = step (arc-down u v m) (arc-down v u (turn (decode c) m))
+  arc-parent u v m = step (arc-down u v m) (arc-down v u (turn (decode ds) m))
     where
-      step : (v ≡ parent c u) ⊎ List·Memᴰ v (begins c u) → (u ≡ parent c v) ⊎ List·Memᴰ u (begins c v) → (v ≡ parent c u) ⊎ (u ≡ parent c v)
+      step : (v ≡ parent ds u) ⊎ List·Memᴰ v (begins ds u) → (u ≡ parent ds v) ⊎ List·Memᴰ u (begins ds v) → (v ≡ parent ds u) ⊎ (u ≡ parent ds v)
       step (inl e) q = inl e
       step (inr h) (inl e) = inr e
       step (inr h) (inr k) =
-          let z : ⊥ = omega (arith, starts-high v (u + 1) (childCodes plain c u) h, starts-high u (v + 1) (childCodes plain c v) k) in absurd z
+          let z : ⊥ = omega (arith, starts-high v (u + 1) (childCodes plain ds u) h, starts-high u (v + 1) (childCodes plain ds v) k) in absurd z
 
   -- its children's codes go down
-  pub falling : (v : ℕ) → 1 ≤ v → v ≤ length c → Falling (childCodes plain c v)
+  pub falling : (v : ℕ) → 1 ≤ v → v ≤ length c → Falling (childCodes (M .arity) c v)
   falling v a b =
       let e : suc (v - 1) ≡ v = omega arith in
-      subst (λ n. Falling (childCodes plain c n)) e (rw (child-codes plain c (v - 1)) (by-places plain c .0 (code-ordered c .0 x .1) (v - 1) (omega arith)))
+      subst (λ n. Falling (childCodes (M .arity) c n)) e (rw (child-codes (M .arity) c (v - 1)) (by-places (M .arity) c .0 (code-orderedₗ M c .0 x .1) (v - 1) (omega arith)))
 
   -- the code of what hangs at a vertex is its subtree code
-  pub side-code : (v : ℕ) → 1 ≤ v → v ≤ length c → codeAt (suc (length c)) A (parent c v) v ≡ subtree c v
-  unfolding codeAt join
+  pub side-code : (v : ℕ) → 1 ≤ v → v ≤ length c → codeₗ M (labels M c) (suc (length c)) A (parent ds v) v ≡ subtreeₗ M c v
+  unfolding codeₗ joinₗ labels
   side-code v a b =
-      let i : IsVertex c v = rooted-decoded c x v a b in
-      let n : length (childCodes plain c v) ≡ digit c v = sym (ap length (i .coded)) ∙ length-map (begins c v) (codeAt (length c) A v) ∙ i .many in
-      ap join (ap (map (codeAt (length c) A v)) (i .below) ∙ i .coded)
-      ∙ ap₂ (λ k l. k ∷ flatten l) n (sort-stays (childCodes plain c v) (falling v a b))
-      ∙ sym (subtree-is c v a b)
+      let i : IsVertexₗ M c v = marks-decoded M c x v a b in
+      let n : length (childCodes (M .arity) c v) ≡ M .arity (digit c v) = sym (ap length (i .coded)) ∙ length-map (begins ds v) (codeₗ M (labels M c) (length c) A v) ∙ i .many in
+      ap (joinₗ M (labels M c v)) (ap (map (codeₗ M (labels M c) (length c) A v)) (i .below) ∙ i .coded)
+      ∙ ap₂ (λ k l. M .mark k (M .atom (digit c v)) ∷ flatten l) n (sort-stays (childCodes (M .arity) c v) (falling v a b))
+      ∙ ap (λ m. m ∷ flatten (childCodes (M .arity) c v)) (M .mark-of (digit c v))
+      ∙ sym (subtree-is M c v a b)

@@ -1,22 +1,21 @@
 -- An edge u - v of a tree, from both ends: what hangs at v, and what hangs at u, and the rooted codes at u and at v made of the two (`edge`).
 --
 -- In order: a root's tree goes to the front; a tree from its other end; the edge. What is known of such codes is in `Joins`. Assumes nothing.
-use mathlib.Core.Path.{_≡_, refl, ap, sym, _∙_, subst}
+use mathlib.Core.Path.{_≡_, refl, ap, _∙_, subst}
 use mathlib.Core.List.{List, [], _∷_, _++_, append-assoc, head-eq-of-cons-eq, List·Memᴰ, List·Memᴰ·head, List·Memᴰ·tail, List·Memᴰ·not-nil, List·Permᴰ, List·Permᴰ·cons, List·Permᴰ·swap, List·Permᴰ·trans, List·Permᴰ·append-comm, Permᴰ·refl, Permᴰ·symm, Permᴰ·append-left}
 use Prim.Native.Nat.{ℕ, _≤_}
 use native.Mathlib.Omega.{arith}
 use Rattle.laws.specs.document.Once.{Once}
 use Rattle.laws.specs.Once.{once-perm}
 use Rattle.laws.specs.Perms.{perm-in, perm-length, front}
-use Rattle.skeleton.specs.document.Skeleton.{arcs, IsTree, join, codeAt, rooted}
+use Rattle.skeleton.specs.document.Skeleton.{arcs, IsTree}
 use Rattle.skeleton.specs.Forest.{Forest, none, tree, vertices, hung, Rooted}
 use Rattle.skeleton.specs.Forests.{gather, gather-vertices, gather-hung, count-vertices, distinct-once}
 use Rattle.skeleton.specs.Grow.{rooted-tree}
 use Rattle.skeleton.specs.Walks.{turn, arc-end}
 use Rattle.skeleton.specs.Arcs.{arc-near}
-use Rattle.skeleton.specs.Label.{joinₗ}
+use Rattle.skeleton.specs.document.Label.{Marks, joinₗ, codeₗ, rootedₗ}
 use Rattle.skeleton.specs.Codes.{roots, near, neighbours-perm, good, branches, codes-of, rooted-join}
-use Rattle.skeleton.specs.Base.{base, code-base, rooted-base}
 use Rattle.orbits.specs.Joins.{Ones, ones-more, join-ends}
 
 -- ---- a root's tree to the front
@@ -62,38 +61,39 @@ module _ {N : ℕ} {E : List ℕ} {r : ℕ} (t : Rooted N E r) where
 
 -- ---- an edge
 
--- the code of every tree of a forest is one whole code
-pub branches-ones : (f : Forest) → Ones (branches base (λ v. tt) f)
-unfolding branches joinₗ join
-branches-ones none = λ c h. absurd (List·Memᴰ·not-nil h)
-branches-ones (tree v d f) = ones-more (join-ends (branches-ones d)) (branches-ones f)
+module _ (M : Marks) (label : ℕ → M .Label) where
+  -- the code of every tree of a forest is one whole code
+  pub branches-ones : (f : Forest) → Ones M (branches M label f)
+  unfolding branches
+  branches-ones none = λ c h. absurd (List·Memᴰ·not-nil h)
+  branches-ones (tree v d f) = ones-more M (join-ends M (label v) (branches-ones d)) (branches-ones f)
 
--- D: the codes of v's branches but u's; G: those of u's branches but v's
-pub record Edge (N : ℕ) (E : List ℕ) (u v : ℕ) : Type 0 where
-  pub D : List (List ℕ)
-  pub G : List (List ℕ)
-  pub ones : Ones D
-  pub others : Ones G
-  pub side : (n : ℕ) → N ≤ n → codeAt n (arcs E) u v ≡ join D
-  pub upper : rooted N E u ≡ join (join D ∷ G)
-  pub lower : rooted N E v ≡ join (join G ∷ D)
+  -- D: the codes of v's branches but u's; G: those of u's branches but v's
+  pub record Edge (N : ℕ) (E : List ℕ) (u v : ℕ) : Type 0 where
+    pub D : List (List ℕ)
+    pub G : List (List ℕ)
+    pub ones : Ones M D
+    pub others : Ones M G
+    pub side : (n : ℕ) → N ≤ n → codeₗ M label n (arcs E) u v ≡ joinₗ M (label v) D
+    pub upper : rootedₗ M label N E u ≡ joinₗ M (label u) (joinₗ M (label v) D ∷ G)
+    pub lower : rootedₗ M label N E v ≡ joinₗ M (label v) (joinₗ M (label u) G ∷ D)
 
-module _ (N : ℕ) (E : List ℕ) (u v : ℕ) (d x : Forest) where
-  -- the code at u, where v is its first child
-  code-over : (t : Rooted N E u) → t .forest ≡ tree v d x → rooted N E u ≡ join (join (branches base (λ v. tt) d) ∷ branches base (λ v. tt) x)
-  unfolding branches joinₗ join
-  code-over t e = sym (rooted-base (λ v. tt) N E u) ∙ rooted-join base (λ v. tt) N E u t ∙ ap (λ f. joinₗ base tt (branches base (λ v. tt) f)) e
+  module _ (N : ℕ) (E : List ℕ) (u v : ℕ) (d x : Forest) where
+    -- the code at u, where v is its first child
+    code-over : (t : Rooted N E u) → t .forest ≡ tree v d x → rootedₗ M label N E u ≡ joinₗ M (label u) (joinₗ M (label v) (branches M label d) ∷ branches M label x)
+    unfolding branches
+    code-over t e = rooted-join M label N E u t ∙ ap (λ f. joinₗ M (label u) (branches M label f)) e
 
-  -- and the code at v below u
-  code-under : (t : Rooted N E u) → t .forest ≡ tree v d x → (n : ℕ) → N ≤ n → codeAt n (arcs E) u v ≡ join (branches base (λ v. tt) d)
-  unfolding branches joinₗ join roots
-  code-under t e n l =
-      let m = codes-of base (λ v. tt) (arcs E) n u (t .forest) (omega (arith, t .full)) (good (arcs E) u (t .forest) (t .same) (t .apart) (t .distinct)) in
-      sym (code-base (λ v. tt) n (arcs E) u v) ∙ head-eq-of-cons-eq (rw e at m)
+    -- and the code at v below u
+    code-under : (t : Rooted N E u) → t .forest ≡ tree v d x → (n : ℕ) → N ≤ n → codeₗ M label n (arcs E) u v ≡ joinₗ M (label v) (branches M label d)
+    unfolding branches roots
+    code-under t e n l =
+        let m = codes-of M label (arcs E) n u (t .forest) (omega (arith, t .full)) (good (arcs E) u (t .forest) (t .same) (t .apart) (t .distinct)) in
+        head-eq-of-cons-eq (rw e at m)
 
-pub edge : (N : ℕ) (E : List ℕ) → IsTree N E → (u v : ℕ) → List·Memᴰ (u, v) (arcs E) → Edge N E u v
+pub edge : (M : Marks) (label : ℕ → M .Label) (N : ℕ) (E : List ℕ) → IsTree N E → (u v : ℕ) → List·Memᴰ (u, v) (arcs E) → Edge M label N E u v
 unfolding hung vertices rearranged
-edge N E t u v m =
+edge M label N E t u v m =
     let (a, b) = t .inside u (arc-end E (turn E m)) in
     let s : Rooted N E u = rooted-tree N E u t a b in
     let f : Forest = s .forest in
@@ -106,13 +106,13 @@ edge N E t u v m =
     (List·Permᴰ·trans (List·Permᴰ·swap refl refl) (List·Permᴰ·cons refl (List·Permᴰ·cons refl (List·Permᴰ·append-comm (hung v d) (hung u x)))))
     (List·Permᴰ·trans (List·Permᴰ·swap refl refl) (List·Permᴰ·cons refl (List·Permᴰ·cons refl (List·Permᴰ·append-comm (vertices d) (vertices x))))) in
     record {
-      D = branches base (λ v. tt) d;
-      G = branches base (λ v. tt) x;
-      ones = branches-ones d;
-      others = branches-ones x;
-      side = code-under N E u v d x top (refl {a = tree v d x});
-      upper = code-over N E u v d x top (refl {a = tree v d x});
-      lower = code-over N E v u x d end (refl {a = tree u x d});
+      D = branches M label d;
+      G = branches M label x;
+      ones = branches-ones M label d;
+      others = branches-ones M label x;
+      side = code-under M label N E u v d x top (refl {a = tree v d x});
+      upper = code-over M label N E u v d x top (refl {a = tree v d x});
+      lower = code-over M label N E v u x d end (refl {a = tree u x d});
     }
   where
     arcs-out : (p : ℕ) (f : Forest) (o : Out v f) → List·Permᴰ (hung p f) (hung p (tree v (o .below) (o .aside)))

@@ -11,19 +11,11 @@ use native.Mathlib.Omega.{arith}
 use lib.Dec.{ltb}
 use lib.ListN.{length}
 use borrow.Author.Tests.{ltb-true}
-use Rattle.refusal.specs.document.Table.{RowOf, Row, Clear, First, FirstRefusal, OutcomeOf, Outcome, Promise, kept, left, Answered, short, Gives}
+use Rattle.refusal.specs.document.Table.{RowOf, Row, Clear, First, OutcomeOf, Outcome, Promise, kept, left, Answered, short, Gives}
 use Rattle.refusal.specs.document.Lowest.{both}
-use Rattle.refusal.specs.document.Small.{byteValues, SmallNumber, Small, SmallAnswer, SmallRefusal}
+use Rattle.refusal.specs.document.Small.{byteValues, SmallNumber, Small, SmallAnswer, SmallRefusal, BoundedBy, Bounded}
 use Rattle.refusal.specs.Laws.{clear-left, refusal-either}
 use Rattle.refusal.specs.Lowest.{both-left, both-right}
-
--- whatever refuses, Number holds of its number, and its place is below 256
-pub record BoundedBy {K : Type 0} (Number : K → Type 0) (rs : List (RowOf K)) : Type 0 where
-  pub refusal : (k : K) (p : ℕ) → FirstRefusal rs k p → Number k × (p < byteValues)
-
--- called by a number alone
-abbrev pub Bounded : List Row → Type 0
-Bounded rs = BoundedBy SmallNumber rs
 
 -- ---- put together
 

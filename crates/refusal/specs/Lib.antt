@@ -4,6 +4,9 @@ pub mod Laws
 pub mod Stricter
 pub mod Lowest
 pub mod Bounded
+pub mod Lists
 pub mod Giving
+pub mod Behind
+pub mod Both
 pub mod Checks
 pub mod document

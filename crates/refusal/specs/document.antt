@@ -4,3 +4,6 @@ pub mod Outcome
 pub mod Given
 pub mod Lowest
 pub mod Small
+pub mod Lists
+pub mod Both
+pub mod Reported

@@ -5,6 +5,7 @@ ghost use mathlib.Core.List.{[], _∷_};
 ghost use Rattle.refusal.specs.document.Table.{row3};
 ghost use Rattle.refusal.specs.Checks.{Answers, checked};
 ghost use Rattle.refusal.specs.document.Outcome.{told};
+ghost use Rattle.refusal.specs.document.Reported.{Reports};
 
 // Of a call that writes a result into a lent output, or only looks at its input.
 pub enum Answer {
@@ -22,10 +23,24 @@ pub enum Number {
     Refused(u8, usize),
 }
 
+// Of a call that writes and orders children: the answer, and how many pairs were looked at to put siblings in order. With a refusal that number is 0.
+pub struct Reported {
+    pub answer: Answer,
+    pub pairs: usize,
+}
+
 // Of one check among several: nothing applies, or the first row of its table that does, at its first place.
 pub enum Check {
     Passed,
     Refuse(u8, usize),
+}
+
+// Of the check of two lists.
+pub enum Lists {
+    // Both are accepted.
+    Accepted,
+    // Refused: which list, 1 or 2, or 0 for what belongs to neither; the number of the table; the place.
+    Refused(u8, u8, usize),
 }
 
 // What a call answers that only checks.
@@ -49,4 +64,20 @@ pub fn sized(n: usize, most: usize) -> Check
         return Check::Refuse(3, 0);
     }
     Check::Passed
+}
+
+// An answer behind a code for which so many pairs were looked at.
+pub fn report(answer: Answer, looked: usize) -> Reported
+    ensures { λ r. ⌜ (r .answer ≡ answer) × Reports (λ n. n ≡ looked) (told (r .answer)) (r .pairs) ⌝ }
+{
+    match answer {
+        Answer::Done(n) => Reported {
+            answer: Answer::Done(n),
+            pairs: looked,
+        },
+        Answer::Refused(k, p) => Reported {
+            answer: Answer::Refused(k, p),
+            pairs: 0,
+        },
+    }
 }

@@ -1,3 +1,4 @@
 -- Laws that the proofs of several functions cite. Assumes nothing.
 mod Placing
 mod Found
+mod Atoms

@@ -1,67 +1,63 @@
 -- The map that is handed out.
 --
--- In order: it is one; how it comes of two orders side by side; that there is one, and that what a program wrote is one; the
--- lists that a program takes. Assumes nothing.
+-- In order, by any codes and orders: it is one; how it comes of two orders side by side; that there is one, and that what a program wrote is one;
+-- the lists that a program takes. Then for document 01's codes. Assumes nothing.
 use mathlib.Core.Path.{_≡_, refl, sym, ap, _∙_}
-use mathlib.Core.List.{List}
+use mathlib.Core.List.{List, List·Memᴰ}
 use Prim.Native.Nat.{ℕ, suc, _-_, _≤_, _<_}
 use native.Mathlib.Omega.{arith}
 use lib.ListN.{length, getD, take}
 use lib.Seq.{ext-getD, getD-take, length-take-le}
+use Rattle.laws.specs.document.Once.{Once}
 use Rattle.laws.specs.Places.{place, place-at, at-place, at-in}
 use Rattle.refusal.specs.document.Table.{Writes}
 use Rattle.skeleton.specs.document.Skeleton.{IsTree, rooted, Renumbering}
 use Rattle.numbering.specs.document.Order.{order}
 use Rattle.numbering.specs.Numbers.{Numbers, order-numbers, orders-beside}
-use Rattle.form.specs.document.Root.{CentredRoot}
-use Rattle.form.specs.Root.{one-root, root-inside}
-use Rattle.renumber.specs.document.Map.{image, HandedOut}
+use Rattle.form.specs.document.Root.{RootOf}
+use Rattle.form.specs.Root.{CentredRoot, one-root, root-inside}
+use Rattle.renumber.specs.document.Map.{image, Renumbers, HandedBy, HandedOut}
 use Rattle.renumber.specs.Parts.{Sent, Listed, Placed}
 use Rattle.renumber.specs.Lists.{entries, entries-length, entries-at, laid-first}
 
--- the order of the vertices from the root on
-ordered : {N r : ℕ} {E : List ℕ} → IsTree N E → CentredRoot N E r → Numbers N E r (order N E r)
-ordered {N} {r} {E} t x = let (a, b) = root-inside t x in order-numbers N E r t a b
-
 -- ---- it is one
 
--- entry v, by the place of v in the order
-entry-of : {N r : ℕ} {E : List ℕ} → Numbers N E r (order N E r) → (p w : List ℕ) → ((i : ℕ) → i < N → image w (getD (order N E r) i 0) ≡ getD p i 0)
-    → (v : ℕ) → 1 ≤ v → v ≤ N → image w v ≡ getD p (place v (order N E r)) 0
-entry-of {N} {r} {E} o p w s v a b =
-    let (h, e) = place-at v (order N E r) (o .has v a b) in
-    ap (image w) (sym e) ∙ s (place v (order N E r)) (omega (arith, o .all))
+-- o has the vertices 1 to N, each once
+pub record Covers (N : ℕ) (o : List ℕ) : Type 0 where
+  pub all : length o ≡ N
+  pub once : Once o
+  pub within : (v : ℕ) → List·Memᴰ v o → (1 ≤ v) × (v ≤ N)
+  pub has : (v : ℕ) → 1 ≤ v → v ≤ N → List·Memᴰ v o
 
-pub one-handed : {N P : ℕ} {E F : List ℕ} → IsTree N E → (w z : List ℕ) → HandedOut N E P F w → HandedOut N E P F z → w ≡ z
-one-handed {N} {P} {E} {F} t w z x y =
-    let l : length w ≡ N = x .renumbers .1 in
-    let k : length z ≡ N = y .renumbers .1 in
-    let e : y .root ≡ x .root = one-root (y .rule) (x .rule) in
-    let f : y .root₂ ≡ x .root₂ = one-root (y .rule₂) (x .rule₂) in
-    let o = ordered t (x .rule) in
-    let sends : (i : ℕ) → i < N → image z (getD (order N E (x .root)) i 0) ≡ getD (order P F (x .root₂)) i 0 = rw (e, f) at (y .sends) in
-    ext-getD 0 w z (omega arith) (λ i h.
-    let g : suc i - 1 ≡ i = omega arith in
-    let a = entry-of o (order P F (x .root₂)) w (x .sends) (suc i) (omega arith) (omega arith) in
-    let b = entry-of o (order P F (x .root₂)) z sends (suc i) (omega arith) (omega arith) in
-    ap (λ j. getD w j 0) (sym g) ∙ a ∙ sym b ∙ ap (λ j. getD z j 0) g)
+-- entry v, by the place of v in the order
+entry-of : {N : ℕ} {o : List ℕ} → Covers N o → (p w : List ℕ) → ((i : ℕ) → i < N → image w (getD o i 0) ≡ getD p i 0) → (v : ℕ) → 1 ≤ v → v ≤ N → image w v ≡ getD p (place v o) 0
+entry-of {N} {o} d p w s v a b = let (h, e) = place-at v o (d .has v a b) in ap (image w) (sym e) ∙ s (place v o) (omega (arith, d .all))
+
+module _ {N P : ℕ} {E F : List ℕ} {at at₂ ord ord₂ : ℕ → List ℕ} {R : List ℕ → Type 0} where
+  pub one-handed-by : ((r : ℕ) → RootOf N E at r → Covers N (ord r)) → ((w : List ℕ) → R w → length w ≡ N) → (w z : List ℕ)
+      → HandedBy N E P F at at₂ ord ord₂ R w → HandedBy N E P F at at₂ ord ord₂ R z → w ≡ z
+  one-handed-by covers long w z x y =
+      let l : length w ≡ N = long w (x .renumbers) in
+      let k : length z ≡ N = long z (y .renumbers) in
+      let e : y .root ≡ x .root = one-root (y .rule) (x .rule) in
+      let f : y .root₂ ≡ x .root₂ = one-root (y .rule₂) (x .rule₂) in
+      let o : Covers N (ord (x .root)) = covers (x .root) (x .rule) in
+      let sends : (i : ℕ) → i < N → image z (getD (ord (x .root)) i 0) ≡ getD (ord₂ (x .root₂)) i 0 = rw (e, f) at (y .sends) in
+      ext-getD 0 w z (omega arith) (λ i h.
+      let g : suc i - 1 ≡ i = omega arith in
+      let a = entry-of o (ord₂ (x .root₂)) w (x .sends) (suc i) (omega arith) (omega arith) in
+      let b = entry-of o (ord₂ (x .root₂)) z sends (suc i) (omega arith) (omega arith) in
+      ap (λ j. getD w j 0) (sym g) ∙ a ∙ sym b ∙ ap (λ j. getD z j 0) g)
 
 -- ---- of two orders side by side
 
-module _ {N : ℕ} {E F : List ℕ} {r q : ℕ} (t : IsTree N E) (u : IsTree N F) (x : CentredRoot N E r) (y : CentredRoot N F q) (e : rooted N E r ≡ rooted N F q) where
-  -- the renumbering, and what it is at each digit
-  beside : (ρ : Renumbering N E F) × ((i : ℕ) → i < N → ρ .to (getD (order N E r) i 0) ≡ getD (order N F q) i 0)
-  beside =
-      let (a, b) = root-inside t x in
-      let (c, d) = root-inside u y in
-      let (ρ, root, at) = orders-beside N E F r q t a b u c d e in
-      (ρ, at)
-
+-- ρ goes from the one order to the other, and as a map is such as R says
+module _ {N : ℕ} {E F : List ℕ} (at at₂ ord ord₂ : ℕ → List ℕ) (R : List ℕ → Type 0) {r q : ℕ} (d : Covers N (ord r)) (x : RootOf N E at r) (y : RootOf N F at₂ q) (e : at r ≡ at₂ q)
+    (ρ : Renumbering N E F) (beside : (i : ℕ) → i < N → ρ .to (getD (ord r) i 0) ≡ getD (ord₂ q) i 0)
+    (fine : (w : List ℕ) → length w ≡ N → ((v : ℕ) → 1 ≤ v → v ≤ N → image w v ≡ ρ .to v) → R w) where
   -- a map that sends each digit's vertex to that of the same digit
-  pub handed : (w : List ℕ) → length w ≡ N → ((i : ℕ) → i < N → image w (getD (order N E r) i 0) ≡ getD (order N F q) i 0) → HandedOut N E N F w
-  handed w l s =
-      let (ρ, at) = beside in
-      let o = ordered t x in
+  pub handed-by : (w : List ℕ) → length w ≡ N → ((i : ℕ) → i < N → image w (getD (ord r) i 0) ≡ getD (ord₂ q) i 0) → HandedBy N E N F at at₂ ord ord₂ R w
+  handed-by w l s =
       record {
         root = r;
         rule = x;
@@ -69,42 +65,34 @@ module _ {N : ℕ} {E F : List ℕ} {r q : ℕ} (t : IsTree N E) (u : IsTree N F
         rule₂ = y;
         codes = e;
         sends = s;
-        renumbers = (
-          refl,
-          l,
-          ρ,
-          λ v a b.
-              let (h, k) = place-at v (order N E r) (o .has v a b) in
-              entry-of o (order N F q) w s v a b ∙ sym (at (place v (order N E r)) (omega (arith, o .all))) ∙ ap (ρ .to) k,
-        );
+        renumbers = fine w l (λ v a b.
+            let (h, k) = place-at v (ord r) (d .has v a b) in
+            entry-of d (ord₂ q) w s v a b ∙ sym (beside (place v (ord r)) (omega (arith, d .all))) ∙ ap (ρ .to) k);
       }
 
   -- there is one
-  pub some-handed : (w : List ℕ) × HandedOut N E N F w
-  some-handed =
-      let (ρ, at) = beside in
-      let o = ordered t x in
+  pub some-handed-by : (w : List ℕ) × HandedBy N E N F at at₂ ord ord₂ R w
+  some-handed-by =
       let w : List ℕ = entries (ρ .to) N in (
         w,
-        handed w (entries-length (ρ .to) N) (λ i h.
-            let v : ℕ = getD (order N E r) i 0 in
-            let (a, b) = o .within v (at-in (order N E r) i 0 (omega (arith, o .all))) in
+        handed-by w (entries-length (ρ .to) N) (λ i h.
+            let v : ℕ = getD (ord r) i 0 in
+            let (a, b) = d .within v (at-in (ord r) i 0 (omega (arith, d .all))) in
             let g : suc (v - 1) ≡ v = omega arith in
-            entries-at (ρ .to) N (v - 1) (omega arith) ∙ ap (ρ .to) g ∙ at i h),
+            entries-at (ρ .to) N (v - 1) (omega arith) ∙ ap (ρ .to) g ∙ beside i h),
       )
 
   -- what a program wrote, which had the order in o and the other's in p
-  pub placed-handed :
-      (o p old : List ℕ) {new : List ℕ} → take N o ≡ order N E r → take N p ≡ order N F q → N ≤ length old → Placed N o p old new N
-      → Writes (HandedOut N E N F) old N new
-  placed-handed o p old {new} a b h z =
+  pub placed-handed-by :
+      (o p old : List ℕ) {new : List ℕ} → take N o ≡ ord r → take N p ≡ ord₂ q → N ≤ length old → Placed N o p old new N
+      → Writes (HandedBy N E N F at at₂ ord ord₂ R) old N new
+  placed-handed-by o p old {new} a b h z =
       let l : length (take N new) ≡ N = length-take-le N new (omega (arith, z .long)) in
-      let d = ordered t x in
       record {
         result = take N new;
-        right = handed (take N new) l (λ i k.
-            let v : ℕ = getD (order N E r) i 0 in
-            let (m, n) = d .within v (at-in (order N E r) i 0 (omega (arith, d .all))) in
+        right = handed-by (take N new) l (λ i k.
+            let v : ℕ = getD (ord r) i 0 in
+            let (m, n) = d .within v (at-in (ord r) i 0 (omega (arith, d .all))) in
             let there : getD o i 0 ≡ v = sym (getD-take N o i 0 k) ∙ ap (λ s. getD s i 0) a in
             getD-take N new (v - 1) 0 (omega arith) ∙ ap (image new) (sym there) ∙ z .is i k ∙ sym (getD-take N p i 0 k) ∙ ap (λ s. getD s i 0) b);
         count = sym l;
@@ -112,17 +100,43 @@ module _ {N : ℕ} {E F : List ℕ} {r q : ℕ} (t : IsTree N E) (u : IsTree N F
       }
 
 -- the order of a skeleton's vertices is a list of them
-pub order-listed : {N r : ℕ} {E : List ℕ} → IsTree N E → CentredRoot N E r → (o : List ℕ) → take N o ≡ order N E r → Listed N o
-order-listed {N} {r} {E} t x o a =
-    let d = ordered t x in
-    let at : (i : ℕ) → i < N → getD o i 0 ≡ getD (order N E r) i 0 = λ i h. sym (getD-take N o i 0 h) ∙ ap (λ s. getD s i 0) a in
+pub listed-by : {N : ℕ} {c : List ℕ} → Covers N c → (o : List ℕ) → take N o ≡ c → Listed N o
+listed-by {N} {c} d o a =
+    let at : (i : ℕ) → i < N → getD o i 0 ≡ getD c i 0 = λ i h. sym (getD-take N o i 0 h) ∙ ap (λ s. getD s i 0) a in
     record {
-      within = λ i h. rw (at i h) (d .within _ (at-in (order N E r) i 0 (omega (arith, d .all))));
+      within = λ i h. rw (at i h) (d .within _ (at-in c i 0 (omega (arith, d .all))));
       apart = λ i j h k e.
-          sym (at-place (order N E r) i (d .once) (omega (arith, d .all)))
-          ∙ ap (λ v. place v (order N E r)) (sym (at i h) ∙ e ∙ at j k)
-          ∙ at-place (order N E r) j (d .once) (omega (arith, d .all));
+          sym (at-place c i (d .once) (omega (arith, d .all)))
+          ∙ ap (λ v. place v c) (sym (at i h) ∙ e ∙ at j k)
+          ∙ at-place c j (d .once) (omega (arith, d .all));
     }
+
+-- ---- document 01's codes
+
+-- the order of the vertices from the root on
+covers : {N r : ℕ} {E : List ℕ} → IsTree N E → CentredRoot N E r → Covers N (order N E r)
+covers {N} {r} {E} t x =
+    let (a, b) = root-inside t x in
+    let o : Numbers N E r (order N E r) = order-numbers N E r t a b in
+    record { all = o .all; once = o .once; within = o .within; has = o .has }
+
+pub one-handed : {N P : ℕ} {E F : List ℕ} → IsTree N E → (w z : List ℕ) → HandedOut N E P F w → HandedOut N E P F z → w ≡ z
+one-handed t w z x y = one-handed-by (λ r c. covers t c) (λ w r. r .1) w z x y
+
+module _ {N : ℕ} {E F : List ℕ} {r q : ℕ} (t : IsTree N E) (u : IsTree N F) (x : CentredRoot N E r) (y : CentredRoot N F q) (e : rooted N E r ≡ rooted N F q) where
+  beside : (ρ : Renumbering N E F) × (ρ .to r ≡ q) × ((i : ℕ) → i < N → ρ .to (getD (order N E r) i 0) ≡ getD (order N F q) i 0)
+  beside = let (a, b) = root-inside t x in let (c, d) = root-inside u y in orders-beside N E F r q t a b u c d e
+
+  pub some-handed : (w : List ℕ) × HandedOut N E N F w
+  some-handed = let (ρ, root, at) = beside in some-handed-by (rooted N E) (rooted N F) (order N E) (order N F) (Renumbers N E N F) (covers t x) x y e ρ at (λ w l f. (refl, l, ρ, f))
+
+  pub placed-handed :
+      (o p old : List ℕ) {new : List ℕ} → take N o ≡ order N E r → take N p ≡ order N F q → N ≤ length old → Placed N o p old new N
+      → Writes (HandedOut N E N F) old N new
+  placed-handed = let (ρ, root, at) = beside in placed-handed-by (rooted N E) (rooted N F) (order N E) (order N F) (Renumbers N E N F) (covers t x) x y e ρ at (λ w l f. (refl, l, ρ, f))
+
+pub order-listed : {N r : ℕ} {E : List ℕ} → IsTree N E → CentredRoot N E r → (o : List ℕ) → take N o ≡ order N E r → Listed N o
+order-listed t x = listed-by (covers t x)
 
 -- a map with an entry for each vertex has one for each end of an edge
 pub sent : {N : ℕ} {E : List ℕ} → IsTree N E → (w : List ℕ) → length w ≡ N → Sent E w

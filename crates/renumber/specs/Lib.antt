@@ -5,5 +5,6 @@ pub mod Accepted
 pub mod Handing
 pub mod Exactly
 pub mod Theorems
+pub mod Kept
 pub mod Examples
 pub mod document

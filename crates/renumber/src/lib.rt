@@ -1,6 +1,7 @@
 // Renumberings as maps, one byte for each vertex of the first list: its number in the second. A map that is lent is judged, and one is handed out.
 //
-// Entries and edges count from 1, as the places of the refusals do. Both lists have been accepted by `edge_list::check`.
+// Entries and edges count from 1, as the places of the refusals do. Both lists have been accepted by `edge_list::check`. Vertices have atoms, which a map
+// keeps; a plain list's are all carbon.
 use digit_code::Order;
 use edge_list::wide;
 use limits::SIZE;
@@ -8,7 +9,7 @@ use refusal::Answer;
 use refusal::Check;
 ghost use mathlib.Core.Path.{_≡_};
 ghost use mathlib.Core.List.{[], _∷_, List·Memᴰ};
-ghost use Prim.Native.Nat.{_≤_};
+ghost use Prim.Native.Nat.{ℕ, _≤_};
 ghost use lib.ListN.{length};
 ghost use Rattle.laws.specs.Tells.{Tells};
 ghost use Rattle.refusal.specs.document.Outcome.{told};
@@ -16,9 +17,12 @@ ghost use Rattle.refusal.specs.Checks.{Answers};
 ghost use Rattle.limits.specs.document.Limits.{size};
 ghost use Rattle.limits.specs.Width.{width};
 ghost use Rattle.skeleton.specs.document.Skeleton.{Arc, arcs, IsSkeleton};
+ghost use Rattle.skeleton.specs.document.Atom.{Atom};
 ghost use Rattle.edge_list.specs.document.Edges.{Edge};
-ghost use Rattle.renumber.specs.document.Map.{Entry, image, Repeats, EdgeSent, row5-map, row18, row19, mapRows};
-ghost use Rattle.renumber.specs.Parts.{Listed, Placed, Found, LookedAt, Sent};
+ghost use Rattle.letters.specs.Named.{rankAt, Named, Ranked};
+ghost use Rattle.renumber.specs.document.Map.{Entry, image, Repeats, EdgeSent, row5-map, row19, mapRows};
+ghost use Rattle.renumber.specs.document.Kept.{row18-kept, keptRows};
+ghost use Rattle.renumber.specs.Parts.{Listed, Placed, Found, FoundKept, LookedAt, LookedKept, Sent};
 
 // 5: the sizes of the lists, and the length of the map.
 fn sizes(n1: usize, n2: usize, map: &[u8]) -> Check
@@ -57,19 +61,33 @@ fn repeats(map: &[u8], p: usize) -> bool
     false
 }
 
+// Whether vertex p of the first list and vertex x of the second have one atom.
+fn kept(atoms1: &[u8; SIZE], atoms2: &[u8; SIZE], p: usize, x: usize) -> bool
+    requires { ⌜ (1 ≤ p) × (p ≤ size) × (1 ≤ x) × (x ≤ size) ⌝ }
+    ensures { λ r. ⌜ Tells (rankAt (now (atoms1 .entry)) p ≡ rankAt (now (atoms2 .entry)) x) r ⌝ }
+{
+    atoms1[p - 1] == atoms2[x - 1]
+}
+
 // 18: every entry.
-fn entries(n: usize, map: &[u8]) -> Check
-    ensures { λ r. ⌜ Answers (row18 n (now (map .entry)) ∷ []) r ⌝ }
+fn entries(n: usize, atoms1: &[u8; SIZE], atoms2: &[u8; SIZE], map: &[u8]) -> Check
+    requires { ⌜ (n ≤ size) × (length (now map) ≡ n) ⌝ }
+    ensures { λ r. ⌜ ((l k : ℕ → Atom) → Named n l (now (atoms1 .entry)) → Named n k (now (atoms2 .entry)) → Answers (row18-kept l k n (now (map .entry)) ∷ []) r) ⌝ }
 {
     let mut p: usize = 1;
     while p <= map.len() {
-        if edge_list::outside(n, entry(map, p)) {
+        let x = entry(map, p);
+        if edge_list::outside(n, x) {
             return Check::Refuse(18, p);
         }
         if repeats(map, p) {
             return Check::Refuse(18, p);
         }
-        p += 1;
+        if kept(atoms1, atoms2, p, x) {
+            p += 1;
+        } else {
+            return Check::Refuse(18, p);
+        }
     }
     Check::Passed
 }
@@ -131,18 +149,36 @@ fn edges(edges1: &[u8], edges2: &[u8], map: &[u8]) -> Check
     Check::Passed
 }
 
-// Every refusal of a map from one skeleton to another.
-pub fn check(n1: usize, edges1: &[u8], n2: usize, edges2: &[u8], map: &[u8]) -> Check
+// Every refusal of a map from one skeleton to another, whose vertices have atoms.
+pub fn check_marks(
+    n1: usize,
+    edges1: &[u8],
+    atoms1: &[u8; SIZE],
+    n2: usize,
+    edges2: &[u8],
+    atoms2: &[u8; SIZE],
+    map: &[u8],
+) -> Check
     requires { ⌜ IsSkeleton size width n1 (now edges1) ⌝ }
-    ensures { λ r. ⌜ Answers (mapRows n1 (now (edges1 .entry)) n2 (now (edges2 .entry)) (now (map .entry))) r ⌝ }
+    ensures { λ r. ⌜ ((l k : ℕ → Atom) → Named n1 l (now (atoms1 .entry)) → Named n2 k (now (atoms2 .entry))
+        → Answers (keptRows l k n1 (now (edges1 .entry)) n2 (now (edges2 .entry)) (now (map .entry))) r) ⌝ }
 {
     if let Check::Refuse(k, p) = sizes(n1, n2, map) {
         return Check::Refuse(k, p);
     }
-    if let Check::Refuse(k, p) = entries(n1, map) {
+    if let Check::Refuse(k, p) = entries(n1, atoms1, atoms2, map) {
         return Check::Refuse(k, p);
     }
     edges(edges1, edges2, map)
+}
+
+// The same of plain skeletons, whose vertices are all carbon.
+pub fn check(n1: usize, edges1: &[u8], n2: usize, edges2: &[u8], map: &[u8]) -> Check
+    requires { ⌜ IsSkeleton size width n1 (now edges1) ⌝ }
+    ensures { λ r. ⌜ Answers (mapRows n1 (now (edges1 .entry)) n2 (now (edges2 .entry)) (now (map .entry))) r ⌝ }
+{
+    let carbon = [0u8; SIZE];
+    check_marks(n1, edges1, &carbon, n2, edges2, &carbon, map)
 }
 
 // Writes each of the first n of `second` where the same one of `first` says.
@@ -158,24 +194,34 @@ fn place(first: &[u8; SIZE], second: &[u8; SIZE], n: usize, out: &mut [u8])
     }
 }
 
-// What is answered to two skeletons of the same size, and how many pairs of digits were looked at for their centred codes.
+// What is answered to two skeletons of the same size, and how many pairs were looked at for their centred codes.
 pub struct Handed {
     pub answer: Answer,
     pub pairs: usize,
 }
 
-// The map from one skeleton to another of the same size: its length, where their centred codes are equal; else 0, and nothing is written.
-pub fn hand_out(n: usize, edges1: &[u8], edges2: &[u8], out: &mut [u8]) -> Handed
-    requires { ⌜ IsSkeleton size width n (now edges1) × IsSkeleton size width n (now edges2) ⌝ }
-    ensures { λ r. ⌜ Found n (now (edges1 .entry)) (now (edges2 .entry)) (now (out .entry)) (now (out .exit)) (told (r .answer)) ⌝ }
-    ensures { λ r. ⌜ LookedAt n (now (edges1 .entry)) (now (edges2 .entry)) (r .pairs) ⌝ }
+// The map from one skeleton to another of the same size, whose vertices have atoms: its length, where the marks of their centred codes are equal; else 0,
+// and nothing is written.
+pub fn hand_out_marks(
+    n: usize,
+    edges1: &[u8],
+    atoms1: &[u8; SIZE],
+    edges2: &[u8],
+    atoms2: &[u8; SIZE],
+    out: &mut [u8],
+) -> Handed
+    requires { ⌜ IsSkeleton size width n (now edges1) × Ranked n (now atoms1) ⌝ }
+    requires { ⌜ IsSkeleton size width n (now edges2) × Ranked n (now atoms2) ⌝ }
+    ensures { λ r. ⌜ ((l k : ℕ → Atom) → Named n l (now (atoms1 .entry)) → Named n k (now (atoms2 .entry))
+        → FoundKept l k n (now (edges1 .entry)) (now (edges2 .entry)) (now (out .entry)) (now (out .exit)) (told (r .answer))
+        × LookedKept l k n (now (edges1 .entry)) (now (edges2 .entry)) (r .pairs)) ⌝ }
 {
     let mut first = [0u8; SIZE];
     let mut second = [0u8; SIZE];
     let mut a = [0u8; SIZE];
     let mut b = [0u8; SIZE];
-    let one = form_coder::numbered(n, edges1, &mut first, &mut a);
-    let other = form_coder::numbered(n, edges2, &mut second, &mut b);
+    let one = form_coder::numbered_marks(n, edges1, atoms1, &mut first, &mut a);
+    let other = form_coder::numbered_marks(n, edges2, atoms2, &mut second, &mut b);
     let looked = one + other;
     match digit_code::compare(&a[..n], &b[..n]) {
         Order::Less(_) => Handed {
@@ -200,4 +246,14 @@ pub fn hand_out(n: usize, edges1: &[u8], edges2: &[u8], out: &mut [u8]) -> Hande
             pairs: looked,
         },
     }
+}
+
+// The same of plain skeletons, whose vertices are all carbon.
+pub fn hand_out(n: usize, edges1: &[u8], edges2: &[u8], out: &mut [u8]) -> Handed
+    requires { ⌜ IsSkeleton size width n (now edges1) × IsSkeleton size width n (now edges2) ⌝ }
+    ensures { λ r. ⌜ Found n (now (edges1 .entry)) (now (edges2 .entry)) (now (out .entry)) (now (out .exit)) (told (r .answer)) ⌝ }
+    ensures { λ r. ⌜ LookedAt n (now (edges1 .entry)) (now (edges2 .entry)) (r .pairs) ⌝ }
+{
+    let carbon = [0u8; SIZE];
+    hand_out_marks(n, edges1, &carbon, edges2, &carbon, out)
 }

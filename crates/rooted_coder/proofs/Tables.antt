@@ -1,9 +1,9 @@
 -- The order by the table is that of the skeleton whose table it is. In order: the children, what the recursion asks of a table, what is
--- written by any marks, with labels, and by the digits. Assumes nothing.
+-- written by any marks, with labels, and by digits and atoms. Assumes nothing.
 use mathlib.Core.Path.{_≡_, refl, ap, ap₂, subst, _∙_}
 use mathlib.Core.Logic.{if-pos, if-neg}
 use mathlib.Core.List.{List, [], _∷_, List·Memᴰ, List·Memᴰ·not-nil, Memᴰ·cast, List·Permᴰ, Permᴰ·refl}
-use Prim.Native.Nat.{ℕ, suc, _-_, _≤_, _<_}
+use Prim.Native.Nat.{ℕ, suc, _+_, _-_, _*_, _≤_, _<_}
 use native.Mathlib.Decide.{ℕ-discrete, decLt}
 use native.Mathlib.Omega.{arith}
 use lib.ListN.{length, getD, take}
@@ -12,14 +12,18 @@ use Rattle.laws.specs.Places.{at-in}
 use Rattle.limits.specs.document.Limits.{size}
 use Rattle.limits.specs.Width.{width}
 use Rattle.skeleton.specs.document.Skeleton.{arcs, neighbours, degree, Degrees, IsTree, children}
-use Rattle.skeleton.specs.Label.{Marks}
-use Rattle.skeleton.specs.Base.{base}
+use Rattle.skeleton.specs.document.Label.{Marks}
+use Rattle.skeleton.specs.document.Atom.{Atom}
+use Rattle.skeleton.specs.document.AtomMarks.{atoms}
+use Rattle.skeleton.specs.Atoms.{rank-under}
 use Rattle.skeleton.specs.Grow.{rooted-tree}
-use Rattle.edge_list.specs.Table.{IsTable, Held}
+use Rattle.letters.specs.Named.{rankAt, Named, Ranked}
+use Rattle.edge_list.specs.Table.{IsTable, Held, deg}
 use Rattle.numbering.specs.Numbering.{Reads, Orders, tree-numbering}
-use Rattle.numbering.specs.Numbers.{orderₗ, pairsₗ, markAt, reads-tree}
+use Rattle.numbering.specs.document.Order.{orderₗ, markAt}
+use Rattle.numbering.specs.Numbers.{pairsₗ, reads-tree}
 use Rattle.numbering.specs.Same.{Same, one-order}
-use Rattle.rooted_coder.specs.Ordered.{markOf, marked, filled, but, row, cell, kids, ordered, compared, Rows, Filled, Fills, Covers, Placed}
+use Rattle.rooted_coder.specs.Ordered.{markOf, marked, filled, but, row, cell, kids, ordered, compared, Rows, Filled, Small, Fills, Covers, Placed}
 use Rattle.rooted_coder.proofs.Neighbours.{neighbour-in, mutual-in, lone}
 
 -- a row that holds the numbers of a list and then 0
@@ -129,29 +133,40 @@ module _ (M : Marks) (label : ℕ → M .Label) {N : ℕ} {E : List ℕ} {t : Li
       let first : take N out ≡ ordered s t 0 r = ap (take N) (c .whole) ∙ take-at (ordered s t 0 r) (c .behind) N (numbers .all) in
       record { order = first ∙ same .order; code = ap (marked s) first ∙ numbers .code; count = c .count ∙ same .count }
 
--- ---- digits as marks
+-- ---- digits and atoms as marks
 
--- in document 01's codes no vertex has a label
-abbrev alike : ℕ → base .Label
-alike v = tt
-
-digits-filled : {N : ℕ} {E : List ℕ} {t : List (List ℕ)} {d : List ℕ} {r : ℕ} (s : List ℕ) → IsTable N E t d → 1 ≤ r → r ≤ N → Fills d r N s → Filled base alike N E r s
-digits-filled {r = r} s b h k f = record { top = f r h k .0 refl ∙ b .degs r h k; rest = λ v i j n. f v i j .1 n ∙ ap (λ i. i - 1) (b .degs v i j) }
+marks-filled :
+    {label : ℕ → Atom} {N : ℕ} {E : List ℕ} {t : List (List ℕ)} {d a : List ℕ} {r : ℕ} (s : List ℕ)
+    → IsTable N E t d → Named N label a → 1 ≤ r → r ≤ N → Fills d a r N s → Filled atoms label N E r s
+marks-filled {r = r} s b c h k f = record {
+  top = f r h k .0 refl ∙ ap₂ (λ x y. 3 * x + y) (b .degs r h k) (c .ranks r h k);
+  rest = λ v i j n. f v i j .1 n ∙ ap₂ (λ x y. 3 * (x - 1) + y) (b .degs v i j) (c .ranks v i j);
+}
 
 -- another list with the same table has as few neighbours
 degrees-of : {N : ℕ} {E : List ℕ} {t : List (List ℕ)} {d : List ℕ} → Held N t d → IsTable N E t d → Degrees width N E
 unfolding Degrees
 degrees-of s b v h k = omega (arith, b .degs v h k, s .table .degs v h k, s .skeleton .degrees v h k)
 
-module _ {N : ℕ} {t : List (List ℕ)} {d : List ℕ} {r : ℕ} (s : Held N t d) (h : 1 ≤ r) (k : r ≤ N) where
-  -- what the recursion asks at the root
-  pub root-rows : Rows t r
-  root-rows = rows-are (s .skeleton .tree) (s .table) (s .skeleton .few) (s .skeleton .degrees) r h k
+module _ {N : ℕ} {t : List (List ℕ)} {d a : List ℕ} (s : Held N t d) (z : Ranked N a) where
+  -- every mark fits
+  pub small : Small d a N
+  unfolding Degrees
+  small i h =
+      let e : suc i - 1 ≡ i = omega arith in
+      let x : deg d (suc i) ≤ width = omega (arith, s .table .degs (suc i) (omega arith) (omega arith), s .skeleton .degrees (suc i) (omega arith) (omega arith)) in
+      let y : rankAt a (suc i) < 3 = omega (arith, z .named .ranks (suc i) (omega arith) (omega arith), rank-under (z .label (suc i))) in
+      (rw e at x, rw e at y)
 
-  module _ (m : List ℕ) (f : Fills d r N m) where
-    pub root-length : length (ordered m t 0 r) ≡ N
-    root-length = numbers base alike m (s .skeleton .tree) (s .table) (s .skeleton .few) (s .skeleton .degrees) h k (digits-filled m (s .table) h k f) .all
+  module _ {r : ℕ} (h : 1 ≤ r) (k : r ≤ N) where
+    -- what the recursion asks at the root
+    pub root-rows : Rows t r
+    root-rows = rows-are (s .skeleton .tree) (s .table) (s .skeleton .few) (s .skeleton .degrees) r h k
 
-    -- what is written, where the digits are the marks
-    pub digits-placed : {out : List ℕ} {n : ℕ} → Covers m t r out n → (E : List ℕ) → IsTree N E → IsTable N E t d → Placed base alike N E r m out n
-    digits-placed c E tree b = placed base alike m tree b (s .skeleton .few) (degrees-of s b) h k (digits-filled m b h k f) c
+    module _ (m : List ℕ) (f : Fills d a r N m) where
+      pub root-length : length (ordered m t 0 r) ≡ N
+      root-length = numbers atoms (z .label) m (s .skeleton .tree) (s .table) (s .skeleton .few) (s .skeleton .degrees) h k (marks-filled m (s .table) (z .named) h k f) .all
+
+      -- what is written by these marks
+      pub marks-placed : {out : List ℕ} {n : ℕ} → Covers m t r out n → (E : List ℕ) (label : ℕ → Atom) → IsTree N E → IsTable N E t d → Named N label a → Placed atoms label N E r m out n
+      marks-placed c E label tree b q = placed atoms label m tree b (s .skeleton .few) (degrees-of s b) h k (marks-filled m b q h k f) c

@@ -3,7 +3,7 @@
 -- What that recursion is held to, by the table alone. It writes vertices, and compares them by their marks. In order: the children of a
 -- vertex by the table, the order of what hangs there and the pairs looked at; what the recursion asks of a table; parts that
 -- stand one behind the other in the buffer, and what each function leaves there; marks, with labels, and what the buffer then holds of
--- the skeleton whose table it is; digits as marks. Assumes nothing.
+-- the skeleton whose table it is; digits and atoms as marks. Assumes nothing.
 use mathlib.Core.Path.{_≡_}
 use mathlib.Core.Logic.{_⊎_, ite, Dec·not}
 use mathlib.Core.Bool.{Bool, true, false}
@@ -16,9 +16,11 @@ use Rattle.digit_code.specs.Compare.{looked}
 use Rattle.limits.specs.document.Limits.{size}
 use Rattle.limits.specs.Width.{width}
 use Rattle.skeleton.specs.document.Skeleton as tree
-use Rattle.skeleton.specs.Label.{Marks, rootedₗ}
+use Rattle.skeleton.specs.document.Label.{Marks, rootedₗ}
+use Rattle.letters.specs.Named.{rankAt}
 use Rattle.edge_list.specs.Table.{deg}
 use Rattle.numbering.specs.Numbers as numbers
+use Rattle.numbering.specs.document.Order as orders
 use Rattle.numbering.specs.document.Order.{sortBy, orderBy}
 use Rattle.numbering.specs.Order.{place, pairs, pairsBy}
 
@@ -168,16 +170,20 @@ pub record Filled (M : Marks) (label : ℕ → M .Label) (N : ℕ) (E : List ℕ
 
 -- the first N of s are the vertices of the tree E in the order of its rooted code at r, their marks are that code, and n pairs were looked at
 pub record Placed (M : Marks) (label : ℕ → M .Label) (N : ℕ) (E : List ℕ) (r : ℕ) (m s : List ℕ) (n : ℕ) : Type 0 where
-  pub order : take N s ≡ numbers.orderₗ M label N E r
+  pub order : take N s ≡ orders.orderₗ M label N E r
   pub code : marked m (take N s) ≡ rootedₗ M label N E r
   pub count : n ≡ numbers.pairsₗ M label N E r
 
--- ---- digits as marks
+-- ---- digits and atoms as marks
 
--- x is the digit of v where r is the root
-abbrev pub IsDigit : List ℕ → ℕ → ℕ → ℕ → Type 0
-IsDigit d r v x = (v ≡ r → x ≡ deg d v) × ((v ≡ r → ⊥) → x ≡ deg d v - 1)
+-- x is the mark of v where r is the root: three times its digit, and its atom
+abbrev pub IsMark : List ℕ → List ℕ → ℕ → ℕ → ℕ → Type 0
+IsMark d a r v x = (v ≡ r → x ≡ 3 * deg d v + rankAt a v) × ((v ≡ r → ⊥) → x ≡ 3 * (deg d v - 1) + rankAt a v)
 
--- s has the digit of each of the vertices up to n
-abbrev pub Fills : List ℕ → ℕ → ℕ → List ℕ → Type 0
-Fills d r n s = (v : ℕ) → 1 ≤ v → v ≤ n → IsDigit d r v (getD s v 0)
+-- s has the mark of each of the vertices up to n
+abbrev pub Fills : List ℕ → List ℕ → ℕ → ℕ → List ℕ → Type 0
+Fills d a r n s = (v : ℕ) → 1 ≤ v → v ≤ n → IsMark d a r v (getD s v 0)
+
+-- the first n degrees are of a row, and the first n atoms have names
+abbrev pub Small : List ℕ → List ℕ → ℕ → Type 0
+Small d a n = (i : ℕ) → i < n → (getD d i 0 ≤ width) × (getD a i 0 < 3)

@@ -2,6 +2,7 @@
 // marks were looked at on the way.
 use digit_code::Order;
 use edge_list::wide;
+use limits::ATOMS;
 use limits::BYTES;
 use limits::SIZE;
 use limits::WIDTH;
@@ -15,11 +16,14 @@ ghost use Rattle.limits.specs.document.Limits.{size};
 ghost use Rattle.limits.specs.Width.{width};
 ghost use Rattle.digit_code.specs.Compare.{lex};
 ghost use Rattle.skeleton.specs.document.Skeleton as tree;
-ghost use Rattle.skeleton.specs.Base.{base};
+ghost use Rattle.skeleton.specs.document.Label.{rootedₗ};
+ghost use Rattle.skeleton.specs.document.AtomMarks as names;
+ghost use Rattle.skeleton.specs.document.Atom.{Atom};
+ghost use Rattle.letters.specs.Named.{Named, Ranked};
 ghost use Rattle.edge_list.specs.Table.{IsTable, Held};
 ghost use Rattle.numbering.specs.Numbers as numbers;
-ghost use Rattle.numbering.specs.document.Order as ordering;
-ghost use Rattle.rooted_coder.specs.Ordered.{marked, markOf, cell, kids, ordered, compared, Rows, Stand, Standing, Spot, met, Exchanged, Waits, Waiting, Settles, endOf, Arranges, Several, Hangs, Covers, Fills, Placed};
+ghost use Rattle.numbering.specs.document.Order as orders;
+ghost use Rattle.rooted_coder.specs.Ordered.{marked, markOf, cell, kids, ordered, Rows, Stand, Standing, Spot, met, Exchanged, Waits, Waiting, Settles, endOf, Arranges, Several, Hangs, Covers, Small, Fills, Placed};
 
 // A place in the buffer, and how many pairs were looked at to find it.
 struct Sought {
@@ -300,25 +304,28 @@ fn less(k: u8) -> u8
     k - 1
 }
 
-// Makes each number one less. 0 stays.
-fn lower(s: &mut [u8])
-    ensures { λ _. ⌜ ((i : ℕ) → i < length (now (s .entry)) → getD (now (s .exit)) i 0 ≡ getD (now (s .entry)) i 0 - 1) ⌝ }
+// The mark of a vertex with k children.
+fn written(k: u8, atom: u8) -> u8
+    requires { ⌜ (k ≤ width) × (atom < 3) ⌝ }
+    ensures { λ r. ⌜ r ≡ 3 * k + atom ⌝ }
 {
-    let mut i = 0;
-    while i < s.len() {
-        s[i] = less(s[i]);
-        i += 1;
-    }
+    ATOMS * k + atom
 }
 
-// Writes the digit of each vertex at its number: how many neighbours it has, and but for the root all but one.
-fn fill(degs: &[u8; SIZE], n: usize, root: usize, marks: &mut [u8])
-    requires { ⌜ (1 ≤ root) × (root ≤ n) × (n ≤ size) × (n < length (now marks)) × (length (now degs) ≡ size) ⌝ }
-    ensures { λ _. ⌜ Fills (now (degs .entry)) root n (now (marks .exit)) ⌝ }
+// Writes the mark of each vertex at its number: three times its digit, and its atom. The digit is how many neighbours it has, and but for the
+// root all but one.
+fn fill(degs: &[u8; SIZE], atoms: &[u8; SIZE], n: usize, root: usize, marks: &mut [u8; BYTES])
+    requires { ⌜ (1 ≤ root) × (root ≤ n) × (n ≤ size) × (size < length (now marks)) × Small (now degs) (now atoms) n ⌝ }
+    ensures { λ _. ⌜ Fills (now (degs .entry)) (now (atoms .entry)) root n (now (marks .exit)) ⌝ }
 {
-    transfer(degs, 0, n, marks, 1);
-    lower(marks);
-    marks[root] = degs[root - 1];
+    let mut v = 0;
+    while v < n {
+        let k = less(degs[v]);
+        let m = written(k, atoms[v]);
+        v += 1;
+        marks[v] = m;
+    }
+    marks[root] = written(degs[root - 1], atoms[root - 1]);
 }
 
 // Writes the mark of each of the first n of `s` from the start of `out`.
@@ -333,44 +340,46 @@ pub fn read(marks: &[u8; BYTES], s: &[u8], n: usize, out: &mut [u8])
     }
 }
 
-// Fills in the digits as marks, and writes the vertices in the order of the rooted code at `root` from the start of the buffer.
+// Fills in the marks, and writes the vertices in the order of the rooted code at `root` from the start of the buffer.
 fn vertices(
     rows: &[[u8; WIDTH]; SIZE],
     degs: &[u8; SIZE],
+    atoms: &[u8; SIZE],
     n: usize,
     root: usize,
     marks: &mut [u8; BYTES],
     buffer: &mut [u8; SIZE],
 ) -> usize
-    requires { ⌜ Held n (now rows) (now degs) ⌝ }
+    requires { ⌜ Held n (now rows) (now degs) × Ranked n (now atoms) ⌝ }
     requires { ⌜ (1 ≤ root) × (root ≤ n) × (size < length (now marks)) × (length (now buffer) ≡ size) ⌝ }
     ensures { λ _. ⌜ length (now (buffer .exit)) ≡ size ⌝ }
-    ensures { λ r. ⌜ ((E : List ℕ) → tree.IsTree n E → IsTable n E (now (rows .entry)) (now (degs .entry))
-        → Placed base (λ v. tt) n E root (now (marks .exit)) (now (buffer .exit)) r) ⌝ }
+    ensures { λ r. ⌜ ((E : List ℕ) (label : ℕ → Atom) → tree.IsTree n E → IsTable n E (now (rows .entry)) (now (degs .entry)) → Named n label (now (atoms .entry))
+        → Placed names.atoms label n E root (now (marks .exit)) (now (buffer .exit)) r) ⌝ }
 {
-    fill(degs, n, root, marks);
+    fill(degs, atoms, n, root, marks);
     cover(rows, marks, root, buffer)
 }
 
-// Writes the rooted code at `root` of the skeleton of n vertices whose table is given, and into `order` the vertex of each digit. Returns how
-// many pairs of digits were looked at, where every two siblings were compared once.
+// Writes the marks of the rooted code at `root` of the skeleton of n vertices whose table and atoms are given, and into `order` the vertex of
+// each. Returns how many pairs of marks were looked at, where every two siblings were compared once.
 pub fn rooted(
     rows: &[[u8; WIDTH]; SIZE],
     degs: &[u8; SIZE],
+    atoms: &[u8; SIZE],
     n: usize,
     root: usize,
     order: &mut [u8; SIZE],
     out: &mut [u8],
 ) -> usize
-    requires { ⌜ Held n (now rows) (now degs) ⌝ }
+    requires { ⌜ Held n (now rows) (now degs) × Ranked n (now atoms) ⌝ }
     requires { ⌜ (1 ≤ root) × (root ≤ n) × (length (now order) ≡ size) × (n ≤ length (now out)) ⌝ }
     ensures { λ _. ⌜ length (now (order .exit)) ≡ size ⌝ }
-    ensures { λ r. ⌜ ((E : List ℕ) → tree.IsTree n E → IsTable n E (now (rows .entry)) (now (degs .entry))
-        → (take n (now (order .exit)) ≡ ordering.order n E root) × (now (out .exit) ≡ laidOver (tree.rooted n E root) (now (out .entry)))
-        × (r ≡ numbers.pairsₗ base (λ v. tt) n E root)) ⌝ }
+    ensures { λ r. ⌜ ((E : List ℕ) (label : ℕ → Atom) → tree.IsTree n E → IsTable n E (now (rows .entry)) (now (degs .entry)) → Named n label (now (atoms .entry))
+        → (take n (now (order .exit)) ≡ orders.orderₗ names.atoms label n E root) × (now (out .exit) ≡ laidOver (rootedₗ names.atoms label n E root) (now (out .entry)))
+        × (r ≡ numbers.pairsₗ names.atoms label n E root)) ⌝ }
 {
     let mut marks = [0u8; BYTES];
-    let looked = vertices(rows, degs, n, root, &mut marks, order);
+    let looked = vertices(rows, degs, atoms, n, root, &mut marks, order);
     read(&marks, order, n, out);
     looked
 }

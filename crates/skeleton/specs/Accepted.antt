@@ -16,7 +16,8 @@ use Rattle.digit_code.specs.Right.{Rightₗ, small-clear}
 use Rattle.digit_code.specs.Two.{digit-at}
 use Rattle.skeleton.specs.document.Skeleton.{Degrees, IsSkeleton}
 use Rattle.skeleton.specs.IsRooted.{IsRooted}
-use Rattle.skeleton.specs.Label.{Marks, digits, IsRootedₗ, Valences, Fits, Capped, row20, markRows}
+use Rattle.skeleton.specs.document.Label.{Marks, digits, row20}
+use Rattle.skeleton.specs.Label.{IsRootedₗ, Valences, Fits, Capped, markRows}
 use Rattle.skeleton.specs.Degree.{fits-capped}
 use Rattle.skeleton.specs.Base.{base, digits-base, is-rooted}
 use Rattle.skeleton.specs.General as General

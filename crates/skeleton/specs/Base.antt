@@ -12,7 +12,8 @@ use Rattle.digit_code.specs.Ends.{Ends, ends-open}
 use Rattle.skeleton.specs.document.Skeleton.{Arc, arcs, children, join, codeAt, rooted}
 use Rattle.skeleton.specs.IsRooted.{IsRooted}
 use Rattle.skeleton.specs.Forest.{Forest}
-use Rattle.skeleton.specs.Label.{Marks, joinₗ, codeₗ, rootedₗ, digits, IsRootedₗ, Fits}
+use Rattle.skeleton.specs.document.Label.{Marks, joinₗ, codeₗ, rootedₗ, digits}
+use Rattle.skeleton.specs.Label.{IsRootedₗ, Fits}
 use Rattle.skeleton.specs.Decoding.{shape, marks, marks-digits}
 use Rattle.skeleton.specs.Degree.{fits-capped}
 

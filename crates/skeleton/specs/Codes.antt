@@ -10,7 +10,7 @@ use Rattle.laws.specs.Sorting.{sort-perm}
 use Rattle.laws.specs.Perms.{perm-length, front}
 use Rattle.skeleton.specs.document.Skeleton.{Arc, arcs, neighbours, children}
 use Rattle.skeleton.specs.Forest.{Forest, none, tree, vertices, count, hung, Distinct, Rooted}
-use Rattle.skeleton.specs.Label.{Marks, joinₗ, codeₗ, rootedₗ}
+use Rattle.skeleton.specs.document.Label.{Marks, joinₗ, codeₗ, rootedₗ}
 
 -- the roots of a forest's trees
 unfoldable pub roots : Forest → List ℕ

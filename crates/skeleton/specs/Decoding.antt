@@ -10,7 +10,7 @@ use Rattle.digit_code.specs.document.Code.{edgesFrom, decode}
 use Rattle.digit_code.specs.Ends.{Ends}
 use Rattle.skeleton.specs.document.Skeleton.{arcs}
 use Rattle.skeleton.specs.Forest.{Forest, none, tree, vertices, count, hung}
-use Rattle.skeleton.specs.Label.{Marks, digits}
+use Rattle.skeleton.specs.document.Label.{Marks, digits}
 
 -- how many trees a forest has
 unfoldable pub width : Forest → ℕ

@@ -9,7 +9,8 @@ use Rattle.laws.specs.Perms.{perm-length}
 use Rattle.laws.specs.Places.{at-in, place, place-at}
 use Rattle.skeleton.specs.document.Skeleton.{Arc, arcs, neighbours, degree}
 use Rattle.skeleton.specs.Forest.{Forest, none, tree, vertices, Rooted}
-use Rattle.skeleton.specs.Label.{Marks, rootedₗ, Valences, Fits, Capped}
+use Rattle.skeleton.specs.document.Label.{Marks, rootedₗ}
+use Rattle.skeleton.specs.Label.{Valences, Fits, Capped}
 use Rattle.skeleton.specs.Codes.{roots, neighbours-perm, near, Good, good}
 use Rattle.skeleton.specs.Decoding.{width, marks}
 use Rattle.skeleton.specs.Sorted.{sorted, rooted-marks}

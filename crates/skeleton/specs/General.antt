@@ -11,7 +11,8 @@ use Rattle.digit_code.specs.Ends.{Ends, ends-sum, ends-iff, prefix-free}
 use Rattle.skeleton.specs.document.Skeleton.{arcs, IsTree, Renumbering}
 use Rattle.skeleton.specs.Forest.{Rooted}
 use Rattle.skeleton.specs.Grow.{rooted-tree}
-use Rattle.skeleton.specs.Label.{Marks, rootedₗ, digits, labels, Keeps, IsRootedₗ, Valences, Fits}
+use Rattle.skeleton.specs.document.Label.{Marks, rootedₗ, digits, labels, Keeps}
+use Rattle.skeleton.specs.Label.{IsRootedₗ, Valences, Fits}
 use Rattle.skeleton.specs.Codes.{rooted-join}
 use Rattle.skeleton.specs.Renumber.{same-code}
 use Rattle.skeleton.specs.Numbered.{to-decoded, same-tree}

@@ -15,6 +15,8 @@ pub mod Degree
 pub mod General
 pub mod Base
 pub mod Atoms
+pub mod Rewritten
+pub mod Carbon
 pub mod Theorems
 pub mod Ordered
 pub mod Accepted

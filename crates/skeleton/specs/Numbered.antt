@@ -12,7 +12,7 @@ use Rattle.digit_code.specs.document.Code.{decode}
 use Rattle.skeleton.specs.document.Skeleton.{arcs, Renumbering}
 use Rattle.skeleton.specs.Forest.{Forest, none, tree, vertices, count, hung, Rooted}
 use Rattle.skeleton.specs.Forests.{count-vertices, distinct-once, mapF, map-hung}
-use Rattle.skeleton.specs.Label.{Marks, rootedₗ, digits, labels, Keeps}
+use Rattle.skeleton.specs.document.Label.{Marks, rootedₗ, digits, labels, Keeps}
 use Rattle.skeleton.specs.Decoding.{width, shape, number, edgesOf, edges-hung, decode-forest, marks-labels}
 use Rattle.skeleton.specs.Sorted.{sorted, rooted-marks, rooted-digits}
 use Rattle.skeleton.specs.Renumber.{carry, Within, rooted-within, back, after}

@@ -5,11 +5,10 @@
 use mathlib.Core.Path.{_≡_, refl, ap, ap₂, sym, _∙_, subst}
 use mathlib.Core.Logic.{_↔_, Iff·trans}
 use mathlib.Core.List.{List, [], _∷_, _++_, map, flatten, append-nil, append-assoc, nil≢cons, cons≢nil, head-eq-of-cons-eq, tail-eq-of-cons-eq}
-use Prim.Native.Nat.{ℕ, zero, suc, _+_, _-_}
-use native.Mathlib.Nat.{zero-add, add-zero, suc-add}
+use Prim.Native.Nat.{ℕ, suc, _+_, _-_}
 use native.Mathlib.Omega.{arith}
 use lib.ListN.{length, getD, take, drop, length-map}
-use lib.Seq.{take-at, drop-at}
+use lib.Seq.{take-at, drop-at, getD-append-add}
 use Rattle.laws.specs.document.Order.{sort}
 use Rattle.laws.specs.Falling.{Falling}
 use Rattle.laws.specs.Sorting.{sort-stays}
@@ -17,10 +16,11 @@ use Rattle.digit_code.specs.document.Code.{plain, codes}
 use Rattle.digit_code.specs.Ends.{Ends}
 use Rattle.digit_code.specs.Ordered.{Ordered}
 use Rattle.skeleton.specs.IsRooted.{IsRooted}
-use Rattle.skeleton.specs.Forest.{Forest, none, tree, vertices, count, Rooted}
-use Rattle.skeleton.specs.Label.{Marks, joinₗ, rootedₗ, digits, labels, IsRootedₗ}
+use Rattle.skeleton.specs.Forest.{Forest, none, tree, count, Rooted}
+use Rattle.skeleton.specs.document.Label.{Marks, joinₗ, rootedₗ, digits, labels}
+use Rattle.skeleton.specs.Label.{IsRootedₗ}
 use Rattle.skeleton.specs.Codes.{branches, rooted-join}
-use Rattle.skeleton.specs.Decoding.{width, shape, shape-length, number, edgesOf, marks, marks-digits, marks-labels}
+use Rattle.skeleton.specs.Decoding.{width, shape, shape-length, number, number-count, edgesOf, marks, marks-digits}
 use Rattle.skeleton.specs.Sorted.{Sorted, sorted, sorted-below, sorted-falling, rooted-marks}
 use Rattle.skeleton.specs.Right.{read-code, numbered-rooted, numbered-tree}
 use Rattle.skeleton.specs.Grow.{rooted-tree}
@@ -102,68 +102,49 @@ module _ (M : Marks) (label : ℕ → M .Label) where
       ∙ ap (joinₗ M (label 1)) (down-branches g o)
       ∙ ap₂ (λ n x. M .mark n (label 1) ∷ x) (strings-length g) (ap flatten (sort-stays (strings g) h) ∙ strings-marks g)
 
--- where there is one label, what a forest is coded to does not depend on its numbers
-pub number-branches : (l : ℕ → Unit {0}) (j : ℕ) (f : Forest) → branches base l (number j f) ≡ branches base l f
-unfolding branches number
-number-branches l j none = refl
-number-branches l j (tree v d f) = ap₂ (λ x y. joinₗ base tt x ∷ y) (number-branches l (suc j) d) (number-branches l (suc j + count d) f)
-
 -- ---- marks, read off their digits and labels
 
--- j, j + 1, .., n numbers
-onward : ℕ → ℕ → List ℕ
-onward j zero = []
-onward j (suc n) = j ∷ onward (suc j) n
-
-onward-join : (j m n : ℕ) → onward j (m + n) ≡ onward j m ++ onward (j + m) n
-unfolding onward
-onward-join j zero n = rw (zero-add, add-zero)
-onward-join j (suc m) n = rw (suc-add) (ap (λ l. j ∷ l) (onward-join (suc j) m n ∙ (let e : suc j + m ≡ j + suc m = omega arith in ap (λ i. onward (suc j) m ++ onward i n) e)))
-
-number-onward : (j : ℕ) (f : Forest) → vertices (number j f) ≡ onward j (count f)
-unfolding vertices number count onward
-number-onward j none = refl
-number-onward j (tree v d f) = ap (λ l. j ∷ l) (ap₂ _++_ (number-onward (suc j) d) (number-onward (suc j + count d) f) ∙ sym (onward-join (suc j) (count d) (count f)))
-
-number-width : (j : ℕ) (f : Forest) → width (number j f) ≡ width f
+pub number-width : (j : ℕ) (f : Forest) → width (number j f) ≡ width f
 unfolding width number
 number-width j none = refl
 number-width j (tree v d f) = ap suc (number-width (suc j + count d) f)
 
-number-shape : (j : ℕ) (f : Forest) → shape (number j f) ≡ shape f
-unfolding shape number
-number-shape j none = refl
-number-shape j (tree v d f) =
-    ap₂ (λ n l. n ∷ l) (number-width (suc j) d) (ap₂ _++_ (number-shape (suc j) d) (number-shape (suc j + count d) f))
+-- marks whose digits are a forest's, and then others, and whose labels are those of j, j + 1 and so on: the forest's marks, numbered from j, and then others
+module _ (M : Marks) (l : ℕ → M .Label) where
+  pub read-part : (x : List ℕ) (j : ℕ) (f : Forest) (rest : List ℕ) → digits M x ≡ shape f ++ rest → ((i : ℕ) → l (j + i) ≡ M .atom (getD x i 0))
+      → (r : List ℕ) × (x ≡ marks M l (number j f) ++ r) × (digits M r ≡ rest)
+  unfolding digits shape number marks
+  read-part x j none rest e h = (x, refl, e)
+  read-part [] j (tree v d f) rest e h = absurd (nil≢cons e)
+  read-part (m ∷ x) j (tree v d f) rest e h =
+      let below : (i : ℕ) → l (suc j + i) ≡ M .atom (getD x i 0) = λ i. (let n : suc j + i ≡ j + suc i = omega arith in ap l n) ∙ h (suc i) in
+      let (r, p, g) = read-part x (suc j) d (shape f ++ rest) (tail-eq-of-cons-eq e ∙ append-assoc (shape d) (shape f) rest) below in
+      let D : List ℕ = marks M l (number (suc j) d) in
+      let long : length D ≡ count d = marks-length (number (suc j) d) ∙ number-count (suc j) d in
+      let (s, q, k) = read-part r (suc j + count d) f rest g (λ i.
+      (let n : suc j + count d + i ≡ suc j + (length D + i) = omega arith in ap l n) ∙ below (length D + i) ∙ ap (M .atom) (ap (λ y. getD y (length D + i) 0) p ∙ getD-append-add D r i 0)) in
+      let F : List ℕ = marks M l (number (suc j + count d) f) in
+      let top : m ≡ M .mark (width (number (suc j) d)) (l j) =
+      sym (M .mark-of m) ∙ ap₂ (M .mark) (head-eq-of-cons-eq e ∙ sym (number-width (suc j) d)) (sym (h 0) ∙ (let n : j + 0 ≡ j = omega arith in ap l n)) in
+      (s, ap₂ (λ y z. y ∷ z) top (p ∙ ap (λ y. D ++ y) q ∙ sym (append-assoc D F s)), k)
+    where
+      marks-length : (f : Forest) → length (marks M l f) ≡ count f
+      marks-length f = sym (length-map (marks M l f) (M .arity)) ∙ ap length (marks-digits M l f) ∙ shape-length f
 
 module _ (M : Marks) where
-  -- the labels of a code's marks, in their order
-  label-each : (c : List ℕ) → map (labels M c) (onward 1 (length c)) ≡ map (M .atom) c
-  unfolding labels onward
-  label-each c = from 1 c (λ i. let e : 1 + i - 1 ≡ i = omega arith in ap (λ n. M .atom (getD c n 0)) e)
-    where
-      from : (j : ℕ) (d : List ℕ) → ((i : ℕ) → labels M c (j + i) ≡ M .atom (getD d i 0)) → map (labels M c) (onward j (length d)) ≡ map (M .atom) d
-      from j [] h = refl
-      from j (m ∷ d) h = ap₂ (λ a l. a ∷ l) (rw add-zero at (h 0)) (from (suc j) d (λ i. (let e : suc j + i ≡ j + suc i = omega arith in ap (labels M c) e) ∙ h (suc i)))
-
-  -- marks with the same digits and the same labels are the same
-  marks-same : (x y : List ℕ) → map (M .arity) x ≡ map (M .arity) y → map (M .atom) x ≡ map (M .atom) y → x ≡ y
-  marks-same [] [] a b = refl
-  marks-same [] (m ∷ y) a b = absurd (nil≢cons a)
-  marks-same (m ∷ x) [] a b = absurd (cons≢nil a)
-  marks-same (m ∷ x) (n ∷ y) a b =
-      ap₂ (λ k l. k ∷ l) (sym (M .mark-of m) ∙ ap₂ (M .mark) (head-eq-of-cons-eq a) (head-eq-of-cons-eq b) ∙ M .mark-of n) (marks-same x y (tail-eq-of-cons-eq a) (tail-eq-of-cons-eq b))
-
   -- a code's marks are those of the forest that its digits make, with its labels
   read-marks : (c : List ℕ) (f : Forest) → width f ∷ shape f ≡ digits M c → M .mark (width (number 2 f)) (labels M c 1) ∷ marks M (labels M c) (number 2 f) ≡ c
-  unfolding digits onward
-  read-marks c f e =
-      let l : ℕ → M .Label = labels M c in
-      let g : Forest = number 2 f in
-      let n : suc (count f) ≡ length c = sym (ap suc (shape-length f)) ∙ ap length e ∙ length-map c (M .arity) in
-      marks-same (M .mark (width g) (l 1) ∷ marks M l g) c
-      (ap₂ (λ k x. k ∷ x) (M .arity-mark (width g) (l 1) ∙ number-width 2 f) (marks-digits M l g ∙ number-shape 2 f) ∙ e)
-      (ap₂ (λ a x. a ∷ x) (M .atom-mark (width g) (l 1)) (marks-labels M l g ∙ ap (map l) (number-onward 2 f)) ∙ ap (λ k. map l (onward 1 k)) n ∙ label-each c)
+  unfolding digits labels
+  read-marks [] f e = absurd (cons≢nil e)
+  read-marks (m ∷ x) f e =
+      let l : ℕ → M .Label = labels M (m ∷ x) in
+      let (r, p, g) = read-part M l x 2 f [] (sym (tail-eq-of-cons-eq e) ∙ sym (append-nil (shape f))) (λ i. let n : 2 + i - 1 ≡ suc i = omega arith in ap (λ k. M .atom (getD (m ∷ x) k 0)) n) in
+      let top : M .mark (width (number 2 f)) (M .atom m) ≡ m = ap (λ k. M .mark k (M .atom m)) (number-width 2 f ∙ head-eq-of-cons-eq e) ∙ M .mark-of m in
+      ap₂ (λ y z. y ∷ z) top (sym (p ∙ ap (λ y. marks M l (number 2 f) ++ y) (none-left r g) ∙ append-nil (marks M l (number 2 f))))
+    where
+      none-left : (r : List ℕ) → map (M .arity) r ≡ [] → r ≡ []
+      none-left [] g = refl
+      none-left (k ∷ r) g = absurd (cons≢nil g)
 
   -- c is a rooted code exactly when its digits end and no child's code is larger than that of the sibling before it
   pub code-orderedₗ : (c : List ℕ) → IsRootedₗ M c ↔ (Ends 1 (digits M c) × Ordered (M .arity) c)

@@ -10,7 +10,7 @@ use Rattle.laws.specs.Places.{once-map}
 use Rattle.skeleton.specs.document.Skeleton.{Arc, arcs, Renumbering}
 use Rattle.skeleton.specs.Forest.{Forest, none, tree, vertices, Rooted}
 use Rattle.skeleton.specs.Forests.{distinct-once, mapF, map-vertices, map-count, map-hung, hung-in}
-use Rattle.skeleton.specs.Label.{Marks, joinₗ, rootedₗ, Keeps}
+use Rattle.skeleton.specs.document.Label.{Marks, joinₗ, rootedₗ, Keeps}
 use Rattle.skeleton.specs.Codes.{branches, rooted-join}
 
 -- an arc with other numbers

@@ -12,7 +12,7 @@ use Rattle.digit_code.specs.document.Code.{sum, decode}
 use Rattle.digit_code.specs.Ends.{Ends, ends-sum}
 use Rattle.skeleton.specs.document.Skeleton.{Arc, Walk, here, along, IsTree}
 use Rattle.skeleton.specs.Forest.{Forest, none, tree, vertices, count, hung, Distinct, Rooted}
-use Rattle.skeleton.specs.Label.{Marks, rootedₗ, digits, labels}
+use Rattle.skeleton.specs.document.Label.{Marks, rootedₗ, digits, labels}
 use Rattle.skeleton.specs.Decoding.{width, shape, shape-length, number, number-count, edgesOf, edges-hung, decode-forest, ends-forest}
 use Rattle.skeleton.specs.Sorted.{sorted, rooted-digits}
 use Rattle.skeleton.specs.Renumber.{same-code}

@@ -13,7 +13,7 @@ use Rattle.laws.specs.Perms.{perm-in, perm-length, front}
 use Rattle.laws.specs.Once.{once-perm}
 use Rattle.skeleton.specs.Forest.{Forest, none, tree, vertices, hung, Rooted}
 use Rattle.skeleton.specs.Forests.{gather, gather-vertices, gather-hung, count-vertices, distinct-once}
-use Rattle.skeleton.specs.Label.{Marks, joinₗ, rootedₗ, digits}
+use Rattle.skeleton.specs.document.Label.{Marks, joinₗ, rootedₗ, digits}
 use Rattle.skeleton.specs.Codes.{join-perm, branches, rooted-join}
 use Rattle.skeleton.specs.Decoding.{width, shape, marks, marks-digits}
 

@@ -10,7 +10,8 @@ use Rattle.digit_code.specs.document.Code.{digit, sum, EndsAt, decode, cap}
 use Rattle.digit_code.specs.Ends.{Ends}
 use Rattle.skeleton.specs.document.Skeleton.{arcs, IsTree, Degrees, rooted, Renumbering}
 use Rattle.skeleton.specs.IsRooted.{IsRooted}
-use Rattle.skeleton.specs.Label.{rootedₗ, digits, Valences}
+use Rattle.skeleton.specs.document.Label.{rootedₗ, digits}
+use Rattle.skeleton.specs.Label.{Valences}
 use Rattle.skeleton.specs.Base.{base, rooted-base, digits-base, is-rooted, caps}
 use Rattle.skeleton.specs.Right as Right
 use Rattle.skeleton.specs.General as General

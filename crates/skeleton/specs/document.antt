@@ -1,2 +1,5 @@
 -- What must be believed: docs/READING.md lists it in the order of document 01. Assumes nothing.
 pub mod Skeleton
+pub mod Label
+pub mod Atom
+pub mod AtomMarks

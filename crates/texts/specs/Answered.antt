@@ -110,7 +110,10 @@ module _ {A F : Type 0} (format : Format A F) (once : Once (format .Formed)) whe
   pub line-clear : {t : List ℕ} {q : F} → Clear (format .first) → Shaped (format .Formed) t q → Clear (judged (format .rows) q) → Clear (lineRows format t)
   line-clear o s c = clear-both o (clear-both (form-clear s) (alike-clear (parts-alike (format .Formed) once s (format .rows)) .0 c))
 
-  -- where a line of the form is not refused, its parts are not
+  -- a line of the form is refused as its parts are
+  pub line-refuses : {t : List ℕ} {q : F} {k p : ℕ} → Clear (format .first) → Shaped (format .Formed) t q → FirstRefusal (judged (format .rows) q) k p → FirstRefusal (lineRows format t) k p
+  line-refuses o s l = refusal-back o (refusal-back (form-clear s) (alike-refusal (parts-alike (format .Formed) once s (format .rows)) l))
+
   pub clear-line : {t : List ℕ} {q : F} → Clear (lineRows format t) → Shaped (format .Formed) t q → Clear (judged (format .rows) q)
   clear-line c s = alike-clear (parts-alike (format .Formed) once s (format .rows)) .1 (others (others (clear-right (format .first) _ c)))
 

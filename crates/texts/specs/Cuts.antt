@@ -7,7 +7,7 @@ use native.Mathlib.Decide.{ℕ-discrete}
 use native.Mathlib.Omega.{arith}
 use lib.ListN.{length, length-append}
 use Rattle.texts.specs.document.Bytes.{Other, Free, Cut}
-use Rattle.texts.specs.Each.{each-right}
+use Rattle.laws.specs.Each.{each-right}
 
 -- what holds k is not free of it
 pub not-free : (k : ℕ) (s t : List ℕ) → Free k (s ++ (k ∷ t)) → ⊥

@@ -109,7 +109,7 @@ abbrev pub Fits : {A F : Type 0} → Format A F → ℕ → (A → List ℕ) →
 Fits {A} {F} format w v = (q : F) → Clear (judged (format .rows) q) → length (v (format .carries q)) ≤ w
 
 module _ {A F : Type 0} (format : Format A F) (once : Once (format .Formed)) (w : ℕ) (v : A → List ℕ) (room : Fits format w v) where
-  answer-fits : {t : List ℕ} {o : Outcome A} → LineAnswers format t o → Fit w v o
+  pub answer-fits : {t : List ℕ} {o : Outcome A} → LineAnswers format t o → Fit w v o
   answer-fits (kept c r) = subst (λ (a : A). length (v a) ≤ w) (r .holds) (room (r .parts) (clear-line format once c (r .shape)))
   answer-fits (left l e) = tt
 
@@ -119,7 +119,7 @@ module _ {A F : Type 0} (format : Format A F) (once : Once (format .Formed)) (w 
   taken-fit (next c a h) = (answer-fits a, taken-fit h)
 
 module _ {A : Type 0} (w : ℕ) (v : A → List ℕ) where
-  length-block : (o : Outcome A) (old : List ℕ) → Fit w v o → length old ≡ w → length (block v o old) ≡ w
+  pub length-block : (o : Outcome A) (old : List ℕ) → Fit w v o → length old ≡ w → length (block v o old) ≡ w
   unfolding block
   length-block (gives c) old f e = laid-length (v c) old (omega arith) ∙ e
   length-block (refuses k p) old f e = e

@@ -42,6 +42,21 @@ free-figures k (d ∷ ds) o h = (other o, free-figures k ds o (h .1))
     other (inl l) e = omega arith
     other (inr l) e = omega (arith, h .0)
 
+-- a count below 10 is one digit, any other two
+pub decimal-short : (n : ℕ) → n < 10 → decimal n ≡ (48 + n) ∷ []
+unfolding decimal figures
+decimal-short n h = if-pos (decLt n 10) h _ _
+
+pub decimal-long : (n : ℕ) → 10 ≤ n → decimal n ≡ (48 + n / 10) ∷ (48 + n % 10) ∷ []
+unfolding decimal figures
+decimal-long n h = if-neg (decLt n 10) (λ l. omega arith) _ _
+
+pub length-short : (n : ℕ) → n < 10 → length (decimal n) ≡ 1
+length-short n h = ap length (decimal-short n h)
+
+pub length-long : (n : ℕ) → 10 ≤ n → length (decimal n) ≡ 2
+length-long n h = ap length (decimal-long n h)
+
 pub decimal-counts : (n : ℕ) → n ≤ 99 → IsCount (decimal n) n
 unfolding decimal
 decimal-counts n h = go (decLt n 10)

@@ -6,7 +6,8 @@ use lib.ListN.{length}
 use Rattle.texts.specs.document.Text.{Format}
 use Rattle.texts.specs.Damage.{Accept}
 use Rattle.texts.specs.Sound.{Reads, Sound}
-use Rattle.texts.specs.Spaced.{spaced, Marked, Tied, apart-parts, starts-parts, ends-parts, no-feed, some-part}
+use Rattle.texts.specs.document.Parts.{spaced}
+use Rattle.texts.specs.Spaced.{Marked, Tied, apart-parts, starts-parts, ends-parts, no-feed, some-part}
 
 -- how the line of a record is parts set apart by spaces, as many for each record
 pub record Parted {A F : Type 0} (format : Format A F) : Type 0 where

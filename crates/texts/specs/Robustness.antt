@@ -13,7 +13,7 @@ use Rattle.texts.specs.Damage.{Robust, Accept, Accepted}
 use Rattle.texts.specs.Sound.{Sound}
 use Rattle.texts.specs.Records.{records-before, refusals-before}
 use Rattle.texts.specs.Cuts.{not-free, Seek, nowhere, found, seek}
-use Rattle.texts.specs.Each.{each-join, each-right}
+use Rattle.laws.specs.Each.{each-join, each-right}
 use Rattle.texts.specs.Edits.{Edit, more, edit-back, Around, before, on, behind, around}
 use Rattle.texts.specs.Answered.{Look, good, bad, look, same-record}
 use Rattle.texts.specs.Texts.{cut-line, first, last, given, reads-back}

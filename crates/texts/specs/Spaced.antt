@@ -1,22 +1,18 @@
--- Lines of parts set apart by single spaces. In order: such a line; parts that are tied to each other; how often a number stands in a list, and a
--- line's spaces; then how two such lines can meet: `apart-parts`, `starts-parts`, `ends-parts`. Assumes nothing.
+-- Lines of parts set apart by single spaces. In order: parts that are tied to each other; a line's spaces; then how two such lines can meet: `apart-parts`, `starts-parts`, `ends-parts`. Assumes nothing.
 use mathlib.Core.Path.{_≡_, refl, sym, ap, ap₂, _∙_}
-use mathlib.Core.Logic.{ite, if-pos, if-neg}
+use mathlib.Core.Logic.{if-pos, if-neg}
 use mathlib.Core.List.{List, [], _∷_, _++_, append-assoc}
 use Prim.Native.Nat.{ℕ, suc, _+_, _≤_, _<_}
 use native.Mathlib.Decide.{ℕ-discrete}
 use native.Mathlib.Omega.{arith}
 use lib.ListN.{length, length-append}
 use Rattle.digit_code.specs.document.Code.{sum}
-use Rattle.texts.specs.document.Bytes.{Each, Other, Free}
+use Rattle.laws.specs.document.Each.{Each}
+use Rattle.texts.specs.document.Bytes.{Other, Free}
+use Rattle.texts.specs.document.Parts.{spaced, tally}
 use Rattle.texts.specs.Cuts.{Meet, same, further, meet, cut-once}
-use Rattle.texts.specs.Each.{each-follows, each-join}
+use Rattle.laws.specs.Each.{each-follows, each-join}
 use Rattle.texts.specs.Edits.{Edit, edit-shows, Around, before, on, behind, around}
-
--- the parts f ∷ r, a space between each two
-unfoldable pub spaced : List ℕ → List (List ℕ) → List ℕ
-spaced f [] = f
-spaced f (g ∷ r) = f ++ (32 ∷ spaced g r)
 
 -- each byte is above the space
 abbrev pub Marks : List ℕ → Type 0
@@ -37,12 +33,7 @@ Tied f [] g s = Alike f g
 Tied f (h ∷ r) g [] = ⊥
 Tied f (h ∷ r) g (k ∷ s) = (_≡_ {A = List (List ℕ)} (h ∷ r) (k ∷ s) → Alike f g) × (f ≡ g → Tied h r k s)
 
--- how often a stands in t
-unfoldable pub tally : ℕ → List ℕ → ℕ
-tally a [] = 0
-tally a (b ∷ t) = ite (ℕ-discrete b a) 1 0 + tally a t
-
-tally-join : (a : ℕ) (s t : List ℕ) → tally a (s ++ t) ≡ tally a s + tally a t
+pub tally-join : (a : ℕ) (s t : List ℕ) → tally a (s ++ t) ≡ tally a s + tally a t
 unfolding tally
 tally-join a [] t = omega arith
 tally-join a (b ∷ s) t = omega (arith, tally-join a s t)
@@ -57,7 +48,7 @@ one-space : (s t : List ℕ) → tally 32 (s ++ (32 ∷ t)) ≡ tally 32 s + suc
 unfolding tally
 one-space s t = omega (arith, tally-join 32 s (32 ∷ t), if-pos {C = ℕ} (ℕ-discrete 32 32) refl 1 0)
 
-no-space : (t : List ℕ) → Marks t → Free 32 t
+pub no-space : (t : List ℕ) → Marks t → Free 32 t
 no-space t m = each-follows {P = λ b. 32 < b} (λ a l e. omega arith) t m
 
 spaces : (f : List ℕ) (r : List (List ℕ)) → Marked (f ∷ r) → tally 32 (spaced f r) ≡ length r

@@ -1,10 +1,11 @@
-// Equal vertices: the class of each vertex of a centred code, one for two vertices where a renumbering of the skeleton onto itself carries one to
-// the other, numbered by first appearance. A vertex other than the root is told by its parent's class and its subtree code, the root by the two
-// halves of the code.
+// Equal vertices: the class of each vertex of a centred code of marks, one for two vertices where a renumbering of the skeleton onto itself that
+// keeps the atoms carries one to the other, numbered by first appearance. A vertex other than the root is told by its parent's class and its subtree
+// code, the root by the two halves of the code.
 use digit_code::Order;
 use digit_code::compare;
 use digit_code::ends_of;
 use digit_code::write_edges;
+use limits::ATOMS;
 use limits::ENDS;
 use limits::SIZE;
 ghost use mathlib.Core.Path.{_≡_};
@@ -13,16 +14,17 @@ ghost use lib.ListN.{length, take};
 ghost use Rattle.laws.specs.document.Laid.{Laid};
 ghost use Rattle.laws.specs.Tells.{Tells};
 ghost use Rattle.limits.specs.document.Limits.{size};
-ghost use Rattle.digit_code.specs.document.Code.{plain};
 ghost use Rattle.digit_code.specs.Ends.{Ends};
 ghost use Rattle.digit_code.specs.Parts.{Ending};
 ghost use Rattle.digit_code.specs.Search.{Known};
-ghost use Rattle.skeleton.specs.IsRooted.{IsRooted};
+ghost use Rattle.skeleton.specs.document.Label.{digits};
+ghost use Rattle.skeleton.specs.document.AtomMarks.{atoms};
+ghost use Rattle.skeleton.specs.Label.{IsRootedₗ};
 ghost use Rattle.orbits.specs.Found.{classOf};
-ghost use Rattle.orbits.specs.Parents.{subtree};
-ghost use Rattle.orbits.specs.Half.{rest};
-ghost use Rattle.orbits.specs.Classes.{Turns, Test, test?, classes};
-ghost use Rattle.vertices.specs.Search.{Above};
+ghost use Rattle.orbits.specs.Parents.{subtreeₗ};
+ghost use Rattle.orbits.specs.Half.{restₗ};
+ghost use Rattle.orbits.specs.Classes.{classesₗ};
+ghost use Rattle.vertices.specs.Search.{Above, Turns, Test, test?};
 
 // Whether two codes are equal.
 fn equal(a: &[u8], b: &[u8]) -> bool
@@ -35,19 +37,19 @@ fn equal(a: &[u8], b: &[u8]) -> bool
     }
 }
 
-// Whether the part of digit v, which ends before digit b, is what the code is without it: as long, the root's digit one less, and then digit by
-// digit. What stands before the part is held against the part's first digits, what stands behind it against its last.
+// Whether the part of mark v, which ends before mark b, is what the code is without it: as long, the root's mark with one child fewer, and then mark
+// by mark. What stands before the part is held against the part's first marks, what stands behind it against its last.
 fn halves(code: &[u8], v: usize, b: usize) -> bool
-    requires { ⌜ Ends 1 (now code) ⌝ }
+    requires { ⌜ Ends 1 (digits atoms (now code)) ⌝ }
     requires { ⌜ 1 ≤ v ⌝ }
-    requires { ⌜ Ending plain (now code) v b ⌝ }
-    ensures { λ r. ⌜ Tells (subtree (now (code .entry)) (suc v) ≡ rest (now (code .entry)) (suc v)) r ⌝ }
+    requires { ⌜ Ending (atoms .arity) (now code) v b ⌝ }
+    ensures { λ r. ⌜ Tells (subtreeₗ atoms (now (code .entry)) (suc v) ≡ restₗ atoms (now (code .entry)) (suc v)) r ⌝ }
 {
     let n = code.len();
     if b - v != n - (b - v) {
         return false;
     }
-    if code[v] != code[0] - 1 {
+    if code[v] != code[0] - ATOMS {
         return false;
     }
     let w = v + v;
@@ -57,9 +59,9 @@ fn halves(code: &[u8], v: usize, b: usize) -> bool
     false
 }
 
-// Whether the root is like the vertex of digit v: a child of its own, and the skeleton can be turned over there.
+// Whether the root is like the vertex of mark v: a child of its own, and the skeleton can be turned over there.
 fn turns(code: &[u8], ends: &[u8], edges: &[u8], v: usize) -> bool
-    requires { ⌜ Known plain (now code) (now ends) 0 ⌝ }
+    requires { ⌜ Known (atoms .arity) (now code) (now ends) 0 ⌝ }
     requires { ⌜ Above (now code) (now edges) ⌝ }
     requires { ⌜ (1 ≤ v) × (v < length (now code)) ⌝ }
     ensures { λ r. ⌜ Tells (Turns (now (code .entry)) (suc v)) r ⌝ }
@@ -70,10 +72,10 @@ fn turns(code: &[u8], ends: &[u8], edges: &[u8], v: usize) -> bool
     halves(code, v, ends[v] as usize)
 }
 
-// Whether the vertex of digit u, which is not the root, is like that of digit v behind it: their parents are of one class, and their subtree codes
+// Whether the vertex of mark u, which is not the root, is like that of mark v behind it: their parents are of one class, and their subtree codes
 // equal. Codes of different lengths are told apart unread.
 fn alike(code: &[u8], ends: &[u8], edges: &[u8], known: &[u8], u: usize, v: usize) -> bool
-    requires { ⌜ Known plain (now code) (now ends) 0 ⌝ }
+    requires { ⌜ Known (atoms .arity) (now code) (now ends) 0 ⌝ }
     requires { ⌜ Above (now code) (now edges) ⌝ }
     requires { ⌜ (1 ≤ u) × (u < v) × (v < length (now code)) ⌝ }
     requires { ⌜ v ≤ length (now known) ⌝ }
@@ -92,9 +94,9 @@ fn alike(code: &[u8], ends: &[u8], edges: &[u8], known: &[u8], u: usize, v: usiz
     equal(&code[u..a], &code[v..b])
 }
 
-// The class of the first vertex before that of digit v which is like it; `new` where there is none.
+// The class of the first vertex before that of mark v which is like it; `new` where there is none.
 fn class_of(code: &[u8], ends: &[u8], edges: &[u8], known: &[u8], v: usize, new: u8) -> u8
-    requires { ⌜ Known plain (now code) (now ends) 0 ⌝ }
+    requires { ⌜ Known (atoms .arity) (now code) (now ends) 0 ⌝ }
     requires { ⌜ Above (now code) (now edges) ⌝ }
     requires { ⌜ v < length (now code) ⌝ }
     requires { ⌜ v ≤ length (now known) ⌝ }
@@ -116,17 +118,18 @@ fn class_of(code: &[u8], ends: &[u8], edges: &[u8], known: &[u8], v: usize, new:
     new
 }
 
-// The class of each vertex of a rooted code, from the start of the output; how many there are.
-pub fn write_classes(code: &[u8], out: &mut [u8]) -> usize
-    requires { ⌜ IsRooted (now code) ⌝ }
+// The class of each vertex of a rooted code, from the start of the output; how many there are. `ds` are the digits of the marks `code`.
+pub fn write_classes(ds: &[u8], code: &[u8], out: &mut [u8]) -> usize
+    requires { ⌜ now ds ≡ digits atoms (now code) ⌝ }
+    requires { ⌜ IsRootedₗ atoms (now code) ⌝ }
     requires { ⌜ length (now code) ≤ size ⌝ }
     requires { ⌜ length (now code) ≤ length (now out) ⌝ }
-    ensures { λ r. ⌜ Laid (classes (now (code .entry))) (now (out .entry)) (now (out .exit)) r ⌝ }
+    ensures { λ r. ⌜ Laid (classesₗ atoms (now (ds .entry)) (now (code .entry))) (now (out .entry)) (now (out .exit)) r ⌝ }
 {
     let mut ends = [0u8; SIZE];
-    ends_of(code, &mut ends);
+    ends_of(ds, &mut ends);
     let mut edges = [0u8; ENDS];
-    write_edges(code, &mut edges);
+    write_edges(ds, &mut edges);
     let mut top = 0;
     let mut i = 0;
     while i < code.len() {

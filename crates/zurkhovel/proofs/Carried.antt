@@ -19,7 +19,7 @@ use Rattle.bits.specs.Reading.{one-reading}
 use Rattle.bits.specs.Decided.{Decided, gives, refuses, Decision}
 use Rattle.zurkhovel.specs.document.Bits.{Decodes}
 use Rattle.zurkhovel.specs.Rooting.{Readable, EdgesOf}
-use Rattle.zurkhovel.proofs.Behind.{behind}
+use Rattle.refusal.specs.Behind.{behind}
 use Rattle.digit_code.specs.Right.{clear-right}
 
 module _ {rs : List Row} {R : ℕ} {May : List Bool → Type 0} {bs : List Bool} {out : List ℕ} where

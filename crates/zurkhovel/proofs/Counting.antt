@@ -6,7 +6,7 @@ use native.Mathlib.Numerals.{add-one}
 use native.Mathlib.Omega.{arith}
 use lib.ListN.{length, getD, take}
 use lib.Seq.{take-suc, take-all}
-use Rattle.zurkhovel.specs.document.Lines.{zeros, Counted}
+use Rattle.texts.specs.document.Demand.{zeros, Counted}
 
 zeros-append : (x y : List ℕ) → zeros (x ++ y) ≡ zeros x + zeros y
 unfolding zeros

@@ -10,7 +10,6 @@ use Rattle.refusal.specs.Laws.{clear-left, others}
 use Rattle.refusal.specs.Giving.{refused-short, given, written, written-length}
 use Rattle.limits.specs.document.Limits.{size}
 use Rattle.digit_code.specs.document.Code.{codeRows}
-use Rattle.digit_code.specs.document.Code.{codeRows}
 use Rattle.digit_code.specs.Right.{RightCode, clear-right}
 use Rattle.skeleton.specs.document.Skeleton.{IsSkeleton}
 use Rattle.form.specs.document.Form.{centred, ofCentred}
@@ -20,9 +19,9 @@ use Rattle.lines.specs.Lawful.{Code, lawful}
 use Rattle.zurkhovel.specs.Accepted.{skeleton-of}
 use Rattle.zurkhovel.specs.document.InEdition.{edgeTable}
 
--- what was written is the centred code
-pub code-centred : {N : ℕ} {E old digits : List ℕ} → Writes (centred N E) old N digits → centred N E (take N digits)
-code-centred {N} {E} w = subst (centred N E) (sym (written w)) (w .right)
+-- the code that was written is the one that was to be
+pub code-right : {Right : List ℕ → Type 0} {n : ℕ} {old new : List ℕ} → Writes Right old n new → Right (take n new)
+code-right {Right} w = subst Right (sym (written w)) (w .right)
 
 -- the code that was written, where it is read again
 module _ {R N : ℕ} {E old digits : List ℕ} (s : IsSkeleton size R N E) (w : Writes (centred N E) old N digits) where
@@ -56,13 +55,11 @@ module _ {e : ℕ} (N : ℕ) (E : List ℕ) (clear : Clear (edgeTable e size N E
         let (l, o) = some c x in refused-short clear all-sized (c, x, o) h e
 
     pub of-given :
-        {l old new digits before : List ℕ} {m : ℕ} → n ≤ length old → Writes (centred N E) before N digits → Of (take N digits) l → Laid l old new m
-        → Gives (edgeTable e size N E 1) (Made N E Of) old new (gives m)
-    of-given {l} {old} {new} {digits} {m = m} h w o k =
-        let q : m ≡ n = k .count ∙ sized (take N digits) l (sym (written-length w)) o in
+        {l old new : List ℕ} {m : ℕ} → n ≤ length old → Made N E Of l → Laid l old new m → Gives (edgeTable e size N E 1) (Made N E Of) old new (gives m)
+    of-given {l} {old} {new} {m} h o k =
+        let q : m ≡ n = k .count ∙ all-sized l o in
         subst (λ (i : ℕ). Gives (edgeTable e size N E 1) (Made N E Of) old new (gives i)) (sym q)
-        (given clear all-sized h
-        (record { result = l; right = (take N digits, code-centred w, o); count = sym q ∙ k .count; lies = k .lies }))
+        (given clear all-sized h (record { result = l; right = o; count = sym q ∙ k .count; lies = k .lies }))
 
   -- the same of what f makes of the code
   module _ (f : List ℕ → List ℕ) (n : ℕ) (sized : (c : List ℕ) → length c ≡ N → length (f c) ≡ n) where
@@ -78,4 +75,4 @@ module _ {e : ℕ} (N : ℕ) (E : List ℕ) (clear : Clear (edgeTable e size N E
     pub derived-given :
         {old new digits before : List ℕ} {m : ℕ} → n ≤ length old → Writes (centred N E) before N digits → Laid (f (take N digits)) old new m
         → Gives (edgeTable e size N E 1) (ofCentred N E f) old new (gives m)
-    derived-given h w = of-given (λ c l. l ≡ f c) n made-sized h w refl
+    derived-given h w = of-given (λ c l. l ≡ f c) n made-sized h (_, code-right w, refl)

@@ -1,5 +1,4 @@
 -- Laws that more than one proof of a public call cites. Assumes nothing.
-pub mod Behind
 pub mod Decoded
 pub mod Coded
 pub mod Derived

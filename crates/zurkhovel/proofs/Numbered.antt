@@ -19,7 +19,7 @@ use Rattle.adjacency.specs.Coded.{cam-length}
 use Rattle.adjacency.specs.Renumber.{renumbered-skeleton, renumbered-physical, renumbered-cam, renumbered-a-zero}
 use Rattle.zurkhovel.specs.document.Matrix.{NumberedByCode, ByCode}
 use Rattle.zurkhovel.specs.RoundMatrix.{by-code-skeleton, by-code-physical, by-code-length}
-use Rattle.zurkhovel.specs.document.Reported.{Reporting}
+use Rattle.refusal.specs.document.Reported.{Reporting}
 use Rattle.zurkhovel.specs.Rooting.{ListedByCode}
 use Rattle.zurkhovel.specs.Accepted.{skeleton-of, table-of}
 use Rattle.limits.specs.Width.{width}

@@ -21,11 +21,12 @@ use Rattle.skeleton.specs.Theorems.{right, degrees}
 use Rattle.skeleton.specs.Accepted.{digits-pass}
 use Rattle.bits.specs.Written.{Coded, packed-again, right-coded}
 use Rattle.bits.specs.document.Written.{Packs}
-use Rattle.zurkhovel.specs.document.Reported.{Reports, Reporting, atRoot}
-use Rattle.zurkhovel.specs.declared.reported.Reported.{Reported}
+use Rattle.refusal.specs.document.Reported.{Reports, Reporting}
+use Rattle.zurkhovel.specs.document.Reported.{atRoot}
+use Rattle.refusal.specs.declared.Reported.{Reported}
 use Rattle.zurkhovel.specs.Rooting.{Rooted}
 use Rattle.zurkhovel.specs.Accepted.{skeleton-of, root-of, rooted-size}
-use Rattle.zurkhovel.proofs.Behind.{behind}
+use Rattle.refusal.specs.Behind.{behind}
 use Rattle.edition.specs.document.Edition.{neighboursIn}
 use Rattle.zurkhovel.specs.document.InEdition.{edgeTable}
 

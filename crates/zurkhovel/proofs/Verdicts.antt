@@ -7,10 +7,11 @@ use lib.ListN.{take}
 use Rattle.refusal.specs.Giving.{written}
 use Rattle.refusal.specs.document.Table.{Clear, FirstRefusal, gives, kept, Writes}
 use Rattle.form.specs.document.Form.{centred}
-use Rattle.form.specs.Forms.{centred-form, form-size}
+use Rattle.form.specs.Forms.{centred-form}
 use Rattle.zurkhovel.specs.document.Same.{listRows, SameSkeleton}
 use Rattle.zurkhovel.specs.Accepted.{tree-of}
-use Rattle.zurkhovel.specs.Theorems.{both-clear}
+use Rattle.zurkhovel.specs.Theorems.{both-clear, sizes-apart}
+use Rattle.zurkhovel.specs.Handing.{judged-same, judged-other}
 use Rattle.limits.specs.document.Limits.{size}
 use Rattle.edition.specs.document.Edition.{neighboursIn}
 use Rattle.edition.specs.Laws.{clear-in}
@@ -27,17 +28,15 @@ module _ (e : ℕ) {r : ℕ} (is : r ≡ neighboursIn e) (N : ℕ) (E : List ℕ
 
 -- of different sizes
 pub verdict-sizes : {e N P : ℕ} {E F : List ℕ} → Clear (edgeTable e size N E 1) → Clear (edgeTable e size P F 1) → (N ≡ P → ⊥) → SameSkeleton e N E P F (gives false)
-verdict-sizes {N = N} {P} {E} {F} k l n =
-    kept {a = false} (both-clear N P E F .1 (k, l))
-    (λ c x y. n (sym (form-size centred centred-form N E c (tree-of N E 1 k) x) ∙ form-size centred centred-form P F c (tree-of P F 1 l) y))
+verdict-sizes {N = N} {P} {E} {F} k l n = kept {a = false} (both-clear N P E F .1 (k, l)) (sizes-apart k l n)
 
 -- by their codes
 module _ {e N P : ℕ} {E F : List ℕ} (k : Clear (edgeTable e size N E 1)) (l : Clear (edgeTable e size P F 1)) {old a rest b : List ℕ}
     (v : Writes (centred N E) old N a) (w : Writes (centred P F) rest P b) where
   pub verdict-same : take N a ≡ take P b → SameSkeleton e N E P F (gives true)
-  verdict-same q = kept {a = true} (both-clear N P E F .1 (k, l)) (v .result, v .right, subst (centred P F) (sym (written w) ∙ sym q ∙ written v) (w .right))
+  verdict-same q = judged-same (both-clear N P E F .1 (k, l)) (v .right) (w .right) (sym (written v) ∙ q ∙ written w)
 
   pub verdict-different : (take N a ≡ take P b → ⊥) → SameSkeleton e N E P F (gives false)
   verdict-different n =
-      kept {a = false} (both-clear N P E F .1 (k, l))
-      (λ c x y. n (written v ∙ centred-form .one (tree-of N E 1 k) (v .right) x ∙ centred-form .one (tree-of P F 1 l) y (w .right) ∙ sym (written w)))
+      judged-other (both-clear N P E F .1 (k, l)) (v .right) (w .right) (λ c d. centred-form .one (tree-of N E 1 k)) (λ c d. centred-form .one (tree-of P F 1 l))
+      (λ q. n (written v ∙ q ∙ sym (written w)))

@@ -13,9 +13,9 @@ use native.Mathlib.Omega.{arith}
 use lib.Ieee.{Float}
 use lib.ListN.{length, take, length-append, length-take}
 use Rattle.refusal.specs.document.Table.{Row, Clear, row3}
-use Rattle.refusal.specs.document.Small.{byteValues}
+use Rattle.refusal.specs.document.Small.{byteValues, Bounded}
 use Rattle.refusal.specs.Laws.{never, others, at-most}
-use Rattle.refusal.specs.Bounded.{Bounded, bounded-rows, bounded-both, at-0}
+use Rattle.refusal.specs.Bounded.{bounded-rows, bounded-both, at-0}
 use Rattle.limits.specs.document.Limits.{size, packedBytes, wholeSize, zeroSize, aSize}
 use Rattle.digit_code.specs.document.Code.{plain, digitRows, codeRows}
 use Rattle.digit_code.specs.Within.{larger-within}
@@ -24,7 +24,7 @@ use Rattle.form.specs.document.Form.{row14-form, formRows}
 use Rattle.bits.specs.document.Bits.{digitsFrom, cutFrom, wholeDigits, word, bytes, fractionBits, bitRows, row4-whole, Fill, Nothing, Zeros, packedRows, wholeRows}
 use Rattle.bits.specs.Words.{length-word, length-bytes}
 use Rattle.fraction.specs.document.Fraction.{row4-fraction, first53, rest53, bitsOf, fractionRows}
-use Rattle.adjacency.specs.document.Adjacency.{row14-physical, camEdges, factorial, zeroCam, aEdges, row4-number, row5-cam, row6-cam, madeRows, camRows, zeroRows, aRows}
+use Rattle.adjacency.specs.document.Adjacency.{camEdges, factorial, zeroCam, aEdges, row4-number, row5-cam, row6-cam, madeRows, camRows, zeroRows, aRows}
 use Rattle.adjacency.specs.Made.{made-length, long}
 use Rattle.adjacency.specs.Zero.{zero-length}
 use Rattle.adjacency.specs.Accepted.{aFront, a-long}
@@ -36,7 +36,7 @@ use Rattle.lines.specs.document.Reading.{linesOf, digitsLent}
 use Rattle.lines.specs.Form.{frontRows}
 use Rattle.edition.specs.document.Edition.{neighboursIn, row22}
 use Rattle.zurkhovel.specs.document.Same.{listRows}
-use Rattle.zurkhovel.specs.document.InEdition.{codeTable, formTable, edgeTable, physicalTable, packedTable, wholeTable, fractionTable, camTable, zeroTable, aTable}
+use Rattle.zurkhovel.specs.document.InEdition.{codeTable, formTable, edgeTable, packedTable, wholeTable, fractionTable, camTable, zeroTable, aTable}
 
 -- ---- edge lists
 
@@ -199,11 +199,6 @@ module _ (e : ℕ) where
   -- behind 22, where no root is named
   pub lists-bounded : (N : ℕ) (E : List ℕ) → Bounded (listRows e N E)
   lists-bounded N E = edges-small (omega arith) (neighboursIn e) N E 1
-
-  pub physical-bounded : {most : ℕ} → most ≤ size → (N : ℕ) (E : List ℕ) → Bounded (physicalTable e most N E)
-  physical-bounded {most} h N E =
-      bounded-both (edgeTable e most N E 1) (row14-physical N E ∷ []) (edges-bounded h N E 1)
-      (λ k. bounded-rows refl ((λ p a. omega (arith, a .1, at-most (others k))), tt))
 
   pub packed-bounded : (s : List ℕ) → Bounded (packedTable e s)
   packed-bounded s = behind-22 (packed-small (neighboursIn e) s)

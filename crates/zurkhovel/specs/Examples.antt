@@ -4,8 +4,8 @@ use mathlib.Core.List.{List, [], _∷_, _++_}
 use Prim.Native.Nat.{ℕ}
 use native.Mathlib.Decide.{ℕ-discrete}
 use lib.ListN.{replicate}
-use Rattle.zurkhovel.specs.document.Lines.{zeros, Counted}
-use Rattle.zurkhovel.specs.document.Demand.{handedOut, linesIn}
+use Rattle.texts.specs.document.Demand.{zeros, Counted, handedOut, linesIn}
+use Rattle.zurkhovel.specs.document.Demand.{plainKind}
 
 -- `8 32100100`, `6 220010`, `6 311000`, `6 2200,10`, `3 20`, each with its line feed, and then `1 0` without one
 abbrev listed : List ℕ
@@ -31,7 +31,7 @@ places = 8 ∷ 6 ∷ 0 ∷ 0 ∷ 0 ∷ 0 ∷ []
 abbrev bytes : List ℕ
 bytes = (3 ∷ 2 ∷ 1 ∷ 0 ∷ 0 ∷ 1 ∷ 0 ∷ 0 ∷ replicate 56 7) ++ (2 ∷ 2 ∷ 0 ∷ 0 ∷ 1 ∷ 0 ∷ replicate 314 7)
 
-two-records : handedOut numbers places bytes ≡ (3 ∷ 2 ∷ 1 ∷ 0 ∷ 0 ∷ 1 ∷ 0 ∷ 0 ∷ []) ∷ (2 ∷ 2 ∷ 0 ∷ 0 ∷ 1 ∷ 0 ∷ []) ∷ []
+two-records : handedOut (plainKind 1) numbers places (bytes ∷ []) ≡ (3 ∷ 2 ∷ 1 ∷ 0 ∷ 0 ∷ 1 ∷ 0 ∷ 0 ∷ []) ∷ (2 ∷ 2 ∷ 0 ∷ 0 ∷ 1 ∷ 0 ∷ []) ∷ []
 unfolding handedOut
 two-records = refl
 

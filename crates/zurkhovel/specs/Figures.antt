@@ -28,7 +28,7 @@ use Rattle.adjacency.specs.document.Adjacency as A
 use Rattle.adjacency.specs.Entries.{none, more, cam-physical}
 use Rattle.orbits.specs.document.Carried.{ClassesOf}
 use Rattle.orbits.specs.Found.{greatest, classOf, same?}
-use Rattle.orbits.specs.Classes.{test?, told, classes}
+use Rattle.orbits.specs.Classes.{testₗ, toldₗ, classesₗ, classes}
 use Rattle.orbits.specs.Theorems.{classes-of}
 use Rattle.zurkhovel.specs.document.Matrix.{ByCode}
 use Rattle.zurkhovel.specs.document.Figures.{Figure, Classed, Numbered}
@@ -74,7 +74,7 @@ pub table :
     -- 001's line: 3-methylhexane in 001's numbering
     × Numbered 7 (1 ∷ 2 ∷ 2 ∷ 3 ∷ 2 ∷ 4 ∷ 3 ∷ 5 ∷ 1 ∷ 6 ∷ 6 ∷ 7 ∷ []) (3 ∷ 1 ∷ 1 ∷ 0 ∷ 1 ∷ 0 ∷ 0 ∷ []) (3 ∷ 1 ∷ 1 ∷ 0 ∷ 1 ∷ 0 ∷ 0 ∷ []) 7496
     (1 ∷ 2 ∷ 2 ∷ 3 ∷ 1 ∷ 6 ∷ []) 545 1646688 (1 ∷ 2 ∷ 3 ∷ 1 ∷ 5 ∷ 1 ∷ []) 624
-unfolding classes told test? classOf greatest same? parent codes rooted codeAt join children neighbours degree arcs sort insert dec≽ flatten ℕ-discrete decLt Dec·and Dec·not decIn seek sift decTwo peel left larger upTo middle₁ middle₂ largest some-n-tuple word bit bits decode edgesFrom sum mixed A.from A.lower A.entry A.cam A.entryEdges A.zeroA A.columnSum A.powers A.aZero
+unfolding classesₗ toldₗ testₗ classOf greatest same? parent codes rooted codeAt join children neighbours degree arcs sort insert dec≽ flatten ℕ-discrete decLt Dec·and Dec·not decIn seek sift decTwo peel left larger upTo middle₁ middle₂ largest some-n-tuple word bit bits decode edgesFrom sum mixed A.from A.lower A.entry A.cam A.entryEdges A.zeroA A.columnSum A.powers A.aZero
 table = (
   row (computed size valence 0 refl (omega arith) (omega arith) refl refl) refl (omega arith),
   row (computed size valence 0 refl (omega arith) (omega arith) refl refl) refl (omega arith),

@@ -8,9 +8,11 @@ pub mod PlacesMatrix
 pub mod PlacesText
 pub mod PlacesMaps
 pub mod Accepted
+pub mod Tabled
 pub mod Theorems
-pub mod Both
 pub mod Threes
+pub mod Handing
+pub mod Means
 pub mod Meaning
 pub mod One
 pub mod OneMatrix
@@ -21,7 +23,6 @@ pub mod OneMaps
 pub mod OneReported
 pub mod Looked
 pub mod Figures
-pub mod Seen
 pub mod Demanded
 pub mod DigitsOnly
 pub mod Examples

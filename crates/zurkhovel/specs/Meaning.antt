@@ -1,30 +1,31 @@
 -- What "same" means, stated of the promises of the public calls: what each answer says of two edge lists without codes. The other half, "not the same", stands
--- beside each.
+-- beside each. That it follows, for any tables and codes, is in `Means`.
 --
 -- In order: the centred codes and the N-tuple codes that the calls give; the verdict; the renumbering that is handed out; the one that is judged; the two
 -- together. Assumes nothing.
-use mathlib.Core.Path.{_≡_, refl, sym, subst, _∙_}
-use mathlib.Core.Logic.{inl, inr, _↔_}
+use mathlib.Core.Path.{_≡_}
+use mathlib.Core.Logic.{_↔_, Iff·trans}
 use mathlib.Core.Bool.{true, false}
 use mathlib.Core.List.{List, [], _∷_}
 use Prim.Native.Nat.{ℕ, _≤_}
 use native.Mathlib.Omega.{arith}
-use lib.ListN.{length, take}
-use Rattle.refusal.specs.document.Table.{Clear, gives, kept, short}
-use Rattle.refusal.specs.Giving.{gave, written}
-use Rattle.refusal.specs.Laws.{one-result}
+use lib.ListN.{take}
+use Rattle.refusal.specs.document.Table.{Clear, gives}
+use Rattle.refusal.specs.Giving.{gave}
+use Rattle.refusal.specs.Laws.{clear-both, clear-left, others, at-least}
+use Rattle.limits.specs.document.Limits.{size}
+use Rattle.edition.specs.document.Edition.{row22}
 use Rattle.form.specs.document.Form.{nTuple, centred}
 use Rattle.form.specs.Forms.{IsForm, n-tuple-form, centred-form, form-verdict}
 use Rattle.renumber.specs.document.Map.{mapRows, Renumbers, HandedOut}
 use Rattle.renumber.specs.Theorems.{map-exactly}
-use Rattle.zurkhovel.specs.document.Codes.{FormCode}
-use Rattle.zurkhovel.specs.document.Same.{SameSkeleton, EqualCodes, SameUnder}
-use Rattle.zurkhovel.specs.document.Maps.{MapOutcome, HandsMap, HandOut, CheckRenumbering}
-use Rattle.zurkhovel.specs.Accepted.{tree-of}
-use Rattle.zurkhovel.specs.Theorems.{both-clear, same-exactly}
-use Rattle.zurkhovel.specs.Threes.{three-clear, handed-lists, handed-codes, handed-length}
-use Rattle.limits.specs.document.Limits.{size}
 use Rattle.zurkhovel.specs.document.InEdition.{edgeTable}
+use Rattle.zurkhovel.specs.document.Codes.{FormCode}
+use Rattle.zurkhovel.specs.document.Same.{listRows, SameSkeleton, SameUnder}
+use Rattle.zurkhovel.specs.document.Maps.{MapOutcome, HandOut, CheckRenumbering}
+use Rattle.zurkhovel.specs.Accepted.{tree-of}
+use Rattle.zurkhovel.specs.Threes.{handed-length}
+use Rattle.zurkhovel.specs.Means.{Means, same-means, not-same-means, map-means, none-means, some-means, handed-means}
 
 module _ (e : ℕ) where
   -- ---- the codes
@@ -52,82 +53,55 @@ module _ (e : ℕ) where
 
   -- ---- the verdict
 
-  -- "The same" is said of two accepted lists exactly when they are.
-  pub same-said : (N P : ℕ) (E F : List ℕ) → SameSkeleton e N E P F (gives true) ↔ (Clear (edgeTable e size N E 1) × Clear (edgeTable e size P F 1) × SameUnder N E P F)
-  same-said N P E F = (
-    (λ x. let (k, l, n, r) = same-exactly N P E F .0 x in (k, l, (n, r))),
-    (λ (k, l, s). same-exactly N P E F .1 (k, l, s .0, s .1)),
-  )
+  module _ (N P : ℕ) (E F : List ℕ) where
+    means : Means (row22 e ∷ []) (listRows e N E) (listRows e P F) (centred N E) (centred P F) (SameUnder N E P F)
+    means = record {
+      some = λ z k. centred-form .some N E (tree-of {e = e} N E 1 (clear-both z k));
+      other = λ z l. centred-form .some P F (tree-of {e = e} P F 1 (clear-both z l));
+      same = λ z k l c d x y. form-verdict centred centred-form N P E F c d (tree-of {e = e} N E 1 (clear-both z k)) (tree-of {e = e} P F 1 (clear-both z l)) x y;
+    }
 
-  -- centred codes differ exactly where the lists are not the same
-  other-codes : (N P : ℕ) (E F : List ℕ) → Clear (edgeTable e size N E 1) → Clear (edgeTable e size P F 1) → EqualCodes N E P F false ↔ (SameUnder N E P F → ⊥)
-  other-codes N P E F k l =
-      let t = tree-of N E 1 k in
-      let u = tree-of P F 1 l in
-      let (c, x) = centred-form .some N E t in
-      let (d, y) = centred-form .some P F u in (
-        (λ n s. n c x (subst (centred P F) (sym (form-verdict centred centred-form N P E F c d t u x y .1 s)) y)),
-        (λ n e v w. n (form-verdict centred centred-form N P E F e e t u v w .0 refl)),
-      )
+    -- 22 is before the table of each list
+    accepted : {X : Type 0} → (Clear (row22 e ∷ []) × Clear (listRows e N E) × Clear (listRows e P F) × X) ↔ (Clear (edgeTable e size N E 1) × Clear (edgeTable e size P F 1) × X)
+    accepted = ((λ (z, k, l, x). (clear-both z k, clear-both z l, x)), (λ (k, l, x). (clear-left (row22 e ∷ []) (listRows e N E) k, others k, others l, x)))
 
-  -- "Not the same" is said of two accepted lists exactly when they are not.
-  pub not-same-said : (N P : ℕ) (E F : List ℕ) → SameSkeleton e N E P F (gives false) ↔ (Clear (edgeTable e size N E 1) × Clear (edgeTable e size P F 1) × (SameUnder N E P F → ⊥))
-  not-same-said N P E F = (forth, back)
-    where
-      forth : SameSkeleton e N E P F (gives false) → Clear (edgeTable e size N E 1) × Clear (edgeTable e size P F 1) × (SameUnder N E P F → ⊥)
-      forth (kept c x) = let (k, l) = both-clear N P E F .0 c in (k, l, other-codes N P E F k l .0 x)
+    -- "The same" is said of two accepted lists exactly when they are.
+    pub same-said : SameSkeleton e N E P F (gives true) ↔ (Clear (edgeTable e size N E 1) × Clear (edgeTable e size P F 1) × SameUnder N E P F)
+    same-said = Iff·trans (same-means means) accepted
 
-      back : Clear (edgeTable e size N E 1) × Clear (edgeTable e size P F 1) × (SameUnder N E P F → ⊥) → SameSkeleton e N E P F (gives false)
-      back (k, l, n) = kept {a = false} (both-clear N P E F .1 (k, l)) (other-codes N P E F k l .1 n)
+    -- "Not the same" is said of two accepted lists exactly when they are not.
+    pub not-same-said : SameSkeleton e N E P F (gives false) ↔ (Clear (edgeTable e size N E 1) × Clear (edgeTable e size P F 1) × (SameUnder N E P F → ⊥))
+    not-same-said = Iff·trans (not-same-means means) accepted
 
-  -- ---- a renumbering handed out, and one judged
+    -- ---- a renumbering handed out, and one judged
 
-  -- A map is accepted exactly when both lists are, they have equally many vertices, and it is a renumbering of the first onto the second, entry by entry.
-  pub accepted-exactly :
-      (N P : ℕ) (E F w : List ℕ) → CheckRenumbering e N E P F w (gives 0) ↔ (Clear (edgeTable e size N E 1) × Clear (edgeTable e size P F 1) × Renumbers N E P F w)
-  accepted-exactly N P E F w = (forth, back)
-    where
-      forth : CheckRenumbering e N E P F w (gives 0) → Clear (edgeTable e size N E 1) × Clear (edgeTable e size P F 1) × Renumbers N E P F w
-      forth (kept c e) =
-          let (k, l, m) = three-clear N P E F (mapRows N E P F w) .0 c in
-          (k, l, map-exactly N P E F w (tree-of N E 1 k) (tree-of P F 1 l) .0 m)
+    exact : (w : List ℕ) → Clear (row22 e ∷ []) → Clear (listRows e N E) → Clear (listRows e P F) → Clear (mapRows N E P F w) ↔ Renumbers N E P F w
+    exact w z k l = map-exactly N P E F w (tree-of {e = e} N E 1 (clear-both z k)) (tree-of {e = e} P F 1 (clear-both z l))
 
-      back : Clear (edgeTable e size N E 1) × Clear (edgeTable e size P F 1) × Renumbers N E P F w → CheckRenumbering e N E P F w (gives 0)
-      back (k, l, r) = kept {a = 0} (three-clear N P E F (mapRows N E P F w) .1 (k, l, map-exactly N P E F w (tree-of N E 1 k) (tree-of P F 1 l) .1 r)) refl
+    -- A map is accepted exactly when both lists are, they have equally many vertices, and it is a renumbering of the first onto the second, entry by entry.
+    pub accepted-exactly :
+        (w : List ℕ) → CheckRenumbering e N E P F w (gives 0) ↔ (Clear (edgeTable e size N E 1) × Clear (edgeTable e size P F 1) × Renumbers N E P F w)
+    accepted-exactly w = Iff·trans (map-means (exact w)) accepted
 
-  -- Where a map is accepted, the verdict is yes.
-  pub accepted-same : (N P : ℕ) (E F w : List ℕ) → CheckRenumbering e N E P F w (gives 0) → SameSkeleton e N E P F (gives true)
-  accepted-same N P E F w x = let (k, l, (s, n, ρ, t)) = accepted-exactly N P E F w .0 x in same-said N P E F .1 (k, l, (s, ρ))
+    -- Where a map is accepted, the verdict is yes.
+    pub accepted-same : (w : List ℕ) → CheckRenumbering e N E P F w (gives 0) → SameSkeleton e N E P F (gives true)
+    accepted-same w x = let (k, l, (s, n, ρ, t)) = accepted-exactly w .0 x in same-said .1 (k, l, (s, ρ))
 
-  module _ (N P : ℕ) (E F old new : List ℕ) where
-    -- Nothing is written exactly where the lists are not the same.
-    pub handed-none : (n : ℕ) → HandOut e N E P F old new (gives n) → (n ≡ 0) ↔ (SameUnder N E P F → ⊥)
-    handed-none n (kept c h) = by-cases h
-      where
-        lists : Clear (edgeTable e size N E 1) × Clear (edgeTable e size P F 1)
-        lists = handed-lists (kept {a = n} c h)
+    right : (w : List ℕ) → HandedOut N E P F w → Renumbers N E P F w
+    right w x = x .renumbers
 
-        by-cases : HandsMap N E P F old n new → (n ≡ 0) ↔ (SameUnder N E P F → ⊥)
-        by-cases (inl w) =
-            let (k, l) = lists in
-            let (d, x, y) = handed-codes k l (w .right) in
-            let s : SameUnder N E P F = form-verdict centred centred-form N P E F d d (tree-of N E 1 k) (tree-of P F 1 l) x y .0 refl in (
-              (λ e. absurd (let z : ⊥ = omega (arith, w .count, handed-length N P E F (w .result) (w .right), tree-of N E 1 k .edges) in z)),
-              (λ q. absurd (q s)),
-            )
-        by-cases (inr (e, f, x)) = let (k, l) = lists in ((λ z. other-codes N P E F k l .0 x), (λ z. e))
+    shows : (w : List ℕ) → Renumbers N E P F w → SameUnder N E P F
+    shows w (s, n, ρ, t) = (s, ρ)
 
-    -- What is written is a renumbering of the first onto the second exactly where they are.
-    pub handed-some : (n : ℕ) → HandOut e N E P F old new (gives n) → SameUnder N E P F ↔ Renumbers N E P F (take n new)
-    handed-some n (kept c h) = (there h, λ (e, l, ρ, f). (e, ρ))
-      where
-        there : HandsMap N E P F old n new → SameUnder N E P F → Renumbers N E P F (take n new)
-        there (inl w) s = rw (written w) (w .right .renumbers)
-        there (inr (e, f, x)) s = let (k, l) = handed-lists (kept {a = n} c h) in absurd (other-codes N P E F k l .0 x s)
+    module _ (old new : List ℕ) (n : ℕ) where
+      -- Nothing is written exactly where the lists are not the same.
+      pub handed-none : HandOut e N E P F old new (gives n) → (n ≡ 0) ↔ (SameUnder N E P F → ⊥)
+      handed-none = none-means means right shows old new (λ w k x. omega (arith, handed-length N P E F w x, at-least k)) n
 
-    -- Together: a map that is handed out is accepted.
-    pub handed-accepted : (n : ℕ) → 1 ≤ n → HandOut e N E P F old new (gives n) → (o : MapOutcome) → CheckRenumbering e N E P F (take n new) o → o ≡ gives 0
-    handed-accepted n h (kept c (inl w)) o g =
-        let (k, l, m) = three-clear N P E F (short (HandedOut N E P F) (length old) ∷ []) .0 c in
-        one-result (λ a b e f. (e ∙ sym f, refl)) g (accepted-exactly N P E F (take n new) .1 (k, l, rw (written w) (w .right .renumbers))) .0
-    handed-accepted n h (kept c (inr (e, f, x))) o g = absurd (let z : ⊥ = omega arith in z)
+      -- What is written is a renumbering of the first onto the second exactly where they are.
+      pub handed-some : HandOut e N E P F old new (gives n) → SameUnder N E P F ↔ Renumbers N E P F (take n new)
+      handed-some = some-means means right shows old new n
+
+      -- Together: a map that is handed out is accepted.
+      pub handed-accepted : 1 ≤ n → HandOut e N E P F old new (gives n) → (o : MapOutcome) → CheckRenumbering e N E P F (take n new) o → o ≡ gives 0
+      handed-accepted = handed-means means right shows old new (mapRows N E P F) exact n

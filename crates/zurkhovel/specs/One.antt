@@ -17,23 +17,23 @@ use Rattle.form.specs.Forms.{IsForm, n-tuple-form, centred-form}
 use Rattle.zurkhovel.specs.document.Codes.{CheckCode, DecodeCode, DecodeForm, CheckEdges, RootedCode, FormCode}
 use Rattle.zurkhovel.specs.declared.codes.Verdict.{Verdict}
 use Rattle.zurkhovel.specs.declared.codes.Verdict.the-variants.{Same, Different, Refused}
-use Rattle.zurkhovel.specs.document.Same.{said, EqualCodes, SameSkeleton}
+use Rattle.zurkhovel.specs.document.Same.{said, OneCode, SameSkeleton}
 use Rattle.zurkhovel.specs.Accepted.{tree-of}
 
 -- two results that are the same thing are one
-equal : (x c d : List ℕ) → c ≡ x → d ≡ x → c ≡ d
+pub equal : (x c d : List ℕ) → c ≡ x → d ≡ x → c ≡ d
 equal x c d p q = p ∙ sym q
 
 -- a call that only checks
-one-check : {rs : List Row} (r s : Answer) → Answered rs (λ n. n ≡ 0) (told r) → Answered rs (λ n. n ≡ 0) (told s) → r ≡ s
+pub one-check : {rs : List Row} (r s : Answer) → Answered rs (λ n. n ≡ 0) (told r) → Answered rs (λ n. n ≡ 0) (told s) → r ≡ s
 one-check r s a b = told-apart r s (one-result (λ n m p q. (p ∙ sym q, refl)) a b .0)
 
 -- codes are equal or not
-one-found : (N : ℕ) (E : List ℕ) (P : ℕ) (F : List ℕ) (a b : Bool) → EqualCodes N E P F a → EqualCodes N E P F b → a ≡ b
-one-found N E P F true true x y = refl
-one-found N E P F true false x y = absurd (y (x .0) (x .1) (x .2))
-one-found N E P F false true x y = absurd (x (y .0) (y .1) (y .2))
-one-found N E P F false false x y = refl
+pub one-found : (C D : List ℕ → Type 0) (a b : Bool) → OneCode C D a → OneCode C D b → a ≡ b
+one-found C D true true x y = refl
+one-found C D true false x y = absurd (y (x .0) (x .1) (x .2))
+one-found C D false true x y = absurd (x (y .0) (y .1) (y .2))
+one-found C D false false x y = refl
 
 -- two verdicts of which the same is said are one
 pub said-apart : (r s : Verdict) → said r ≡ said s → r ≡ s
@@ -103,4 +103,4 @@ module _ (e : ℕ) where
 
   pub one-same-skeleton :
       (N : ℕ) (E : List ℕ) (P : ℕ) (F : List ℕ) (r s : Verdict) → SameSkeleton e N E P F (said r) → SameSkeleton e N E P F (said s) → r ≡ s
-  one-same-skeleton N E P F r s x y = said-apart r s (one-result (λ a b v w. (one-found N E P F a b v w, refl)) x y .0)
+  one-same-skeleton N E P F r s x y = said-apart r s (one-result (λ a b v w. (one-found (centred N E) (centred P F) a b v w, refl)) x y .0)

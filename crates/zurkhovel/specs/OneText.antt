@@ -21,10 +21,12 @@ use Rattle.listing_text.specs.Theorems as Answers
 use Rattle.orbits.specs.document.Carried.{ClassesOf}
 use Rattle.orbits.specs.Theorems.{one-classes}
 use Rattle.zurkhovel.specs.declared.text.Counts.{Counts}
-use Rattle.zurkhovel.specs.document.Lines.{ReadLine, WriteLine, ReadText, Counted, ListText}
+use Rattle.zurkhovel.specs.document.Lines.{ReadLine, WriteLine, ReadText, ListText}
+use Rattle.texts.specs.document.Demand.{Counted}
 use Rattle.zurkhovel.specs.document.Alike.{EqualVertices}
-use Rattle.zurkhovel.specs.Accepted.{tree-of}
-use Rattle.zurkhovel.specs.document.InEdition.{edgeTable}
+use Rattle.zurkhovel.specs.document.Tabled.{Tabled}
+use Rattle.zurkhovel.specs.Tabled.{in-edition}
+use Rattle.zurkhovel.specs.document.InEdition.{EdgeTable}
 
 -- one area is one thing
 same-only : {a b : List ℕ} → _≡_ {A = List (List ℕ)} (a ∷ []) (b ∷ []) → a ≡ b
@@ -37,6 +39,19 @@ one-count numbers r s a b =
 
 pub one-list : (t old new new′ : List ℕ) (from n m : ℕ) → ListText t old new from n → ListText t old new′ from m → (n ≡ m) × (new ≡ new′)
 one-list t old new new′ from n m a b = Answers.one-piece size (digitTable valence) t old new new′ from n m a b
+
+-- ---- the calls on an edge list, over its table
+
+module _ {T : EdgeTable} {R : ℕ} (t : Tabled T R) where
+  -- what Of has it to be of the centred code is one, where it is of any code and the list is accepted
+  one-derived :
+      {N : ℕ} {E : List ℕ} {Of : List ℕ → List ℕ → Type 0} → ((c l m : List ℕ) → Of c l → Of c m → l ≡ m) → Clear (T size N E 1)
+      → (l m : List ℕ) → (c : List ℕ) × centred N E c × Of c l → (c : List ℕ) × centred N E c × Of c m → l ≡ m
+  one-derived {N} {E} {Of} one k l m (c, x, o) (d, y, p) = one c l m o (subst (λ (b : List ℕ). Of b m) (centred-form .one (t .skeleton N E 1 k .tree) y x) p)
+
+  pub one-write-line :
+      (N : ℕ) (E old new new′ : List ℕ) (r s : Answer) → WriteLine T N E old new (told r) → WriteLine T N E old new′ (told s) → (r ≡ s) × (new ≡ new′)
+  one-write-line N E old new new′ r s a b = told-both r s (one-clear (one-derived (λ c l m e f. e ∙ sym f)) a b)
 
 -- ---- the calls that are told the edition, e
 
@@ -54,16 +69,6 @@ module _ (e : ℕ) where
       let (k, at, q, f, g) = Texts.one-text (linesOf e) plain-once (digitsLent size) t (rec ∷ []) num pla (rec₁ ∷ []) num₁ pla₁ (rec₂ ∷ []) num₂ pla₂ (r .lines) (r .at) (s .lines) (s .at) a b in
       (ap₂ (λ (i j : ℕ). record { lines = i; at = j }) k at, same-only q, f, g)
 
-  -- what Of has it to be of the centred code is one, where it is of any code and the list is accepted
-  one-derived :
-      {N : ℕ} {E : List ℕ} {Of : List ℕ → List ℕ → Type 0} → ((c l m : List ℕ) → Of c l → Of c m → l ≡ m) → Clear (edgeTable e size N E 1)
-      → (l m : List ℕ) → (c : List ℕ) × centred N E c × Of c l → (c : List ℕ) × centred N E c × Of c m → l ≡ m
-  one-derived {N} {E} {Of} one k l m (c, x, o) (d, y, p) = one c l m o (subst (λ (b : List ℕ). Of b m) (centred-form .one (tree-of N E 1 k) y x) p)
-
-  pub one-write-line :
-      (N : ℕ) (E old new new′ : List ℕ) (r s : Answer) → WriteLine e N E old new (told r) → WriteLine e N E old new′ (told s) → (r ≡ s) × (new ≡ new′)
-  one-write-line N E old new new′ r s a b = told-both r s (one-clear (one-derived (λ c l m e f. e ∙ sym f)) a b)
-
   pub one-equal-vertices :
       (N : ℕ) (E old new new′ : List ℕ) (r s : Answer) → EqualVertices e N E old new (told r) → EqualVertices e N E old new′ (told s) → (r ≡ s) × (new ≡ new′)
-  one-equal-vertices N E old new new′ r s a b = told-both r s (one-clear (one-derived {Of = ClassesOf} one-classes) a b)
+  one-equal-vertices N E old new new′ r s a b = told-both r s (one-clear (one-derived (in-edition e) {Of = ClassesOf} one-classes) a b)

@@ -10,7 +10,7 @@ use Prim.Native.Nat.{ℕ, _-_, _*_, _≤_}
 use native.Mathlib.Omega.{arith}
 use lib.ListN.{length}
 use Rattle.refusal.specs.document.Table.{Clear, Outcome}
-use Rattle.refusal.specs.document.Small.{Small, SmallAnswer}
+use Rattle.refusal.specs.document.Small.{Small, SmallOf, SmallAnswer}
 use Rattle.refusal.specs.Laws.{others, clear-left, at-most}
 use Rattle.refusal.specs.Bounded.{small, small-check, small-written}
 use Rattle.limits.specs.document.Limits.{size}
@@ -22,7 +22,6 @@ use Rattle.form.specs.document.Form.{nTuple, centred}
 use Rattle.form.specs.Forms.{IsForm, n-tuple-form, centred-form, form-size}
 use Rattle.zurkhovel.specs.document.Codes.{CheckCode, DecodeCode, DecodeForm, CheckEdges, RootedCode, FormCode}
 use Rattle.zurkhovel.specs.document.Same.{Finding, SameSkeleton}
-use Rattle.zurkhovel.specs.document.Maps.{SmallOf}
 use Rattle.zurkhovel.specs.Listed.{bounded-lists}
 use Rattle.zurkhovel.specs.Accepted.{tree-of, rooted-size}
 use Rattle.zurkhovel.specs.Bounds.{code-bounded, form-bounded, edges-bounded}

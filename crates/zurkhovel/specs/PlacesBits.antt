@@ -1,6 +1,6 @@
 -- What every public call on the bit-tuple tells fits into bytes, as in `Places`.
 --
--- In order: how long what is written is; the rooted code in each form; each form read into edges. Assumes nothing.
+-- In order: the rooted code in each form; each form read into edges. Assumes nothing.
 use mathlib.Core.Path.{ap}
 use mathlib.Core.Bool.{Bool}
 use mathlib.Core.List.{List}
@@ -15,29 +15,42 @@ use Rattle.refusal.specs.Bounded.{small-value, small-written}
 use Rattle.limits.specs.document.Limits.{size, packedBytes}
 use Rattle.digit_code.specs.Ends.{ends-iff, ends-sum}
 use Rattle.skeleton.specs.document.Skeleton.{rooted}
-use Rattle.skeleton.specs.Theorems.{digit-sum}
+use Rattle.skeleton.specs.Theorems.{code-length, digit-sum}
 use Rattle.bits.specs.document.Written.{Packs}
 use Rattle.bits.specs.Ends.{right-ends}
 use Rattle.bits.specs.Laws.{length-bits}
 use Rattle.bits.specs.Words.{length-word, length-bytes}
 use Rattle.zurkhovel.specs.document.Bits.{Pack, Whole, InFraction, Decodes, Unpack, Unwhole, Unfraction}
-use Rattle.zurkhovel.specs.Accepted.{tree-of, root-of, rooted-size}
-use Rattle.zurkhovel.specs.Bounds.{edges-bounded, packed-bounded, whole-bounded, fraction-bounded, fraction-long}
+use Rattle.zurkhovel.specs.document.Tabled.{Tabled}
+use Rattle.zurkhovel.specs.Bounds.{packed-bounded, whole-bounded, fraction-bounded, fraction-long}
 use Rattle.zurkhovel.specs.Places.{edges-of}
 use Rattle.edition.specs.document.Edition.{neighboursIn}
-use Rattle.zurkhovel.specs.document.InEdition.{edgeTable}
+use Rattle.zurkhovel.specs.document.InEdition.{EdgeTable}
 
-module _ (e : ℕ) where
-  -- ---- how long
+-- ---- the rooted code in each form
 
-  -- the packed form of an accepted edge list's code
-  packed-few : (N : ℕ) (E : List ℕ) (r : ℕ) (s : List ℕ) → Clear (edgeTable e size N E r) → Packs (rooted N E r) s → length s ≤ packedBytes
+module _ {T : EdgeTable} {R : ℕ} (t : Tabled T R) where
+  -- the packed form of an accepted edge list's code is short
+  packed-few : (N : ℕ) (E : List ℕ) (r : ℕ) (s : List ℕ) → Clear (T size N E r) → Packs (rooted N E r) s → length s ≤ packedBytes
   packed-few N E r s k p =
       let a = p .carries in
-      let (h, l) = root-of E k in
+      let x = t .skeleton N E r k in
+      let (h, l) = t .root N E r k in
       let n = simp (length-bytes, length-append, length-bits) at (ap length (a .same)) in
-      omega (arith, n, a .may .1, rooted-size E k, digit-sum N E r (tree-of N E r k) h l, at-most (others k))
+      omega (arith, n, a .may .1, code-length N E r (x .tree) h l, digit-sum N E r (x .tree) h l, x .few)
 
+  pub places-pack : (N : ℕ) (E : List ℕ) (r : ℕ) (old new : List ℕ) (o : Outcome ℕ) → Pack T N E r old new o → SmallAnswer o
+  places-pack N E r old new o g = small-written (t .bounded (omega arith) N E r) (λ k s p. omega (arith, packed-few N E r s k p)) g
+
+  pub places-whole : (N : ℕ) (E : List ℕ) (r : ℕ) (o : Outcome ℕ) → Whole T N E r o → SmallRefusal o
+  places-whole N E r o g = small-value (t .bounded (omega arith) N E r) g
+
+  pub places-fraction : (N : ℕ) (E : List ℕ) (r : ℕ) (o : Outcome Float) → InFraction T N E r o → SmallRefusal o
+  places-fraction N E r o g = small-value (t .bounded (omega arith) N E r) g
+
+-- ---- each form read into edges
+
+module _ (e : ℕ) where
   -- the edges of the code that bits carry: a code of N digits takes 2N - 1 bits, and has 2(N - 1) ends
   edges-few : {May : List Bool → Type 0} {bs : List Bool} (E : List ℕ) → Decodes (neighboursIn e) May bs E → length E ≤ length bs
   edges-few {bs = bs} E d =
@@ -46,19 +59,6 @@ module _ (e : ℕ) where
       let e = ends-iff c .1 (right-ends c (d .reads .right)) in
       let n = simp (length-append, length-bits) at (ap length (a .same)) in
       omega (arith, n, ap length (d .edges), edges-of c e, ends-sum 1 c e)
-
-  -- ---- the rooted code in each form
-
-  pub places-pack : (N : ℕ) (E : List ℕ) (r : ℕ) (old new : List ℕ) (o : Outcome ℕ) → Pack e N E r old new o → SmallAnswer o
-  places-pack N E r old new o g = small-written (edges-bounded e (omega arith) N E r) (λ k s p. omega (arith, packed-few N E r s k p)) g
-
-  pub places-whole : (N : ℕ) (E : List ℕ) (r : ℕ) (o : Outcome ℕ) → Whole e N E r o → SmallRefusal o
-  places-whole N E r o g = small-value (edges-bounded e (omega arith) N E r) g
-
-  pub places-fraction : (N : ℕ) (E : List ℕ) (r : ℕ) (o : Outcome Float) → InFraction e N E r o → SmallRefusal o
-  places-fraction N E r o g = small-value (edges-bounded e (omega arith) N E r) g
-
-  -- ---- each form read into edges
 
   pub places-unpack : (s old new : List ℕ) (o : Outcome ℕ) → Unpack e s old new o → SmallAnswer o
   places-unpack s old new o g = small-written (packed-bounded e s) (λ k E d. omega (arith, edges-few E d, length-bytes s, at-most (others k))) g

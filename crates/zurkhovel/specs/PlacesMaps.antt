@@ -9,15 +9,16 @@ use Prim.Native.Nat.{ℕ, _<_}
 use native.Mathlib.Omega.{arith}
 use lib.ListN.{length}
 use Rattle.refusal.specs.document.Table.{Row, ofList, Clear, short}
-use Rattle.refusal.specs.document.Small.{byteValues, Small}
-use Rattle.refusal.specs.Bounded.{Bounded, BoundedBy, bounded-rows, bounded-both, at-0, small}
+use Rattle.refusal.specs.document.Small.{byteValues, Small, SmallOf, Bounded, BoundedBy}
+use Rattle.refusal.specs.Bounded.{bounded-rows, bounded-both, at-0, small}
 use Rattle.limits.specs.document.Limits.{size}
 use Rattle.renumber.specs.document.Map.{row5-map, row18, row19, mapRows, HandedOut}
 use Rattle.renumber.specs.Exactly.{map-sizes}
 use Rattle.zurkhovel.specs.document.Same.{bothRows}
-use Rattle.zurkhovel.specs.document.Maps.{MapOutcome, SmallOf, threeRows, HandOut, CheckRenumbering}
+use Rattle.zurkhovel.specs.document.Maps.{MapOutcome, threeRows, HandOut, CheckRenumbering}
 use Rattle.zurkhovel.specs.Accepted.{skeleton-of}
-use Rattle.zurkhovel.specs.Listed.{below22, bounded-of, bounded-lists}
+use Rattle.refusal.specs.Lists.{below22, bounded-of}
+use Rattle.zurkhovel.specs.Listed.{bounded-lists}
 use Rattle.zurkhovel.specs.Theorems.{both-clear}
 use Rattle.zurkhovel.specs.Threes.{three-clear, handed-length}
 use Rattle.zurkhovel.specs.document.InEdition.{edgeTable}

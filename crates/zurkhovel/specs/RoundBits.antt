@@ -86,7 +86,7 @@ module _ (e : ℕ) where
 
   pub pack-again :
       (s old new : List ℕ) (m : ℕ) (old′ new′ : List ℕ) (o : Outcome ℕ) → Bytes s → Unpack e s old new (gives m) → length s ≤ length old′
-      → Pack e (suc (m / 2)) (take m new) 1 old′ new′ o → Given s old′ new′ o
+      → Pack (edgeTable e) (suc (m / 2)) (take m new) 1 old′ new′ o → Given s old′ new′ o
   pack-again s old new m old′ new′ o b u h g =
       let (k, d, l) = gave u in
       let c = d .code in
@@ -97,7 +97,7 @@ module _ (e : ℕ) where
       (rw (told-size (d .reads) (clear-edition k) few (d .edges) l, d .edges) at g)
 
   pub pack-back :
-      (N : ℕ) (E : List ℕ) (r : ℕ) (old new : List ℕ) (n : ℕ) (old′ new′ : List ℕ) (o : Outcome ℕ) → Pack e N E r old new (gives n)
+      (N : ℕ) (E : List ℕ) (r : ℕ) (old new : List ℕ) (n : ℕ) (old′ new′ : List ℕ) (o : Outcome ℕ) → Pack (edgeTable e) N E r old new (gives n)
       → length E ≤ length old′ → Unpack e (take n new) old′ new′ o → Renumbered N E new′ o
   pack-back N E r old new n old′ new′ o p h g =
       let (k, w, l) = gave p in
@@ -112,7 +112,7 @@ module _ (e : ℕ) where
   -- ---- whole number
 
   pub whole-again :
-      (n v : ℕ) (old new : List ℕ) (m : ℕ) (o : Outcome ℕ) → Unwhole e n v old new (gives m) → Whole e n (take m new) 1 o → o ≡ gives v
+      (n v : ℕ) (old new : List ℕ) (m : ℕ) (o : Outcome ℕ) → Unwhole e n v old new (gives m) → Whole (edgeTable e) n (take m new) 1 o → o ≡ gives v
   whole-again n v old new m o u g =
       let (k, d, l) = gave u in
       let c = d .code in
@@ -124,7 +124,7 @@ module _ (e : ℕ) where
       must-answer (its-rows e c (right-code (d .reads) (clear-edition k) few) wholeSize (omega (arith, at-most (others k)))) v p (λ y q. number-again q p) (rw (← z, d .edges) at g)
 
   pub whole-back :
-      (N : ℕ) (E : List ℕ) (r v : ℕ) (old new : List ℕ) (o : Outcome ℕ) → Whole e N E r (gives v) → length E ≤ length old → Unwhole e N v old new o
+      (N : ℕ) (E : List ℕ) (r v : ℕ) (old new : List ℕ) (o : Outcome ℕ) → Whole (edgeTable e) N E r (gives v) → length E ≤ length old → Unwhole e N v old new o
       → Renumbered N E new o
   whole-back N E r v old new o p h g =
       let (k, w) = gave-value p in
@@ -140,7 +140,7 @@ module _ (e : ℕ) where
 
   pub fraction-again :
       (x : Float) (old new : List ℕ) (m : ℕ) (o : Outcome Float) → T (fits binary64 x) → Unfraction e x old new (gives m)
-      → InFraction e (suc (m / 2)) (take m new) 1 o → o ≡ gives x
+      → InFraction (edgeTable e) (suc (m / 2)) (take m new) 1 o → o ≡ gives x
   fraction-again x old new m o f u g =
       let (k, d, l) = gave u in
       let c = d .code in
@@ -152,7 +152,7 @@ module _ (e : ℕ) where
       (rw (told-size (d .reads) (clear-edition k) all (d .edges) l, d .edges) at g)
 
   pub fraction-back :
-      (N : ℕ) (E : List ℕ) (r : ℕ) (x : Float) (old new : List ℕ) (o : Outcome ℕ) → InFraction e N E r (gives x) → length E ≤ length old
+      (N : ℕ) (E : List ℕ) (r : ℕ) (x : Float) (old new : List ℕ) (o : Outcome ℕ) → InFraction (edgeTable e) N E r (gives x) → length E ≤ length old
       → Unfraction e x old new o → Renumbered N E new o
   fraction-back N E r x old new o p h g =
       let (k, w) = gave-value p in

@@ -86,7 +86,7 @@ module _ (e : ℕ) where
   -- ---- a physical numbering
 
   -- what no row of a CAM or a 0A refuses
-  pub physical-exactly : (most N : ℕ) (E : List ℕ) → Clear (physicalTable e most N E) ↔ (IsEdition e × IsSkeleton most (neighboursIn e) N E × Physical N E)
+  pub physical-exactly : (most N : ℕ) (E : List ℕ) → Clear (physicalTable (edgeTable e) most N E) ↔ (IsEdition e × IsSkeleton most (neighboursIn e) N E × Physical N E)
   physical-exactly most N E = (
     λ k.
         let n = never (clear-right (edgeTable e most N E 1) (row14-physical N E ∷ []) k) in
@@ -103,23 +103,23 @@ module _ (e : ℕ) where
 
   pub cam-again :
       (N : ℕ) (c old new : List ℕ) (m : ℕ) (old′ new′ : List ℕ) (o : Outcome ℕ) → DecodeCam e N c old new (gives m) → length c ≤ length old′
-      → Cam e N (take m new) old′ new′ o → Given c old′ new′ o
+      → Cam (edgeTable e) N (take m new) old′ new′ o → Given c old′ new′ o
   cam-again N c old new m old′ new′ o d h g =
       let (k, q, _) = gave d in
       let (s, p, z) = cam-code size (neighboursIn e) N c (others k) in
-      must-give (physical-exactly size N (camEdges c) .1 (clear-edition k, s, p)) c (sym z) (λ b x. x ∙ z) h (subst (λ F. Cam e N F old′ new′ o) q g)
+      must-give (physical-exactly size N (camEdges c) .1 (clear-edition k, s, p)) c (sym z) (λ b x. x ∙ z) h (subst (λ F. Cam (edgeTable e) N F old′ new′ o) q g)
 
-  pub zero-a-again : (N x : ℕ) (old new : List ℕ) (m : ℕ) (o : Outcome ℕ) → DecodeZeroA e N x old new (gives m) → ZeroA e N (take m new) o → o ≡ gives x
+  pub zero-a-again : (N x : ℕ) (old new : List ℕ) (m : ℕ) (o : Outcome ℕ) → DecodeZeroA e N x old new (gives m) → ZeroA (edgeTable e) N (take m new) o → o ≡ gives x
   zero-a-again N x old new m o d g =
       let (k, q, _) = gave d in
       let (s, p, z) = zero-code zeroSize (neighboursIn e) N x (others k) in
-      must-answer (physical-exactly zeroSize N (camEdges (zeroCam N x)) .1 (clear-edition k, s, p)) x (sym z) (λ b y. y ∙ z) (subst (λ F. ZeroA e N F o) q g)
+      must-answer (physical-exactly zeroSize N (camEdges (zeroCam N x)) .1 (clear-edition k, s, p)) x (sym z) (λ b y. y ∙ z) (subst (λ F. ZeroA (edgeTable e) N F o) q g)
 
-  pub a-zero-again : (N x : ℕ) (old new : List ℕ) (m : ℕ) (o : Outcome ℕ) → DecodeAZero e N x old new (gives m) → AZero e N (take m new) o → o ≡ gives x
+  pub a-zero-again : (N x : ℕ) (old new : List ℕ) (m : ℕ) (o : Outcome ℕ) → DecodeAZero e N x old new (gives m) → AZero (edgeTable e) N (take m new) o → o ≡ gives x
   a-zero-again N x old new m o d g =
       let (k, q, _) = gave d in
       let (s, z) = a-code aSize (neighboursIn e) N x (others k) in
-      must-answer (plain-rows (clear-edition k) s) x (sym z) (λ b y. y ∙ z) (subst (λ F. AZero e N F o) q g)
+      must-answer (plain-rows (clear-edition k) s) x (sym z) (λ b y. y ∙ z) (subst (λ F. AZero (edgeTable e) N F o) q g)
 
   -- ---- coded and decoded
 
@@ -142,7 +142,7 @@ module _ (e : ℕ) where
         same-arcs (s .tree) (a-code aSize (neighboursIn e) N (aZero N E) k .0 .tree) (a-decode aSize (neighboursIn e) N E s) (clear-both (edition-clear i) k) h g
 
   pub cam-back :
-      (N : ℕ) (E old new : List ℕ) (n : ℕ) (old′ new′ : List ℕ) (o : Outcome ℕ) → Cam e N E old new (gives n) → length E ≤ length old′
+      (N : ℕ) (E old new : List ℕ) (n : ℕ) (old′ new′ : List ℕ) (o : Outcome ℕ) → Cam (edgeTable e) N E old new (gives n) → length E ≤ length old′
       → DecodeCam e N (take n new) old′ new′ o → Kept E new′ o
   cam-back N E old new n old′ new′ o c h g =
       let (k, q, _) = gave c in
@@ -150,7 +150,7 @@ module _ (e : ℕ) where
       from-cam i N E h s p (subst (λ d. DecodeCam e N d old′ new′ o) q g)
 
   pub zero-a-back :
-      (N : ℕ) (E : List ℕ) (x : ℕ) (old new : List ℕ) (o : Outcome ℕ) → ZeroA e N E (gives x) → length E ≤ length old → DecodeZeroA e N x old new o
+      (N : ℕ) (E : List ℕ) (x : ℕ) (old new : List ℕ) (o : Outcome ℕ) → ZeroA (edgeTable e) N E (gives x) → length E ≤ length old → DecodeZeroA e N x old new o
       → Kept E new o
   zero-a-back N E x old new o c h g =
       let (k, q) = gave-value c in
@@ -158,7 +158,7 @@ module _ (e : ℕ) where
       from-zero i N E h s p (subst (λ y. DecodeZeroA e N y old new o) q g)
 
   pub a-zero-back :
-      (N : ℕ) (E : List ℕ) (x : ℕ) (old new : List ℕ) (o : Outcome ℕ) → AZero e N E (gives x) → length E ≤ length old → DecodeAZero e N x old new o
+      (N : ℕ) (E : List ℕ) (x : ℕ) (old new : List ℕ) (o : Outcome ℕ) → AZero (edgeTable e) N E (gives x) → length E ≤ length old → DecodeAZero e N x old new o
       → Kept E new o
   a-zero-back N E x old new o c h g =
       let (k, q) = gave-value c in from-a (clear-edition k) N E h (skeleton-of k) (subst (λ y. DecodeAZero e N y old new o) q g)
@@ -166,21 +166,21 @@ module _ (e : ℕ) where
   -- ---- coded by code and decoded
 
   pub cam-by-code-back :
-      (N : ℕ) (E old new : List ℕ) (n : ℕ) (old′ new′ : List ℕ) (o : Outcome ℕ) → CamByCode e N E old new (gives n) → length E ≤ length old′
+      (N : ℕ) (E old new : List ℕ) (n : ℕ) (old′ new′ : List ℕ) (o : Outcome ℕ) → CamByCode (edgeTable e) N E old new (gives n) → length E ≤ length old′
       → DecodeCam e N (take n new) old′ new′ o → Renumbered N E new′ o
   cam-by-code-back N E old new n old′ new′ o c h g =
       let (k, b, _) = gave c in
       by-code-back (skeleton-of k) (b .numbering) new′ o (length old′) h (λ l s p. from-cam (clear-edition k) N (b .edges) l s p (subst (λ d. DecodeCam e N d old′ new′ o) (b .is) g))
 
   pub zero-a-by-code-back :
-      (N : ℕ) (E : List ℕ) (v : ℕ) (old new : List ℕ) (o : Outcome ℕ) → ZeroAByCode e N E (gives v) → length E ≤ length old → DecodeZeroA e N v old new o
+      (N : ℕ) (E : List ℕ) (v : ℕ) (old new : List ℕ) (o : Outcome ℕ) → ZeroAByCode (edgeTable e) N E (gives v) → length E ≤ length old → DecodeZeroA e N v old new o
       → Renumbered N E new o
   zero-a-by-code-back N E v old new o c h g =
       let (k, b) = gave-value c in
       by-code-back (skeleton-of k) (b .numbering) new o (length old) h (λ l s p. from-zero (clear-edition k) N (b .edges) l s p (subst (λ y. DecodeZeroA e N y old new o) (b .is) g))
 
   pub a-zero-by-code-back :
-      (N : ℕ) (E : List ℕ) (v : ℕ) (old new : List ℕ) (o : Outcome ℕ) → AZeroByCode e N E (gives v) → length E ≤ length old → DecodeAZero e N v old new o
+      (N : ℕ) (E : List ℕ) (v : ℕ) (old new : List ℕ) (o : Outcome ℕ) → AZeroByCode (edgeTable e) N E (gives v) → length E ≤ length old → DecodeAZero e N v old new o
       → Renumbered N E new o
   a-zero-by-code-back N E v old new o c h g =
       let (k, b) = gave-value c in

@@ -27,6 +27,7 @@ use Rattle.zurkhovel.specs.document.Codes.{DecodeForm}
 use Rattle.zurkhovel.specs.document.Lines.{ReadLine, WriteLine}
 use Rattle.zurkhovel.specs.Accepted.{skeleton-of, plain-rows, centred-accepted}
 use Rattle.zurkhovel.specs.document.Round.{Begins}
+use Rattle.zurkhovel.specs.document.InEdition.{edgeTable}
 use Rattle.edition.specs.document.Edition.{IsEdition, neighboursIn}
 use Rattle.edition.specs.Laws.{clear-edition}
 use Rattle.lines.specs.OfEdition.{edition-sound}
@@ -45,7 +46,7 @@ module _ (e : ℕ) where
 
   -- a skeleton's line gives its centred code
   pub line-back :
-      (N : ℕ) (E old new : List ℕ) (n : ℕ) (old′ new′ : List ℕ) (o : Outcome ℕ) → WriteLine e N E old new (gives n) → size ≤ length old′
+      (N : ℕ) (E old new : List ℕ) (n : ℕ) (old′ new′ : List ℕ) (o : Outcome ℕ) → WriteLine (edgeTable e) N E old new (gives n) → size ≤ length old′
       → ReadLine e (take n new) old′ new′ o → (c : List ℕ) × centred N E c × Given c old′ new′ o
   line-back N E old new n old′ new′ o w h g =
       let (k, (c, x, q), _) = gave w in
@@ -70,7 +71,7 @@ module _ (e : ℕ) where
   -- a line that is read, decoded and written is itself
   pub line-again :
       (t old new : List ℕ) (n : ℕ) (old′ new′ : List ℕ) (m : ℕ) (old″ new″ : List ℕ) (o : Outcome ℕ) → ReadLine e t old new (gives n)
-      → DecodeForm e centred (take n new) old′ new′ (gives m) → length (line (take n new)) ≤ length old″ → WriteLine e (length (take n new)) (take m new′) old″ new″ o
+      → DecodeForm e centred (take n new) old′ new′ (gives m) → length (line (take n new)) ≤ length old″ → WriteLine (edgeTable e) (length (take n new)) (take m new′) old″ new″ o
       → Given (line (take n new)) old″ new″ o × Begins (take n new) t
   line-again t old new n old′ new′ m old″ new″ o r d h g =
       let c = take n new in
@@ -78,6 +79,6 @@ module _ (e : ℕ) where
       let (x, y) = form-passes centred centred-form size (neighboursIn e) c .0 (others k) in
       let s = right-decoded size (neighboursIn e) c x in (
         must-give (plain-rows (clear-edition k) s) (line c) (c, y, refl) (λ l (b, z, w). w ∙ ap line (centred-form .one (s .tree) z y)) h
-            (subst (λ F. WriteLine e (length c) F old″ new″ o) q g),
+            (subst (λ F. WriteLine (edgeTable e) (length c) F old″ new″ o) q g),
         line-gave t old new n r,
       )

@@ -10,8 +10,10 @@ use mathlib.Core.List.{List, [], _∷_, _++_}
 use Prim.Native.Nat.{ℕ}
 use native.Mathlib.Omega.{arith}
 use lib.Ieee.{Float}
-use Rattle.refusal.specs.document.Table.{Row, ofList, First, FirstRefusal, short}
-use Rattle.refusal.specs.Laws.{first-place, refusal-front, refusal-back, refusal-either, list-clear, list-refused, list-told}
+use Rattle.refusal.specs.document.Table.{Row, First, FirstRefusal, short}
+use Rattle.refusal.specs.document.Lists.{OfLists, OfThree}
+use Rattle.refusal.specs.Laws.{first-place, refusal-front, refusal-back, refusal-either}
+use Rattle.refusal.specs.Lists as Lists
 use Rattle.refusal.specs.Lowest.{lowest-number}
 use Rattle.refusal.specs.document.Lowest.{Lowest, LowestWins}
 use Rattle.limits.specs.document.Limits.{size}
@@ -29,7 +31,8 @@ use Rattle.texts.specs.document.Lent.{lineRow15}
 use Rattle.lines.specs.document.Line.{plainLines}
 use Rattle.lines.specs.document.Judged.{digitTable}
 use Rattle.lines.specs.document.Reading.{digitsLent}
-use Rattle.zurkhovel.specs.document.Same.{listRows, bothRows, WhichList}
+use Rattle.zurkhovel.specs.document.Same.{listRows, bothRows}
+use Rattle.zurkhovel.specs.document.Maps.{threeRows}
 
 module _ (R : ℕ) where
   -- the table of a call that writes: 15 stands behind
@@ -117,31 +120,13 @@ module _ (e : ℕ) where
       none h = first-place {r = row22 e} (refl, h) (λ q l a. let z : ⊥ = omega arith in z)
 
   -- same_skeleton: 22 is given, which is called 0, or list i is refused
-  module _ (N : ℕ) (E : List ℕ) (P : ℕ) (F : List ℕ) where
-    pub which-list : (i k p : ℕ) → FirstRefusal (bothRows e N E P F) (i, k) p ↔ WhichList e N E P F i k p
-    which-list i k p = (forth, back)
-      where
-        first : LowestWins (listRows e N E)
-        first = edges-checked (neighboursIn e) size N E 1
+  pub which-list :
+      (N : ℕ) (E : List ℕ) (P : ℕ) (F : List ℕ) (i k p : ℕ) → FirstRefusal (bothRows e N E P F) (i, k) p ↔ OfLists (row22 e ∷ []) (listRows e N E) (listRows e P F) i k p
+  which-list N E P F = Lists.which-list (row22 e ∷ []) (listRows e N E) (listRows e P F) (edges-checked (neighboursIn e) size N E 1) (edges-checked (neighboursIn e) size P F 1)
 
-        second : LowestWins (listRows e P F)
-        second = edges-checked (neighboursIn e) size P F 1
-
-        forth : FirstRefusal (bothRows e N E P F) (i, k) p → WhichList e N E P F i k p
-        forth l =
-            ⊎-elim (λ a. inl (list-told 0 (row22 e ∷ []) a)) (λ (c, a).
-            inr (
-              clear-edition (list-clear 0 (row22 e ∷ []) .1 c),
-              ⊎-elim (λ a. let (q, b) = list-told 1 (listRows e N E) a in inl (q, first k p .0 b))
-                  (λ (c, a). let (q, b) = list-told 2 (listRows e P F) a in inr (q, list-clear 1 (listRows e N E) .1 c, second k p .0 b))
-                  (refusal-either (ofList 1 (listRows e N E)) (ofList 2 (listRows e P F)) a),
-            ))
-            (refusal-either (ofList 0 (row22 e ∷ [])) (ofList 1 (listRows e N E) ++ ofList 2 (listRows e P F)) l)
-
-        behind : IsEdition e → FirstRefusal (ofList 1 (listRows e N E) ++ ofList 2 (listRows e P F)) (i, k) p → FirstRefusal (bothRows e N E P F) (i, k) p
-        behind j l = refusal-back (list-clear 0 (row22 e ∷ []) .0 (edition-clear j)) l
-
-        back : WhichList e N E P F i k p → FirstRefusal (bothRows e N E P F) (i, k) p
-        back (inl (q, l)) = rw q (refusal-front (ofList 1 (listRows e N E) ++ ofList 2 (listRows e P F)) (list-refused 0 (row22 e ∷ []) l))
-        back (inr (j, inl (q, l))) = behind j (rw q (refusal-front (ofList 2 (listRows e P F)) (list-refused 1 (listRows e N E) (first k p .1 l))))
-        back (inr (j, inr (q, c, l))) = behind j (rw q (refusal-back (list-clear 1 (listRows e N E) .0 c) (list-refused 2 (listRows e P F) (second k p .1 l))))
+  -- renumbering, check_renumbering: the same, or the map is refused, which is called 3
+  pub which-of-three :
+      (N : ℕ) (E : List ℕ) (P : ℕ) (F : List ℕ) (rs : List Row) → LowestWins rs → (i k p : ℕ) → FirstRefusal (threeRows e N E P F rs) (i, k) p
+      ↔ OfThree (row22 e ∷ []) (listRows e N E) (listRows e P F) rs i k p
+  which-of-three N E P F rs w =
+      Lists.which-of-three (row22 e ∷ []) (listRows e N E) (listRows e P F) rs (edges-checked (neighboursIn e) size N E 1) (edges-checked (neighboursIn e) size P F 1) w

@@ -1,16 +1,17 @@
 -- What the promises say without codes. Assumes nothing.
-use mathlib.Core.Path.{_≡_, refl, subst}
+use mathlib.Core.Path.{_≡_, refl, sym, _∙_, subst}
 use mathlib.Core.Logic.{_↔_}
-use mathlib.Core.Bool.{Bool, true}
-use mathlib.Core.List.{List, [], _∷_, _++_}
+use mathlib.Core.Bool.{Bool, true, false}
+use mathlib.Core.List.{List, [], _∷_}
 use Prim.Native.Nat.{ℕ}
-use Rattle.refusal.specs.document.Table.{ofList, Clear, FirstRefusal, gives, kept}
-use Rattle.refusal.specs.Laws.{clear-both, clear-left, clear-right, others, refusal-front, refusal-back, list-clear, list-refused}
+use Rattle.refusal.specs.document.Table.{Clear, FirstRefusal, gives, kept}
+use Rattle.refusal.specs.Laws.{clear-both, clear-left, others}
+use Rattle.refusal.specs.Lists.{lists-clear, lists-none, lists-first, lists-second}
 use Rattle.skeleton.specs.document.Skeleton.{Renumbering}
 use Rattle.form.specs.document.Form.{centred}
-use Rattle.form.specs.Forms.{centred-form, form-verdict}
+use Rattle.form.specs.Forms.{centred-form, form-size, form-verdict}
 use Rattle.zurkhovel.specs.Accepted.{tree-of}
-use Rattle.zurkhovel.specs.document.Same.{listRows, bothRows, SameSkeleton}
+use Rattle.zurkhovel.specs.document.Same.{listRows, bothRows, EqualCodes, SameSkeleton}
 use Rattle.limits.specs.document.Limits.{size}
 use Rattle.edition.specs.document.Edition.{IsEdition, neighboursIn, row22}
 use Rattle.edition.specs.Laws.{edition-clear, refused-22}
@@ -20,31 +21,26 @@ module _ {e : ℕ} where
   -- no row applies to two lists where none applies to the first and none to the second
   pub both-clear : (N P : ℕ) (E F : List ℕ) → Clear (bothRows e N E P F) ↔ (Clear (edgeTable e size N E 1) × Clear (edgeTable e size P F 1))
   both-clear N P E F =
-      let none = list-clear 0 (row22 e ∷ []) in
-      let one = list-clear 1 (listRows e N E) in
-      let two = list-clear 2 (listRows e P F) in (
-        (λ c.
-            let z = none .1 (clear-left (ofList 0 (row22 e ∷ [])) (ofList 1 (listRows e N E) ++ ofList 2 (listRows e P F)) c) in
-            let d = clear-right (ofList 0 (row22 e ∷ [])) (ofList 1 (listRows e N E) ++ ofList 2 (listRows e P F)) c in (
-              clear-both z (one .1 (clear-left (ofList 1 (listRows e N E)) (ofList 2 (listRows e P F)) d)),
-              clear-both z (two .1 (clear-right (ofList 1 (listRows e N E)) (ofList 2 (listRows e P F)) d)),
-            )),
-        (λ (k, l). clear-both (none .0 (clear-left (row22 e ∷ []) (listRows e N E) k)) (clear-both (one .0 (others k)) (two .0 (others l)))),
+      let (there, back) = lists-clear (row22 e ∷ []) (listRows e N E) (listRows e P F) in (
+        (λ c. let (z, k, l) = there c in (clear-both z k, clear-both z l)),
+        (λ (k, l). back (clear-left (row22 e ∷ []) (listRows e N E) k, others k, others l)),
       )
 
   -- there is no such edition; the first list is refused, or the second
   module _ (N P : ℕ) (E F : List ℕ) where
     pub both-none : neighboursIn e ≡ 0 → FirstRefusal (bothRows e N E P F) (0, 22) 0
-    both-none z = refusal-front (ofList 1 (listRows e N E) ++ ofList 2 (listRows e P F)) (list-refused 0 (row22 e ∷ []) (refused-22 [] z))
+    both-none z = lists-none (row22 e ∷ []) (listRows e N E) (listRows e P F) (refused-22 [] z)
 
     pub both-first : {k p : ℕ} → IsEdition e → FirstRefusal (listRows e N E) k p → FirstRefusal (bothRows e N E P F) (1, k) p
-    both-first i l =
-        refusal-back (list-clear 0 (row22 e ∷ []) .0 (edition-clear i)) (refusal-front (ofList 2 (listRows e P F)) (list-refused 1 (listRows e N E) l))
+    both-first i l = lists-first (row22 e ∷ []) (listRows e N E) (listRows e P F) (edition-clear i) l
 
     pub both-second : {k p : ℕ} → Clear (edgeTable e size N E 1) → FirstRefusal (listRows e P F) k p → FirstRefusal (bothRows e N E P F) (2, k) p
-    both-second c l =
-        refusal-back (list-clear 0 (row22 e ∷ []) .0 (clear-left (row22 e ∷ []) (listRows e N E) c))
-        (refusal-back (list-clear 1 (listRows e N E) .0 (others c)) (list-refused 2 (listRows e P F) l))
+    both-second c l = lists-second (row22 e ∷ []) (listRows e N E) (listRows e P F) (clear-left (row22 e ∷ []) (listRows e N E) c) (others c) l
+
+  -- lists of different sizes have no code in common
+  pub sizes-apart : {N P : ℕ} {E F : List ℕ} → Clear (edgeTable e size N E 1) → Clear (edgeTable e size P F 1) → (N ≡ P → ⊥) → EqualCodes N E P F false
+  sizes-apart {N} {P} {E} {F} k l n c x y =
+      n (sym (form-size centred centred-form N E c (tree-of N E 1 k) x) ∙ form-size centred centred-form P F c (tree-of P F 1 l) y)
 
   -- where there is a verdict, both are accepted
   pub verdict-lists : {N P : ℕ} {E F : List ℕ} {b : Bool} → SameSkeleton e N E P F (gives b) → Clear (edgeTable e size N E 1) × Clear (edgeTable e size P F 1)

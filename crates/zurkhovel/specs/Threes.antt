@@ -2,50 +2,41 @@
 --
 -- In order: where a refusal comes from; where there is none, and where something is answered; what a map that is handed out tells of the two lists. Assumes nothing.
 use mathlib.Core.Path.{_≡_, sym, subst}
-use mathlib.Core.Logic.{_⊎_, inl, inr, ⊎-elim, _↔_}
+use mathlib.Core.Logic.{_↔_}
 use mathlib.Core.Bool.{true}
 use mathlib.Core.List.{List, [], _∷_}
 use Prim.Native.Nat.{ℕ}
 use lib.ListN.{length}
-use Rattle.refusal.specs.document.Table.{Row, ofList, Clear, FirstRefusal, gives, kept, short}
-use Rattle.refusal.specs.document.Lowest.{Lowest, LowestWins}
-use Rattle.refusal.specs.Laws.{clear-both, clear-left, clear-right, refusal-front, refusal-back, refusal-either, list-clear, list-refused, list-told}
+use Rattle.refusal.specs.document.Table.{Row, Clear, FirstRefusal, gives, kept, short}
+use Rattle.refusal.specs.Laws.{clear-both, clear-left, others}
+use Rattle.refusal.specs.Lists.{maps-clear, maps-lists, maps-third}
 use Rattle.skeleton.specs.document.Skeleton.{rooted}
 use Rattle.form.specs.document.Form.{centred}
 use Rattle.form.specs.Root.{root-centred}
 use Rattle.renumber.specs.document.Map.{HandedOut}
-use Rattle.zurkhovel.specs.document.Same.{bothRows, WhichList, EqualCodes}
+use Rattle.zurkhovel.specs.document.Same.{listRows, bothRows, EqualCodes}
 use Rattle.zurkhovel.specs.document.Maps.{threeRows, HandOut}
 use Rattle.zurkhovel.specs.Accepted.{tree-of}
-use Rattle.zurkhovel.specs.Theorems.{both-clear}
-use Rattle.zurkhovel.specs.Tables.{which-list}
 use Rattle.limits.specs.document.Limits.{size}
+use Rattle.edition.specs.document.Edition.{row22}
 use Rattle.zurkhovel.specs.document.InEdition.{edgeTable}
 
 module _ {e : ℕ} where
   module _ (N P : ℕ) (E F : List ℕ) (rs : List Row) where
-    -- the map refuses
+    -- a list refuses, or the map
+    pub lists-of : {i k p : ℕ} → FirstRefusal (bothRows e N E P F) (i, k) p → FirstRefusal (threeRows e N E P F rs) (i, k) p
+    lists-of f = maps-lists (row22 e ∷ []) (listRows e N E) (listRows e P F) rs f
+
     pub third-of : {k p : ℕ} → Clear (edgeTable e size N E 1) → Clear (edgeTable e size P F 1) → FirstRefusal rs k p → FirstRefusal (threeRows e N E P F rs) (3, k) p
-    third-of c d l = refusal-back (both-clear N P E F .1 (c, d)) (list-refused 3 rs l)
+    third-of c d l = maps-third (row22 e ∷ []) (listRows e N E) (listRows e P F) rs (clear-left (row22 e ∷ []) (listRows e N E) c) (others c) (others d) l
 
     -- none refuses
     pub three-clear : Clear (threeRows e N E P F rs) ↔ (Clear (edgeTable e size N E 1) × Clear (edgeTable e size P F 1) × Clear rs)
-    three-clear = (
-      (λ c. let (k, l) = both-clear N P E F .0 (clear-left (bothRows e N E P F) (ofList 3 rs) c) in (k, l, list-clear 3 rs .1 (clear-right (bothRows e N E P F) (ofList 3 rs) c))),
-      (λ (k, l, m). clear-both (both-clear N P E F .1 (k, l)) (list-clear 3 rs .0 m)),
-    )
-
-    -- it is 22 or one of the lists', or both are accepted and it is the map's, with the lowest number of each
-    pub which-of-three :
-        LowestWins rs → (i k p : ℕ) → FirstRefusal (threeRows e N E P F rs) (i, k) p
-        ↔ (WhichList e N E P F i k p ⊎ ((i ≡ 3) × Clear (edgeTable e size N E 1) × Clear (edgeTable e size P F 1) × Lowest rs k p))
-    which-of-three w i k p = (
-      (λ l. ⊎-elim (λ a. inl (which-list e N E P F i k p .0 a)) (λ (c, a).
-          let (q, b) = list-told 3 rs a in
-          let (x, y) = both-clear N P E F .0 c in
-          inr (q, x, y, w k p .0 b)) (refusal-either (bothRows e N E P F) (ofList 3 rs) l)),
-      (λ d. ⊎-elim (λ a. refusal-front (ofList 3 rs) (which-list e N E P F i k p .1 a)) (λ (q, x, y, l). rw q (third-of x y (w k p .1 l))) d),
-    )
+    three-clear =
+        let (there, back) = maps-clear (row22 e ∷ []) (listRows e N E) (listRows e P F) rs in (
+          (λ c. let (z, k, l, m) = there c in (clear-both z k, clear-both z l, m)),
+          (λ (k, l, m). back (clear-left (row22 e ∷ []) (listRows e N E) k, others k, others l, m)),
+        )
 
   -- where the call hands something out, or nothing, both lists are accepted
   pub handed-lists : {N P : ℕ} {E F old new : List ℕ} {n : ℕ} → HandOut e N E P F old new (gives n) → Clear (edgeTable e size N E 1) × Clear (edgeTable e size P F 1)

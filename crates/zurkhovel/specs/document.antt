@@ -1,5 +1,6 @@
 -- What must be believed: docs/READING.md lists it in the order of document 01. Assumes nothing.
 pub mod InEdition
+pub mod Tabled
 pub mod Codes
 pub mod Same
 pub mod Maps

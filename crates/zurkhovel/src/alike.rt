@@ -1,13 +1,13 @@
-// Equal vertices.
+// Equal vertices. A plain skeleton's atoms are all carbon.
 use super::editions;
-use super::reported::Reported;
 use limits::SIZE;
 use refusal::Answer;
 use refusal::Check;
+use refusal::Reported;
 ghost use Rattle.refusal.specs.document.Outcome.{told};
 ghost use Rattle.form_coder.specs.document.Pairs.{centredPairs};
 ghost use Rattle.zurkhovel.specs.document.Alike.{EqualVertices};
-ghost use Rattle.zurkhovel.specs.document.Reported.{Reporting};
+ghost use Rattle.refusal.specs.document.Reported.{Reporting};
 
 // The class of each vertex, in the centred code's numbering: one for two vertices that a renumbering of the skeleton onto itself carries to one
 // another.
@@ -26,10 +26,12 @@ pub fn equal_vertices(edition: usize, n: usize, edges: &[u8], out: &mut [u8]) ->
             pairs: 0,
         };
     }
-    let mut digits = [0u8; SIZE];
-    let looked = form_coder::centred(n, edges, &mut digits);
+    let carbon = [0u8; SIZE];
+    let mut ds = [0u8; SIZE];
+    let mut marks = [0u8; SIZE];
+    let looked = form_coder::centred_marks(n, edges, &carbon, &mut ds, &mut marks);
     Reported {
-        answer: Answer::Done(vertices::write_classes(&digits[..n], out)),
+        answer: Answer::Done(vertices::write_classes(&ds[..n], &marks[..n], out)),
         pairs: looked,
     }
 }

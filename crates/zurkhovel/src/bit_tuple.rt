@@ -1,15 +1,15 @@
 // The bit-tuple: packed bytes, a whole number, a fraction.
 use super::editions;
 use super::reported::Looked;
-use super::reported::Reported;
 use super::reported::ReportedFraction;
 use super::reported::ReportedNumber;
-use super::reported::report;
 use fraction::Fraction;
 use limits::SIZE;
 use refusal::Answer;
 use refusal::Check;
 use refusal::Number;
+use refusal::Reported;
+use refusal::report;
 ghost use mathlib.Core.Path.{_≡_};
 ghost use mathlib.Core.List.{[]};
 ghost use Prim.Native.Nat.{_≤_};
@@ -19,8 +19,10 @@ ghost use Rattle.refusal.specs.document.Outcome.{told, numbered};
 ghost use Rattle.limits.specs.document.Limits.{size};
 ghost use Rattle.fraction.specs.document.Outcome as fraction;
 ghost use Rattle.zurkhovel.specs.Rooting.{Rooting, Readable, EdgesOf};
-ghost use Rattle.zurkhovel.specs.document.Reported.{Reporting, atRoot};
+ghost use Rattle.refusal.specs.document.Reported.{Reporting};
+ghost use Rattle.zurkhovel.specs.document.Reported.{atRoot};
 ghost use Rattle.zurkhovel.specs.document.Bits.{Pack, Unpack, Whole, Unwhole, InFraction, Unfraction};
+ghost use Rattle.zurkhovel.specs.document.InEdition.{edgeTable};
 
 // The rooted code at a vertex of a skeleton of at most `most` vertices.
 fn rooted(
@@ -52,7 +54,7 @@ fn laid(result: &[u8], out: &mut [u8]) -> Answer
 
 // The packed form of the rooted code at a vertex.
 pub fn pack(edition: usize, n: usize, edges: &[u8], root: usize, out: &mut [u8]) -> Reported
-    ensures { λ r. ⌜ Reporting (Pack edition n (now (edges .entry)) root (now (out .entry)) (now (out .exit))) (atRoot n (now (edges .entry)) root) (told (r .answer)) (r .pairs) ⌝ }
+    ensures { λ r. ⌜ Reporting (Pack (edgeTable edition) n (now (edges .entry)) root (now (out .entry)) (now (out .exit))) (atRoot n (now (edges .entry)) root) (told (r .answer)) (r .pairs) ⌝ }
 {
     let mut code = [0u8; SIZE];
     match rooted(edition, SIZE, n, edges, root, &mut code) {
@@ -70,7 +72,7 @@ pub fn pack(edition: usize, n: usize, edges: &[u8], root: usize, out: &mut [u8])
 
 // The whole number of the rooted code at a vertex.
 pub fn whole(edition: usize, n: usize, edges: &[u8], root: usize) -> ReportedNumber
-    ensures { λ r. ⌜ Reporting (Whole edition n (now (edges .entry)) root) (atRoot n (now (edges .entry)) root) (numbered (r .answer)) (r .pairs) ⌝ }
+    ensures { λ r. ⌜ Reporting (Whole (edgeTable edition) n (now (edges .entry)) root) (atRoot n (now (edges .entry)) root) (numbered (r .answer)) (r .pairs) ⌝ }
 {
     let mut code = [0u8; SIZE];
     match rooted(edition, limits::WHOLE, n, edges, root, &mut code) {
@@ -87,7 +89,7 @@ pub fn whole(edition: usize, n: usize, edges: &[u8], root: usize) -> ReportedNum
 
 // The fraction of the rooted code at a vertex.
 pub fn fraction(edition: usize, n: usize, edges: &[u8], root: usize) -> ReportedFraction
-    ensures { λ r. ⌜ Reporting (InFraction edition n (now (edges .entry)) root) (atRoot n (now (edges .entry)) root) (fraction.toldFraction (r .answer)) (r .pairs) ⌝ }
+    ensures { λ r. ⌜ Reporting (InFraction (edgeTable edition) n (now (edges .entry)) root) (atRoot n (now (edges .entry)) root) (fraction.toldFraction (r .answer)) (r .pairs) ⌝ }
 {
     let mut code = [0u8; SIZE];
     match rooted(edition, limits::FRACTION, n, edges, root, &mut code) {

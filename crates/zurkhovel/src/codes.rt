@@ -1,12 +1,12 @@
 // Digit codes and edge lists.
 use super::editions;
-use super::editions::Lists;
-use super::reported::Reported;
 use super::reported::ReportedVerdict;
 use digit_code::Order;
 use limits::SIZE;
 use refusal::Answer;
 use refusal::Check;
+use refusal::Lists;
+use refusal::Reported;
 ghost use Rattle.refusal.specs.document.Outcome.{told};
 ghost use Rattle.refusal.specs.document.Table.{Clear};
 ghost use Rattle.limits.specs.document.Limits.{size};
@@ -16,7 +16,8 @@ ghost use Rattle.zurkhovel.specs.Rooting.{EndsWhole, LaysEdges};
 ghost use Rattle.zurkhovel.specs.document.Same.{SameSkeleton, said};
 ghost use Rattle.form.specs.document.Form.{nTuple, centred};
 ghost use Rattle.form_coder.specs.document.Pairs.{centredPairs, nTuplePairs};
-ghost use Rattle.zurkhovel.specs.document.Reported.{Reporting, atRoot, OfBoth};
+ghost use Rattle.refusal.specs.document.Reported.{Reporting};
+ghost use Rattle.zurkhovel.specs.document.Reported.{atRoot, OfBoth};
 
 // Whether digits lent by themselves are a right rooted code.
 pub fn check_code(edition: usize, code: &[u8]) -> Answer

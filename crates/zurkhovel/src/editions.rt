@@ -3,10 +3,11 @@ use edition::limit_of;
 use limits::SIZE;
 use refusal::Answer;
 use refusal::Check;
+use refusal::Lists;
 ghost use mathlib.Core.Path.{_≡_};
 ghost use Prim.Native.Nat.{_-_, _*_};
 ghost use lib.ListN.{length};
-ghost use Rattle.refusal.specs.Checks.{Answers};
+ghost use Rattle.refusal.specs.Checks.{Answers, Judges};
 ghost use Rattle.limits.specs.document.Limits.{size};
 ghost use Rattle.edition.specs.document.Edition.{neighboursIn};
 ghost use Rattle.form.specs.document.Form.{nTuple, centred};
@@ -15,7 +16,6 @@ ghost use Rattle.bits.specs.Decided.{Decision};
 ghost use Rattle.fraction.specs.document.Fraction.{bitsOf};
 ghost use Rattle.zurkhovel.specs.document.InEdition.{codeTable, formTable, edgeTable, packedTable, wholeTable, fractionTable, camTable, zeroTable, aTable};
 ghost use Rattle.zurkhovel.specs.document.Same.{bothRows};
-ghost use Rattle.zurkhovel.specs.Both.{Judges};
 
 // Digits lent by themselves, as a right rooted code.
 pub(crate) fn code(edition: usize, code: &[u8]) -> Check
@@ -59,14 +59,6 @@ pub(crate) fn edges(edition: usize, most: usize, n: usize, edges: &[u8], root: u
         return Check::Refuse(22, 0);
     }
     edge_list::check(most, limit, n, edges, root)
-}
-
-// Of two edge lists.
-pub(crate) enum Lists {
-    // Both are accepted.
-    Accepted,
-    // Refused: which list, 1 or 2, or 0 for 22, which belongs to neither; the number of the table; the place.
-    Refused(u8, u8, usize),
 }
 
 // Two edge lists, the first list's refusals first.

@@ -1,13 +1,14 @@
 // Renumberings of one edge list onto another, as maps: one byte for each vertex of the first list, its number in the second.
 use super::editions;
-use super::editions::Lists;
 use super::reported::ReportedMapping;
 use refusal::Answer;
 use refusal::Check;
+use refusal::Lists;
 ghost use Rattle.refusal.specs.document.Table.{Clear};
 ghost use Rattle.limits.specs.document.Limits.{size};
 ghost use Rattle.zurkhovel.specs.document.InEdition.{edgeTable};
-ghost use Rattle.zurkhovel.specs.document.Reported.{Reporting, OfBoth};
+ghost use Rattle.refusal.specs.document.Reported.{Reporting};
+ghost use Rattle.zurkhovel.specs.document.Reported.{OfBoth};
 ghost use Rattle.zurkhovel.specs.document.Maps.{HandOut, CheckRenumbering, mapped};
 
 // Of two edge lists and a map.

@@ -1,12 +1,12 @@
 // CAM, 0A and A0.
 use super::editions;
 use super::reported::Looked;
-use super::reported::Reported;
 use super::reported::ReportedNumber;
 use limits::SIZE;
 use refusal::Answer;
 use refusal::Check;
 use refusal::Number;
+use refusal::Reported;
 ghost use mathlib.Core.Path.{_≡_};
 ghost use Prim.Native.Nat.{_-_, _*_, _≤_, _<_};
 ghost use lib.ListN.{length};
@@ -17,9 +17,9 @@ ghost use Rattle.limits.specs.Width.{width};
 ghost use Rattle.skeleton.specs.document.Skeleton.{IsSkeleton};
 ghost use Rattle.adjacency.specs.document.Adjacency as adjacency;
 ghost use Rattle.form_coder.specs.document.Pairs.{centredPairs};
-ghost use Rattle.zurkhovel.specs.document.Reported.{Reporting};
+ghost use Rattle.refusal.specs.document.Reported.{Reporting};
 ghost use Rattle.zurkhovel.specs.Rooting.{LaysCam, ListingByCode};
-ghost use Rattle.zurkhovel.specs.document.InEdition.{physicalTable};
+ghost use Rattle.zurkhovel.specs.document.InEdition.{edgeTable, physicalTable};
 ghost use Rattle.zurkhovel.specs.document.Matrix.{DecodeCam, DecodeZeroA, DecodeAZero, Cam, ZeroA, AZero, CamByCode, ZeroAByCode, AZeroByCode};
 
 // The edges of a CAM that is accepted, with row 15.
@@ -75,7 +75,7 @@ pub fn decode_a_zero(edition: usize, n: usize, value: u64, out: &mut [u8]) -> An
 // Every refusal of an edge list whose numbering is to be physical, with the form's limit of N.
 fn check(edition: usize, most: usize, n: usize, edges: &[u8]) -> Check
     requires { ⌜ most ≤ size ⌝ }
-    ensures { λ r. ⌜ Answers (physicalTable edition most n (now (edges .entry))) r ⌝ }
+    ensures { λ r. ⌜ Answers (physicalTable (edgeTable edition) most n (now (edges .entry))) r ⌝ }
 {
     if let Check::Refuse(k, p) = editions::edges(edition, most, n, edges, 1) {
         return Check::Refuse(k, p);
@@ -85,7 +85,7 @@ fn check(edition: usize, most: usize, n: usize, edges: &[u8]) -> Check
 
 // The CAM, in the caller's numbering.
 pub fn cam(edition: usize, n: usize, edges: &[u8], out: &mut [u8]) -> Answer
-    ensures { λ r. ⌜ Cam edition n (now (edges .entry)) (now (out .entry)) (now (out .exit)) (told r) ⌝ }
+    ensures { λ r. ⌜ Cam (edgeTable edition) n (now (edges .entry)) (now (out .entry)) (now (out .exit)) (told r) ⌝ }
 {
     if let Check::Refuse(k, p) = check(edition, SIZE, n, edges) {
         return Answer::Refused(k, p);
@@ -110,7 +110,7 @@ fn zero_of(n: usize, edges: &[u8]) -> u64
 
 // The 0A, in the caller's numbering.
 pub fn zero_a(edition: usize, n: usize, edges: &[u8]) -> Number
-    ensures { λ r. ⌜ ZeroA edition n (now (edges .entry)) (numbered r) ⌝ }
+    ensures { λ r. ⌜ ZeroA (edgeTable edition) n (now (edges .entry)) (numbered r) ⌝ }
 {
     if let Check::Refuse(k, p) = check(edition, limits::ZERO_A, n, edges) {
         return Number::Refused(k, p);
@@ -120,7 +120,7 @@ pub fn zero_a(edition: usize, n: usize, edges: &[u8]) -> Number
 
 // The A0, in the caller's numbering.
 pub fn a_zero(edition: usize, n: usize, edges: &[u8]) -> Number
-    ensures { λ r. ⌜ AZero edition n (now (edges .entry)) (numbered r) ⌝ }
+    ensures { λ r. ⌜ AZero (edgeTable edition) n (now (edges .entry)) (numbered r) ⌝ }
 {
     if let Check::Refuse(k, p) = editions::edges(edition, limits::A_ZERO, n, edges, 1) {
         return Number::Refused(k, p);
@@ -141,7 +141,7 @@ fn by_code(edition: usize, most: usize, n: usize, edges: &[u8], ends: &mut [u8])
 
 // The CAM by code.
 pub fn cam_by_code(edition: usize, n: usize, edges: &[u8], out: &mut [u8]) -> Reported
-    ensures { λ r. ⌜ Reporting (CamByCode edition n (now (edges .entry)) (now (out .entry)) (now (out .exit))) (centredPairs n (now (edges .entry))) (told (r .answer)) (r .pairs) ⌝ }
+    ensures { λ r. ⌜ Reporting (CamByCode (edgeTable edition) n (now (edges .entry)) (now (out .entry)) (now (out .exit))) (centredPairs n (now (edges .entry))) (told (r .answer)) (r .pairs) ⌝ }
 {
     let mut ends = [0u8; limits::ENDS];
     let m = edges.len();
@@ -169,7 +169,7 @@ pub fn cam_by_code(edition: usize, n: usize, edges: &[u8], out: &mut [u8]) -> Re
 
 // The 0A by code.
 pub fn zero_a_by_code(edition: usize, n: usize, edges: &[u8]) -> ReportedNumber
-    ensures { λ r. ⌜ Reporting (ZeroAByCode edition n (now (edges .entry))) (centredPairs n (now (edges .entry))) (numbered (r .answer)) (r .pairs) ⌝ }
+    ensures { λ r. ⌜ Reporting (ZeroAByCode (edgeTable edition) n (now (edges .entry))) (centredPairs n (now (edges .entry))) (numbered (r .answer)) (r .pairs) ⌝ }
 {
     let mut ends = [0u8; limits::ENDS];
     let m = edges.len();
@@ -187,7 +187,7 @@ pub fn zero_a_by_code(edition: usize, n: usize, edges: &[u8]) -> ReportedNumber
 
 // The A0 by code.
 pub fn a_zero_by_code(edition: usize, n: usize, edges: &[u8]) -> ReportedNumber
-    ensures { λ r. ⌜ Reporting (AZeroByCode edition n (now (edges .entry))) (centredPairs n (now (edges .entry))) (numbered (r .answer)) (r .pairs) ⌝ }
+    ensures { λ r. ⌜ Reporting (AZeroByCode (edgeTable edition) n (now (edges .entry))) (centredPairs n (now (edges .entry))) (numbered (r .answer)) (r .pairs) ⌝ }
 {
     let mut ends = [0u8; limits::ENDS];
     let m = edges.len();

@@ -1,19 +1,9 @@
-// What the calls that order children answer: the answer itself, and how many pairs of digits were looked at to put siblings in order. With a
+// What the calls that order children answer, beside `refusal::Reported`: the answer itself, and how many pairs of digits were looked at to put siblings in order. With a
 // refusal that number is 0.
 use super::codes::Verdict;
 use super::maps::Mapping;
 use fraction::Fraction;
-use refusal::Answer;
 use refusal::Number;
-ghost use mathlib.Core.Path.{_≡_};
-ghost use Rattle.refusal.specs.document.Outcome.{told};
-ghost use Rattle.zurkhovel.specs.document.Reported.{Reports};
-
-// Of a call that writes a result into a lent output.
-pub struct Reported {
-    pub answer: Answer,
-    pub pairs: usize,
-}
 
 // Of a call that is asked for a whole number.
 pub struct ReportedNumber {
@@ -43,20 +33,4 @@ pub struct ReportedMapping {
 pub(crate) enum Looked {
     Pairs(usize),
     Refused(u8, usize),
-}
-
-// An answer behind a code for which so many pairs were looked at.
-pub(crate) fn report(answer: Answer, looked: usize) -> Reported
-    ensures { λ r. ⌜ (r .answer ≡ answer) × Reports (λ n. n ≡ looked) (told (r .answer)) (r .pairs) ⌝ }
-{
-    match answer {
-        Answer::Done(n) => Reported {
-            answer: Answer::Done(n),
-            pairs: looked,
-        },
-        Answer::Refused(k, p) => Reported {
-            answer: Answer::Refused(k, p),
-            pairs: 0,
-        },
-    }
 }

@@ -1,15 +1,17 @@
 // Lines: one, and a text of them.
 use super::editions;
-use super::reported::Reported;
 use limits::SIZE;
 use limits::VALENCE;
 use lines::Progress;
 use refusal::Answer;
 use refusal::Check;
+use refusal::Reported;
 ghost use Rattle.refusal.specs.document.Outcome.{told};
 ghost use Rattle.form_coder.specs.document.Pairs.{centredPairs};
-ghost use Rattle.zurkhovel.specs.document.Reported.{Reporting};
-ghost use Rattle.zurkhovel.specs.document.Lines.{ReadLine, WriteLine, ReadText, Counted, ListText};
+ghost use Rattle.refusal.specs.document.Reported.{Reporting};
+ghost use Rattle.zurkhovel.specs.document.Lines.{ReadLine, WriteLine, ReadText, ListText};
+ghost use Rattle.zurkhovel.specs.document.InEdition.{edgeTable};
+ghost use Rattle.texts.specs.document.Demand.{Counted};
 
 // The digits of a text's first line, as values.
 pub fn read_line(edition: usize, text: &[u8], out: &mut [u8]) -> Answer
@@ -20,7 +22,7 @@ pub fn read_line(edition: usize, text: &[u8], out: &mut [u8]) -> Answer
 
 // The line of a skeleton's centred code.
 pub fn write_line(edition: usize, n: usize, edges: &[u8], out: &mut [u8]) -> Reported
-    ensures { λ r. ⌜ Reporting (WriteLine edition n (now (edges .entry)) (now (out .entry)) (now (out .exit))) (centredPairs n (now (edges .entry))) (told (r .answer)) (r .pairs) ⌝ }
+    ensures { λ r. ⌜ Reporting (WriteLine (edgeTable edition) n (now (edges .entry)) (now (out .entry)) (now (out .exit))) (centredPairs n (now (edges .entry))) (told (r .answer)) (r .pairs) ⌝ }
 {
     if let Check::Refuse(k, p) = editions::edges(edition, SIZE, n, edges, 1) {
         return Reported {

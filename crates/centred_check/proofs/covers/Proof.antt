@@ -6,7 +6,7 @@ use denote.Ref.{now}
 use lib.ListN.{getD}
 use borrow.Author.Needs.{needs}
 use Rattle.digit_code.specs.Compare.{told-rises}
-use Rattle.centred_check.specs.Middle.{fewer}
+use Rattle.skeleton.specs.Label.{fewer}
 use Rattle.centred_check.specs.Kinds.{kinds, fewer-by, unit-fits}
 use Rattle.centred_check.specs.Over.{covers-not, covers-so, covers-by}
 use Rattle.centred_check.proofs.covers.Statement.{statement}

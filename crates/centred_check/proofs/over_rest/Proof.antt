@@ -6,7 +6,7 @@ use denote.Ref.{now}
 use lib.ListN.{getD}
 use borrow.Author.Needs.{needs}
 use Rattle.digit_code.specs.Compare.{told-falls}
-use Rattle.centred_check.specs.Middle.{fewer}
+use Rattle.skeleton.specs.Label.{fewer}
 use Rattle.centred_check.specs.Kinds.{kinds, fewer-by, unit-fits}
 use Rattle.centred_check.specs.Over.{rest-not, rest-so, rest-by}
 use Rattle.centred_check.proofs.over_rest.Statement.{statement}

@@ -4,6 +4,7 @@ use Rattle.refusal.specs.Laws.{stops, goes-on, was-clear}
 use Rattle.digit_code.specs.Right.{clear-right}
 use Rattle.edge_list.specs.Tables.{in-rows}
 use Rattle.form.specs.Accepted.{right-decoded}
+use Rattle.form_coder.proofs.Again.{digits-small}
 use Rattle.form_coder.proofs.check_n_tuple.Statement.{statement}
 use Rattle.form_coder.proofs.check_n_tuple.Tie as tie
 
@@ -17,5 +18,5 @@ check-n-tuple-spec =
     (λ c. search needs)
     (λ c κs. let s = c .before .before .before .before in
     let k = clear-right _ _ _ (was-clear (c .before .before .check .ensures) (c .enum-told .given .1)) in
-    (k .ends, in-rows (s .pre .1) (right-decoded _ _ _ k)))
+    ((k .ends, in-rows (s .pre .1) (right-decoded _ _ _ k)), digits-small k (s .pre .1)))
     (λ c. goes-on (c .before .before .before .check .ensures) (c .before .enum-told .given .1) (c .judged .ensures)))

@@ -2,7 +2,7 @@
 use native.Mathlib.Omega.{arith}
 use borrow.Author.Needs.{needs}
 use Rattle.lines.specs.Form.{begins}
-use Rattle.lines.proofs.Forming.{begins-one, begins-two, no-beginning, value-digit}
+use Rattle.lines.specs.Forming.{begins-one, begins-two, no-beginning, value-digit}
 use Rattle.lines.proofs.begin.Statement.{statement}
 use Rattle.lines.proofs.begin.Tie as tie
 

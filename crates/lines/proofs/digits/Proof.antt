@@ -5,8 +5,8 @@ use borrow.Author.Needs.{needs}
 use lib.ListN.{length}
 use Rattle.lines.specs.Form.{all, not-all}
 use Rattle.lines.specs.document.Marks.{WrittenDigit}
-use Rattle.texts.specs.Each.{Passed, passed-more, passed-all}
-use Rattle.lines.proofs.Forming.{is-figure, some-other}
+use Rattle.laws.specs.Each.{Passed, passed-more, passed-all}
+use Rattle.lines.specs.Forming.{is-figure, some-other}
 use Rattle.lines.proofs.digits.Statement.{statement}
 use Rattle.lines.proofs.digits.Tie as tie
 

@@ -3,7 +3,7 @@ use native.Mathlib.Omega.{arith}
 use borrow.Author.Needs.{needs}
 use lib.ListN.{length}
 use Rattle.lines.specs.Plain.{length-line}
-use Rattle.lines.proofs.Writing.{length-short, length-long}
+use Rattle.texts.specs.Numerals.{length-short, length-long}
 use Rattle.lines.proofs.extent.Statement.{statement}
 use Rattle.lines.proofs.extent.Tie as tie
 

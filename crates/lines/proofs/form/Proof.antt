@@ -1,7 +1,7 @@
 -- `lines::form` meets its contract: a count and a space, then digits. Assumes nothing.
 use borrow.Author.Needs.{needs}
 use Rattle.lines.specs.Form.{Begins}
-use Rattle.lines.proofs.Forming.{opened, unopened, begins-within, has-form, has-none}
+use Rattle.lines.specs.Forming.{opened, unopened, begins-within, has-form, has-none}
 use Rattle.lines.proofs.form.Statement.{statement}
 use Rattle.lines.proofs.form.Tie as tie
 

@@ -5,7 +5,7 @@ use lib.ListN.{length}
 use Rattle.laws.specs.Laying.{Mapped, mapped-none, mapped-more, mapped-all}
 use Rattle.lines.specs.Form.{values}
 use Rattle.lines.specs.document.Marks.{WrittenDigit}
-use Rattle.texts.specs.Each.{each-at}
+use Rattle.laws.specs.Each.{each-at}
 use Rattle.lines.proofs.read_digits.Statement.{statement}
 use Rattle.lines.proofs.read_digits.Tie as tie
 

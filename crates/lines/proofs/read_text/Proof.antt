@@ -1,4 +1,6 @@
 -- `lines::read_text` meets its contract: the loop keeps what is read so far. Assumes nothing.
+use mathlib.Core.Path.{refl}
+use mathlib.Core.List.{[], _∷_}
 use Prim.Native.Nat.{_+_, _*_, _-_}
 use native.Mathlib.Nat.{le-add-right}
 use native.Mathlib.Omega.{arith}
@@ -7,12 +9,16 @@ use mir.Val.{Fits}
 use borrow.Author.Count.{falls}
 use borrow.Author.Needs.{needs}
 use Rattle.limits.specs.document.Limits.{size}
-use Rattle.lines.proofs.Passing.{Going, none-read, lengths, room-now, fits, not-past, at-end, no-room, going-more}
+use Rattle.texts.specs.Turns.{read-none}
+use Rattle.texts.specs.Going.{Going, lengths, room-now, going-more, not-past, at-end, no-room}
+use Rattle.lines.specs.document.Reading.{linesOf, digitsLent}
+use Rattle.lines.proofs.Passing.{spacious, room-for, in-words}
 use Rattle.lines.proofs.read_text.Statement.{statement}
 use Rattle.lines.proofs.read_text.Tie as tie
 
 abbrev Inv-loop : tie.InvT-loop
-Inv-loop edition text records₀ numbers₀ places₀ lines k₀ at₀ records numbers places k at = Going edition text records₀ numbers₀ places₀ lines records numbers places k at
+Inv-loop edition text records₀ numbers₀ places₀ lines k₀ at₀ records numbers places k at =
+    Going (linesOf edition) (digitsLent size) text (records₀ ∷ []) numbers₀ places₀ lines (records ∷ []) numbers places k at
 
 abbrev μ-loop : tie.MeasureT-loop
 μ-loop edition text records₀ numbers₀ places₀ lines k₀ at₀ records numbers places k at = lines - k
@@ -35,12 +41,14 @@ abbrev turn : tie.Else1 Inv-loop μ-loop → tie.In-loop Inv-loop μ-loop
 turn c = c .before
 
 word : (c : tie.In-loop Inv-loop μ-loop) → Fits w64 (size * c .before .loop .k) × Fits w64 (size * c .before .loop .k + size) × Fits w64 (c .before .loop .k + 1)
-word c = fits (c .before .loop .inv) (c .loop-test .taken) (lent (c .before .before) .good .1 .1 .0 .0)
+word c =
+    let i = c .before .loop .inv in
+    in-words (c .before .loop .k) (room-now (spacious _) i (c .loop-test .taken) .0 .0) (lengths (spacious _) i .0 .0) (lent (c .before .before) .good .1 .1 .0 .0)
 
 note-requires : tie.Need-note-requires Inv-loop μ-loop
 note-requires c κs =
     let i = turn (read (c .before .before .before .before)) in
-    let r = room-now (i .before .loop .inv) (i .loop-test .taken) in
+    let r = room-now (spacious _) (i .before .loop .inv) (i .loop-test .taken) in
     (r .1, r .2)
 
 behind-requires : tie.Need-behind-requires Inv-loop μ-loop
@@ -53,7 +61,8 @@ loop-again c =
     let n = behind c in
     let r = noted n in
     let e = read r in
-    going-more (e .before .before .loop .inv) (e .before .loop-test .taken) (e .if1 .left) (r .read-line-of .ensures) (n .note .ensures) (c .behind .ensures)
+    let i = e .before .before .loop .inv in
+    going-more (spacious _) i (e .before .loop-test .taken) (not-past i (e .if1 .left)) (r .read-line-of .ensures) (n .note .ensures) (c .behind .ensures)
 
 pub read-text-spec : {M : Type 1} → statement M
 read-text-spec =
@@ -62,10 +71,10 @@ read-text-spec =
     Inv-loop
     μ-loop
     (λ c κs. search needs)
-    (λ c. record { read = none-read _ _ _ _ _; room = c .room .ensures; below = omega arith })
-    (λ c. lengths (c .before .before .loop .inv) .0)
-    (λ c. lengths (c .before .before .loop .inv) .1)
-    (λ c. lengths (c .before .before .loop .inv) .2)
+    (λ c. record { read = read-none _ _ _ _ _ _ (refl, tt); room = room-for _ _ _ (c .room .ensures); below = omega arith })
+    (λ c. lengths (spacious _) (c .before .before .loop .inv) .0 .0)
+    (λ c. lengths (spacious _) (c .before .before .loop .inv) .1)
+    (λ c. lengths (spacious _) (c .before .before .loop .inv) .2)
     (λ c. at-end (c .before .before .loop .inv) (c .if1 .taken))
     (λ c. c .before .before .loop .inv .read .within)
     (λ c. c .before .before .loop .inv .read .within)
@@ -75,14 +84,14 @@ read-text-spec =
     (λ c. word (c .before .before) .1)
     (λ c. le-add-right (size * c .before .before .before .loop .k) size)
     (λ c. le-add-right (size * c .before .before .before .loop .k) size)
-    (λ c. room-now (c .before .before .before .loop .inv) (c .before .before .loop-test .taken) .0)
+    (λ c. room-now (spacious _) (c .before .before .before .loop .inv) (c .before .before .loop-test .taken) .0 .0)
     (λ c κs. search needs)
     note-requires
     behind-requires
     (λ c. word (turn (read (noted (behind c)))) .2)
     (λ c. falls _ _ (turn (read (noted (behind c))) .loop-test .taken))
     loop-again
-    (λ c. lengths (c .before .loop .inv) .0)
-    (λ c. lengths (c .before .loop .inv) .1)
-    (λ c. lengths (c .before .loop .inv) .2)
+    (λ c. lengths (spacious _) (c .before .loop .inv) .0 .0)
+    (λ c. lengths (spacious _) (c .before .loop .inv) .1)
+    (λ c. lengths (spacious _) (c .before .loop .inv) .2)
     (λ c. no-room (c .before .loop .inv) (c .loop-test .left)))

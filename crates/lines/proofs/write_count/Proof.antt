@@ -2,7 +2,8 @@
 use native.Mathlib.Omega.{arith}
 use borrow.Author.Needs.{needs}
 use lib.ListN.{length-set}
-use Rattle.lines.proofs.Writing.{length-short, length-long, one-written, two-written}
+use Rattle.texts.specs.Numerals.{length-short, length-long}
+use Rattle.lines.proofs.Writing.{one-written, two-written}
 use Rattle.lines.proofs.write_count.Statement.{statement}
 use Rattle.lines.proofs.write_count.Tie as tie
 

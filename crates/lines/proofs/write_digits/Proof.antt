@@ -4,7 +4,7 @@ use native.Mathlib.Omega.{arith}
 use lib.ListN.{length}
 use Rattle.laws.specs.Laying.{Mapped, mapped-none, mapped-more, mapped-all}
 use Rattle.texts.specs.document.Numerals.{Digit, figures}
-use Rattle.texts.specs.Each.{each-at}
+use Rattle.laws.specs.Each.{each-at}
 use Rattle.lines.proofs.write_digits.Statement.{statement}
 use Rattle.lines.proofs.write_digits.Tie as tie
 

@@ -8,9 +8,9 @@ use mathlib.Core.Path.{_≡_}
 use mathlib.Core.List.{List, [], _∷_, _++_, map}
 use Prim.Native.Nat.{ℕ, _≤_}
 use lib.ListN.{length}
-use Rattle.refusal.specs.document.Table.{Row, Outcome, row3}
+use Rattle.refusal.specs.document.Table.{Row, row3}
 use Rattle.texts.specs.document.Numerals.{figures, decimal, Digits, IsCount}
-use Rattle.texts.specs.document.Text.{PartRow, through, Format, textOf}
+use Rattle.texts.specs.document.Text.{PartRow, through, Format}
 
 -- the line of the code c, without its line feed
 unfoldable pub body : List ℕ → List ℕ
@@ -19,10 +19,6 @@ body c = decimal (length c) ++ (32 ∷ figures c)
 -- the line of the code c
 unfoldable pub line : List ℕ → List ℕ
 line c = body c ++ (10 ∷ [])
-
--- the text of the codes cs, a line for each
-abbrev pub written : List (List ℕ) → List ℕ
-written cs = textOf body cs
 
 -- what the form of a line shows: what its count says, and its digits
 pub record Front : Type 0 where
@@ -68,7 +64,3 @@ plainLines most rows =
       carries = λ q. q .digits;
       parts = λ c. front (length c) c;
     }
-
--- the answer to a line: its digits, or a refusal
-abbrev pub Reply : Type 0
-Reply = Outcome (List ℕ)

@@ -1,7 +1,8 @@
 -- "No line may ever hold a decimal mark: the text carries digits only": the bytes of a line, and those that are marks in it. Assumes nothing.
 use mathlib.Core.List.{List, [], _∷_, _++_}
 use Prim.Native.Nat.{ℕ, _≤_}
-use Rattle.texts.specs.document.Bytes.{Each, Other}
+use Rattle.laws.specs.document.Each.{Each}
+use Rattle.texts.specs.document.Bytes.{Other}
 use mathlib.Core.Path.{_≡_}
 use mathlib.Core.Logic.{_⊎_}
 

@@ -1,22 +1,24 @@
--- `listing_text::first` meets its contract: `size` bytes are room enough. Assumes nothing.
-use native.Mathlib.Omega.{arith}
+-- `listing_text::first` meets its contract, for lines of each kind. Assumes nothing.
+use mathlib.Core.Path.{sym, subst}
 use borrow.Author.Needs.{needs}
-use Rattle.limits.specs.document.Limits.{size}
-use mathlib.Core.Path.{refl}
-use mathlib.Core.List.{[], _∷_}
-use Rattle.texts.specs.Taking.{line-read}
-use Rattle.lines.specs.document.Line.{plainLines}
-use Rattle.lines.specs.document.Judged.{digitTable}
-use Rattle.lines.specs.document.Reading.{digitsLent}
-use Rattle.lines.specs.Plain.{plain-once, plain-few}
+use Rattle.refusal.specs.document.Outcome.{told}
+use Rattle.listing_text.specs.Steps.{linesOfKind, Allowed, Replied}
+use Rattle.listing_text.specs.declared.Kind.{Kind}
 use Rattle.listing_text.proofs.first.Statement.{statement}
 use Rattle.listing_text.proofs.first.Tie as tie
 
+first-plain-requires : tie.Need-first-plain-requires
+first-plain-requires c κs = subst (λ (k : Kind). Allowed k) (c .before .kind .given .1) (c .before .before .before .before .pre)
+
 returns : tie.Need-returns
 returns c =
-    let R = c .before .before .before .before .args .limit in
-    let r = line-read (plainLines size (digitTable R)) (digitsLent size) plain-once (plain-few size (digitTable R)) (_ ∷ []) (omega arith, tt) (refl, tt) (c .before .read-line .ensures) in
-    record { answer = r .answer; line = r .line; tells = r .told }
+    let s = c .before .before .before .before .before in
+    subst (λ (k : Kind). Replied (linesOfKind k) (s .args .text .now) (told (c .first-plain .result))) (sym (c .before .before .kind .given .1)) (c .first-plain .ensures)
+
+returns-2 : tie.Need-returns-2
+returns-2 c =
+    let s = c .before .before .before .before in
+    subst (λ (k : Kind). Replied (linesOfKind k) (s .args .text .now) (told (c .first-named .result))) (sym (c .before .enum-told .given .1)) (c .first-named .ensures)
 
 pub first-spec : {M : Type 1} → statement M
-first-spec = tie.close (tie.spec (λ c. search needs) (λ c κs. search needs) returns)
+first-spec = tie.close (tie.spec (λ c. search needs) first-plain-requires (λ c. search needs) (λ c κs. search needs) returns returns-2)

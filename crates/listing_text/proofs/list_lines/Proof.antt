@@ -5,16 +5,17 @@ use native.Mathlib.Omega.{arith}
 use borrow.Author.Needs.{needs}
 use lib.ListN.{length}
 use Rattle.refusal.specs.document.Outcome.{told}
+use Rattle.listing_text.specs.Steps.{linesOfKind}
 use Rattle.listing_text.proofs.Putting.{long}
 use Rattle.listing_text.proofs.Passing.{Going, going-none, going-more, behind-falls, not-more, one-more, going-all}
 use Rattle.listing_text.proofs.list_lines.Statement.{statement}
 use Rattle.listing_text.proofs.list_lines.Tie as tie
 
 abbrev Inv-loop : tie.InvT-loop
-Inv-loop limit text from out₀ w₀ at₀ line₀ read₀ out w at line read = Going limit text from out₀ out (w .skip) (w .done) at line read
+Inv-loop kind text from out₀ w₀ at₀ line₀ read₀ out w at line read = Going (linesOfKind kind) text from out₀ out (w .skip) (w .done) at line read
 
 abbrev μ-loop : tie.MeasureT-loop
-μ-loop limit text from out₀ w₀ at₀ line₀ read₀ out w at line read = length text - at
+μ-loop kind text from out₀ w₀ at₀ line₀ read₀ out w at line read = length text - at
 
 -- a turn, from its last step back: the answer was put, its line answered, the line met
 abbrev put : tie.After-slice-known2 Inv-loop μ-loop → tie.After-answer Inv-loop μ-loop

@@ -4,7 +4,7 @@
 -- in a line feed, `input too long` too."
 --
 -- In order: a number as it is written; the line for an answer; the last line; the listing of a text; the promise of a call that writes
--- a piece of it. What answers a text is `TextAnswers` of plain lines. Assumes nothing.
+-- a piece of it. What answers a text is `TextAnswers`; which lines it has is a parameter, and at the end stand plain lines. Assumes nothing.
 use mathlib.Core.Path.{_≡_}
 use mathlib.Core.Logic.{ite}
 use mathlib.Core.List.{List, [], _∷_, _++_}
@@ -13,9 +13,9 @@ use native.Mathlib.Decide.{decLt}
 use lib.ListN.{length, take, drop}
 use Rattle.laws.specs.document.Laid.{Laid}
 use Rattle.refusal.specs.document.Table.{Outcome, gives, refuses}
-use Rattle.texts.specs.document.Text.{TextAnswers}
+use Rattle.texts.specs.document.Text.{Format, TextAnswers}
 use Rattle.texts.specs.document.Damage.{records, refusals}
-use Rattle.lines.specs.document.Line.{DigitRow, plainLines, Reply}
+use Rattle.lines.specs.document.Line.{DigitRow, plainLines}
 
 -- bytes of an input, at most
 abbrev pub longest : ℕ
@@ -53,7 +53,7 @@ unfoldable pub answerLine : {A : Type 0} → ℕ → Outcome A → List ℕ
 answerLine i o = numeral i ++ space ++ numeral (refusalNumber o) ++ space ++ numeral (place o) ++ feed
 
 -- the lines for answers, the first of which is the answer to line i
-unfoldable pub answerLines : ℕ → List Reply → List ℕ
+unfoldable pub answerLines : {A : Type 0} → ℕ → List (Outcome A) → List ℕ
 answerLines i [] = []
 answerLines i (o ∷ os) = answerLine i o ++ answerLines (suc i) os
 
@@ -70,22 +70,26 @@ unfoldable pub totals : ℕ → ℕ → List ℕ
 totals R F = readWord ++ space ++ numeral R ++ space ++ refusedWord ++ space ++ numeral F ++ feed
 
 -- the listing of a text with these answers
-unfoldable pub listed : List Reply → List ℕ
+unfoldable pub listed : {A : Type 0} → List (Outcome A) → List ℕ
 listed os = answerLines 1 os ++ totals (length (records os)) (refusals os)
 
 -- `input too long`
 abbrev pub tooLong : List ℕ
 tooLong = 105 ∷ 110 ∷ 112 ∷ 117 ∷ 116 ∷ 32 ∷ 116 ∷ 111 ∷ 111 ∷ 32 ∷ 108 ∷ 111 ∷ 110 ∷ 103 ∷ feed
 
--- most is the largest N of a line, rows judge its digits
-module _ (most : ℕ) (rows : List DigitRow) where
+-- of a text of lines of this format
+module _ {A F : Type 0} (format : Format A F) where
   -- l is the listing of the text t
   pub data Listing (t l : List ℕ) : Type 0 where
     longer : longest < length t → l ≡ tooLong → Listing t l
-    lines : (os : List Reply) → length t ≤ longest → TextAnswers (plainLines most rows) t os → l ≡ listed os → Listing t l
+    lines : (os : List (Outcome A)) → length t ≤ longest → TextAnswers format t os → l ≡ listed os → Listing t l
 
   -- what is lent holds the listing of t from byte `from` on, as much as it has room for, which is n bytes; bytes count from 0
-  pub record Lists (t old new : List ℕ) (from n : ℕ) : Type 0 where
+  pub record ListsOf (t old new : List ℕ) (from n : ℕ) : Type 0 where
     pub listing : List ℕ
     pub right : Listing t listing
     pub piece : Laid (take (length old) (drop from listing)) old new n
+
+-- of a text of plain lines: most is the largest N of a line, rows judge its digits
+abbrev pub Lists : ℕ → List DigitRow → List ℕ → List ℕ → List ℕ → ℕ → ℕ → Type 0
+Lists most rows = ListsOf (plainLines most rows)

@@ -8,6 +8,7 @@ use Prim.Native.Nat.{ℕ, zero, suc, _+_, _^_}
 use native.Mathlib.Decide.{ℕ-discrete, decLe}
 use Rattle.digit_code.specs.document.Code.{sum}
 use Rattle.skeleton.specs.document.Skeleton.{Arc, arcs, children, codeAt}
+use Rattle.skeleton.specs.document.Label.{Marks, codeₗ}
 
 -- the pairs of digits looked at when two codes are compared: "up to and including the first difference, or the whole code if equal"; where one
 -- begins the other, the whole shorter one
@@ -21,14 +22,18 @@ unfoldable pub siblingPairs : List (List ℕ) → ℕ
 siblingPairs [] = 0
 siblingPairs (c ∷ cs) = sum (map (digitPairs c) cs) + siblingPairs cs
 
--- over all pairs of v's children, and the same at each of these; p is v's parent, and n bounds how deep it goes
-unfoldable pub pairsAt : ℕ → List Arc → ℕ → ℕ → ℕ
-pairsAt zero A p v = 0
-pairsAt (suc n) A p v = siblingPairs (map (codeAt n A v) (children A p v)) + sum (map (pairsAt n A v) (children A p v))
+-- over all pairs of v's children, and the same at each of these; `code` is the code of what hangs at a vertex, p is v's parent, and n bounds how deep it goes
+unfoldable pub pairsAt : (ℕ → List Arc → ℕ → ℕ → List ℕ) → ℕ → List Arc → ℕ → ℕ → ℕ
+pairsAt code zero A p v = 0
+pairsAt code (suc n) A p v = siblingPairs (map (code n A v) (children A p v)) + sum (map (pairsAt code n A v) (children A p v))
 
 -- the pairs of digits looked at for the rooted code at r of a tree of N vertices
 unfoldable pub rootedPairs : ℕ → List ℕ → ℕ → ℕ
-rootedPairs N E r = pairsAt N (arcs E) 0 r
+rootedPairs N E r = pairsAt codeAt N (arcs E) 0 r
+
+-- with labels, the pairs of marks; M says how a vertex is written by the number of its children and its label
+unfoldable pub rootedPairsₗ : (M : Marks) → (ℕ → M .Label) → ℕ → List ℕ → ℕ → ℕ
+rootedPairsₗ M label N E r = pairsAt (codeₗ M label) N (arcs E) 0 r
 
 -- the whole part of log2 n, for n from 1: one more at each power of two
 unfoldable pub log2 : ℕ → ℕ

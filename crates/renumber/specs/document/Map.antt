@@ -13,7 +13,7 @@ use Rattle.refusal.specs.document.Table.{Row, Outside}
 use Rattle.skeleton.specs.document.Skeleton.{arcs, rooted, Renumbering}
 use Rattle.numbering.specs.document.Order.{order}
 use Rattle.edge_list.specs.document.Edges.{Edge, firstEnd, secondEnd}
-use Rattle.form.specs.document.Root.{CentredRoot}
+use Rattle.form.specs.document.Root.{RootOf}
 
 -- the map has an entry number p
 abbrev pub Entry : List ℕ → ℕ → Type 0
@@ -51,13 +51,18 @@ mapRows N E P F w = row5-map N P w ∷ row18 N w ∷ row19 E F w ∷ []
 abbrev pub Renumbers : ℕ → List ℕ → ℕ → List ℕ → List ℕ → Type 0
 Renumbers N E P F w = (N ≡ P) × (length w ≡ N) × (ρ : Renumbering N E F) × ((v : ℕ) → 1 ≤ v → v ≤ N → image w v ≡ ρ .to v)
 
--- The map that is handed out: a renumbering of the first list onto the second, which sends the vertex of each digit of the first list's centred code to that of
--- the same digit of the second's. Each list is numbered from its own root on (`CentredRoot`), of siblings with equal codes the one whose edge is listed first (`order`).
-pub record HandedOut (N : ℕ) (E : List ℕ) (P : ℕ) (F w : List ℕ) : Type 0 where
+-- A map that is handed out: it is such a renumbering as R says, and sends the vertex of each digit of the first list's centred code to that of the same
+-- digit of the second's. Each list is numbered from its own root on (`RootOf`). `at v` is the first list's code at the root v and `ord v` its vertices in the
+-- order of that code's digits; `at₂` and `ord₂` are the second's.
+pub record HandedBy (N : ℕ) (E : List ℕ) (P : ℕ) (F : List ℕ) (at at₂ ord ord₂ : ℕ → List ℕ) (R : List ℕ → Type 0) (w : List ℕ) : Type 0 where
   pub root : ℕ
-  pub rule : CentredRoot N E root
+  pub rule : RootOf N E at root
   pub root₂ : ℕ
-  pub rule₂ : CentredRoot P F root₂
-  pub codes : rooted N E root ≡ rooted P F root₂
-  pub sends : (i : ℕ) → i < N → image w (getD (order N E root) i 0) ≡ getD (order P F root₂) i 0
-  pub renumbers : Renumbers N E P F w
+  pub rule₂ : RootOf P F at₂ root₂
+  pub codes : at root ≡ at₂ root₂
+  pub sends : (i : ℕ) → i < N → image w (getD (ord root) i 0) ≡ getD (ord₂ root₂) i 0
+  pub renumbers : R w
+
+-- the map that is handed out, a renumbering of the first list onto the second: of siblings with equal codes the one whose edge is listed first goes first (`order`)
+abbrev pub HandedOut : ℕ → List ℕ → ℕ → List ℕ → List ℕ → Type 0
+HandedOut N E P F w = HandedBy N E P F (rooted N E) (rooted P F) (order N E) (order P F) (Renumbers N E P F) w

@@ -1,12 +1,8 @@
--- Bytes of a text: what holds of each of them, and a text cut at the first of a kind. Assumes nothing.
+-- Bytes of a text: one that none of them is, and a text cut at the first of a kind. Assumes nothing.
 use mathlib.Core.Path.{_≡_}
-use mathlib.Core.List.{List, [], _∷_, _++_}
+use mathlib.Core.List.{List, _∷_, _++_}
 use Prim.Native.Nat.{ℕ}
-
--- P holds of each number of t
-abbrev pub Each : (ℕ → Type 0) → List ℕ → Type 0
-Each P [] = Unit {0}
-Each P (a ∷ t) = P a × Each P t
+use Rattle.laws.specs.document.Each.{Each}
 
 -- a is not k
 abbrev pub Other : ℕ → ℕ → Type 0

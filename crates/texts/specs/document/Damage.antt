@@ -1,5 +1,4 @@
--- Demand 3: what a changed byte is, and records among others in their order. The statements are in the crate `zurkhovel`, `Demand`.
--- Assumes nothing.
+-- Demand 3: what a changed byte is, and records among others in their order. The statements are in `Demand`. Assumes nothing.
 use mathlib.Core.Path.{_≡_}
 use mathlib.Core.List.{List, [], _∷_, _++_}
 use Prim.Native.Nat.{ℕ, suc}

@@ -4,8 +4,8 @@ use native.Mathlib.Omega.{arith}
 use denote.Ref.{now}
 use lib.ListN.{length, getD}
 use borrow.Author.Needs.{needs}
-use Rattle.digit_code.specs.document.Code.{plain}
 use Rattle.digit_code.specs.Parts.{Ending}
+use Rattle.skeleton.specs.document.AtomMarks.{atoms}
 use Rattle.vertices.proofs.Telling.{parent-before, parents-differ, lengths-differ, codes-decide}
 use Rattle.vertices.proofs.alike.Statement.{statement}
 use Rattle.vertices.proofs.alike.Tie as tie
@@ -36,10 +36,10 @@ module _ (s : tie.Start) where
   before-v = before (s .args .v) (omega (arith, s .pre .1 .1 .0)) (s .pre .1 .1 .0 .2)
 
   -- where the part of a vertex ends
-  ending-u : Ending plain (now (s .args .code)) (s .args .u) (getD (now (s .args .ends)) (s .args .u) 0)
+  ending-u : Ending (atoms .arity) (now (s .args .code)) (s .args .u) (getD (now (s .args .ends)) (s .args .u) 0)
   ending-u = s .pre .0 .ending (s .args .u) (omega arith) (omega (arith, s .pre .1 .1 .0))
 
-  ending-v : Ending plain (now (s .args .code)) (s .args .v) (getD (now (s .args .ends)) (s .args .v) 0)
+  ending-v : Ending (atoms .arity) (now (s .args .code)) (s .args .v) (getD (now (s .args .ends)) (s .args .v) 0)
   ending-v = s .pre .0 .ending (s .args .v) (omega arith) (s .pre .1 .1 .0 .2)
 
 pub alike-spec : {M : Type 1} → statement M

@@ -1,10 +1,10 @@
--- `vertices::class_of` meets its contract: the loop keeps that no vertex passed is like that of digit v. Assumes nothing.
+-- `vertices::class_of` meets its contract: the loop keeps that no vertex passed is like that of mark v. Assumes nothing.
 use Prim.Native.Nat.{ℕ, _-_, _≤_}
 use native.Mathlib.Omega.{arith}
 use denote.Ref.{now}
 use lib.ListN.{take}
 use Rattle.laws.specs.Tells.{was-held, was-denied}
-use Rattle.orbits.specs.Classes.{Test, test?}
+use Rattle.vertices.specs.Search.{Test, test?}
 use Rattle.vertices.proofs.Looking.{Looking, look-none, look-all, look-here, look-past}
 use Rattle.vertices.proofs.class_of.Statement.{statement}
 use Rattle.vertices.proofs.class_of.Tie as tie

@@ -1,8 +1,8 @@
 -- `vertices::turns` meets its contract. Assumes nothing.
 use native.Mathlib.Omega.{arith}
-use denote.Ref.{now}
 use borrow.Author.Needs.{needs}
-use Rattle.digit_code.specs.Ends.{digits-plain}
+use Rattle.skeleton.specs.document.AtomMarks.{atoms}
+use Rattle.skeleton.specs.General.{decode-code}
 use Rattle.vertices.proofs.Telling.{no-child, halves-decide}
 use Rattle.vertices.proofs.turns.Statement.{statement}
 use Rattle.vertices.proofs.turns.Tie as tie
@@ -21,7 +21,7 @@ turns-spec =
     (λ c. search needs)
     (λ c. omega (arith, c .shared-slice-known5 .given (start (c .before .before) .args .v)))
     (λ c κs. let s = start (c .before .before) in
-    (rw digits-plain at (s .pre .0 .whole), (s .pre .1 .1 .0, s .pre .0 .ending (s .args .v) (omega arith) (s .pre .1 .1 .1))))
+    (decode-code atoms _ .0 (s .pre .1 .0 .right) .0, (s .pre .1 .1 .0, s .pre .0 .ending (s .args .v) (omega arith) (s .pre .1 .1 .1))))
     (λ c. let e = c .before .before in
     let s = start (e .before) in
     halves-decide (s .pre .1 .0) (s .pre .1 .1 .0) (s .pre .1 .1 .1) (e .if1 .left) (c .halves .ensures)))

@@ -1,8 +1,8 @@
 -- The promises of the calls on the bit-tuple's three forms, as in `Codes`: which rows of document 01's table each judges, and what it
 -- gives where none applies.
 --
--- In order: the rooted code at the vertex r of N vertices and the edge list E in each form; each form read into edges. e: the
--- edition; s: packed bytes; n, v: N and the whole number beside it; x: the fraction; old, new: the lent output before and after; o: the answer.
+-- In order: the rooted code at the vertex r of N vertices and the edge list E in each form; each form read into edges. T: the table of the edge list, which is `edgeTable e`
+-- in the edition e; s: packed bytes; n, v: N and the whole number beside it; x: the fraction; old, new: the lent output before and after; o: the answer.
 -- Assumes nothing.
 use mathlib.Core.Path.{_≡_}
 use mathlib.Core.Bool.{Bool}
@@ -17,19 +17,19 @@ use Rattle.bits.specs.document.Written.{Packs, Numbers}
 use Rattle.fraction.specs.document.Fraction.{IsFraction, bitsOf}
 use Rattle.skeleton.specs.document.Skeleton.{rooted}
 use Rattle.edition.specs.document.Edition.{neighboursIn}
-use Rattle.zurkhovel.specs.document.InEdition.{edgeTable, packedTable, wholeTable, fractionTable}
+use Rattle.zurkhovel.specs.document.InEdition.{EdgeTable, packedTable, wholeTable, fractionTable}
 
 -- the packed form
-abbrev pub Pack : ℕ → ℕ → List ℕ → ℕ → List ℕ → List ℕ → Outcome ℕ → Type 0
-Pack e N E r old new o = Gives (edgeTable e size N E r) (Packs (rooted N E r)) old new o
+abbrev pub Pack : EdgeTable → ℕ → List ℕ → ℕ → List ℕ → List ℕ → Outcome ℕ → Type 0
+Pack T N E r old new o = Gives (T size N E r) (Packs (rooted N E r)) old new o
 
 -- the whole number
-abbrev pub Whole : ℕ → ℕ → List ℕ → ℕ → Outcome ℕ → Type 0
-Whole e N E r o = Answered (edgeTable e wholeSize N E r) (Numbers (rooted N E r)) o
+abbrev pub Whole : EdgeTable → ℕ → List ℕ → ℕ → Outcome ℕ → Type 0
+Whole T N E r o = Answered (T wholeSize N E r) (Numbers (rooted N E r)) o
 
 -- the fraction
-abbrev pub InFraction : ℕ → ℕ → List ℕ → ℕ → Outcome Float → Type 0
-InFraction e N E r o = Answered (edgeTable e fractionSize N E r) (IsFraction (rooted N E r)) o
+abbrev pub InFraction : EdgeTable → ℕ → List ℕ → ℕ → Outcome Float → Type 0
+InFraction T N E r o = Answered (T fractionSize N E r) (IsFraction (rooted N E r)) o
 
 -- E: the edges of the right code, for at most R neighbours, that the bits carry, with nothing behind it but what May allows
 pub record Decodes (R : ℕ) (May : List Bool → Type 0) (bs : List Bool) (E : List ℕ) : Type 0 where

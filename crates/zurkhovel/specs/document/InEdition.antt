@@ -13,6 +13,14 @@ use Rattle.bits.specs.document.Bits.{packedRows, wholeRows}
 use Rattle.fraction.specs.document.Fraction.{fractionRows}
 use Rattle.adjacency.specs.document.Adjacency.{row14-physical, camRows, zeroRows, aRows}
 
+-- the table of a call that takes at most `most` vertices, N, an edge list E and a root r
+abbrev pub EdgeTable : Type 1
+EdgeTable = ℕ → ℕ → List ℕ → ℕ → List Row
+
+-- the same where no root is named, in a numbering that is to be physical
+abbrev pub physicalTable : EdgeTable → ℕ → ℕ → List ℕ → List Row
+physicalTable T most N E = T most N E 1 ++ (row14-physical N E ∷ [])
+
 module _ (e : ℕ) where
   -- a digit code lent by itself
   abbrev pub codeTable : List ℕ → List Row
@@ -22,13 +30,9 @@ module _ (e : ℕ) where
   abbrev pub formTable : (ℕ → List ℕ → List ℕ → Type 0) → List ℕ → List Row
   formTable form c = inEdition e (λ R. formRows form size R c)
 
-  -- at most `most` vertices, N, the edge list E and the root r
-  abbrev pub edgeTable : ℕ → ℕ → List ℕ → ℕ → List Row
+  -- an edge list
+  abbrev pub edgeTable : EdgeTable
   edgeTable most N E r = inEdition e (λ R. edgeRows most R N E r)
-
-  -- the same where no root is named, in a numbering that is to be physical
-  abbrev pub physicalTable : ℕ → ℕ → List ℕ → List Row
-  physicalTable most N E = edgeTable most N E 1 ++ (row14-physical N E ∷ [])
 
   -- packed bytes
   abbrev pub packedTable : List ℕ → List Row

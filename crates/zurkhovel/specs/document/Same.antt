@@ -5,13 +5,12 @@
 -- allows one verdict is in `One`, and what the verdict is without codes in `Meaning`. Assumes nothing.
 use mathlib.Core.Path.{_≡_}
 use mathlib.Core.Bool.{Bool, true, false}
-use mathlib.Core.Logic.{_⊎_}
-use mathlib.Core.List.{List, [], _∷_, _++_}
+use mathlib.Core.List.{List, [], _∷_}
 use Prim.Native.Nat.{ℕ}
-use Rattle.refusal.specs.document.Table.{RowOf, Row, ofList, Clear, FirstRefusal, OutcomeOf, gives, refuses, Answered}
-use Rattle.refusal.specs.document.Lowest.{Lowest}
+use Rattle.refusal.specs.document.Table.{RowOf, Row, OutcomeOf, gives, refuses, Answered}
+use Rattle.refusal.specs.document.Lists.{listsRows}
 use Rattle.limits.specs.document.Limits.{size}
-use Rattle.edition.specs.document.Edition.{IsEdition, neighboursIn, row22}
+use Rattle.edition.specs.document.Edition.{neighboursIn, row22}
 use Rattle.skeleton.specs.document.Skeleton.{Renumbering}
 use Rattle.edge_list.specs.document.Edges.{edgeRows}
 use Rattle.form.specs.document.Form.{centred}
@@ -32,24 +31,18 @@ said (Refused i k p) = refuses (i, k) p
 abbrev pub listRows : ℕ → ℕ → List ℕ → List Row
 listRows e N E = edgeRows size (neighboursIn e) N E 1
 
--- 22, which belongs to no list and is called 0
-abbrev pub ofNone : ℕ → List (RowOf (ℕ × ℕ))
-ofNone e = ofList 0 (row22 e ∷ [])
-
--- 22 is before all others; "the first list's comes first"
+-- 22 belongs to no list, and is before all others
 abbrev pub bothRows : ℕ → ℕ → List ℕ → ℕ → List ℕ → List (RowOf (ℕ × ℕ))
-bothRows e N E P F = ofNone e ++ (ofList 1 (listRows e N E) ++ ofList 2 (listRows e P F))
+bothRows e N E P F = listsRows (row22 e ∷ []) (listRows e N E) (listRows e P F)
 
--- what these refuse with the number k at p, of the list i: 22, called 0, where there is no such edition; else each list's lowest number, the first list's first
-abbrev pub WhichList : ℕ → ℕ → List ℕ → ℕ → List ℕ → ℕ → ℕ → ℕ → Type 0
-WhichList e N E P F i k p =
-    ((i ≡ 0) × FirstRefusal (row22 e ∷ []) k p)
-    ⊎ (IsEdition e × (((i ≡ 1) × Lowest (listRows e N E) k p) ⊎ ((i ≡ 2) × Clear (listRows e N E) × Lowest (listRows e P F) k p)))
+-- a code is both a C and a D; or none is
+abbrev pub OneCode : (List ℕ → Type 0) → (List ℕ → Type 0) → Bool → Type 0
+OneCode C D true = (c : List ℕ) × C c × D c
+OneCode C D false = (c : List ℕ) → C c → D c → ⊥
 
 -- "Two edge lists are the same when their centred codes are equal."
 abbrev pub EqualCodes : ℕ → List ℕ → ℕ → List ℕ → Bool → Type 0
-EqualCodes N E P F true = (c : List ℕ) × centred N E c × centred P F c
-EqualCodes N E P F false = (c : List ℕ) → centred N E c → centred P F c → ⊥
+EqualCodes N E P F = OneCode (centred N E) (centred P F)
 
 -- what that means without codes: they have equally many vertices, and a renumbering carries the first onto the second. That the verdict says this is in `Meaning`
 abbrev pub SameUnder : ℕ → List ℕ → ℕ → List ℕ → Type 0

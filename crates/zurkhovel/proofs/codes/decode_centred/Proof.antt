@@ -5,7 +5,7 @@ use borrow.Author.Needs.{needs}
 use Rattle.refusal.specs.Laws.{was-clear, was-refused}
 use Rattle.refusal.specs.Giving.{refused-first}
 use Rattle.form.specs.document.Form.{centred}
-use Rattle.zurkhovel.proofs.Behind.{behind-same}
+use Rattle.refusal.specs.Behind.{behind-same}
 use Rattle.zurkhovel.proofs.Decoded.{right-of}
 use Rattle.zurkhovel.proofs.codes.decode_centred.Statement.{statement}
 use Rattle.zurkhovel.proofs.codes.decode_centred.Tie as tie

@@ -4,7 +4,7 @@ use denote.Ref.{now}
 use borrow.Author.Needs.{needs}
 use Rattle.refusal.specs.Laws.{was-clear, was-refused}
 use Rattle.refusal.specs.Giving.{refused-first}
-use Rattle.zurkhovel.proofs.Behind.{behind-same}
+use Rattle.refusal.specs.Behind.{behind-same}
 use Rattle.zurkhovel.proofs.Decoded.{whole-of}
 use Rattle.zurkhovel.proofs.codes.decode_code.Statement.{statement}
 use Rattle.zurkhovel.proofs.codes.decode_code.Tie as tie

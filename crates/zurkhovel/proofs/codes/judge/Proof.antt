@@ -12,7 +12,8 @@ use Rattle.refusal.specs.document.Table.{gives}
 use Rattle.refusal.specs.Giving.{written-room, written-length}
 use Rattle.form_coder.specs.Sums.{centred-few}
 use Rattle.zurkhovel.specs.document.Same.{SameSkeleton}
-use Rattle.zurkhovel.specs.document.Reported.{Reporting, OfBoth, coded, not-coded}
+use Rattle.refusal.specs.document.Reported.{Reporting}
+use Rattle.zurkhovel.specs.document.Reported.{OfBoth, coded, not-coded}
 use Rattle.zurkhovel.specs.Accepted.{table-of}
 use Rattle.zurkhovel.proofs.Verdicts.{verdict-sizes, verdict-same, verdict-different}
 use Rattle.zurkhovel.proofs.codes.judge.Statement.{statement}

@@ -3,7 +3,7 @@ use mathlib.Core.Path.{refl}
 use denote.Ref.{now}
 use borrow.Author.Needs.{needs}
 use Rattle.refusal.specs.document.Table.{left}
-use Rattle.zurkhovel.specs.Both.{were-accepted, one-refused}
+use Rattle.refusal.specs.Lists.{were-accepted, one-refused}
 use Rattle.zurkhovel.specs.Theorems.{both-clear}
 use Rattle.zurkhovel.proofs.codes.same_skeleton.Statement.{statement}
 use Rattle.zurkhovel.proofs.codes.same_skeleton.Tie as tie

@@ -7,7 +7,7 @@ use Rattle.refusal.specs.Laws.{was-clear, was-refused}
 use Rattle.limits.specs.document.Limits.{size}
 use Rattle.edition.specs.Laws.{an-edition, lawful-limit}
 use Rattle.zurkhovel.specs.document.InEdition.{edgeTable}
-use Rattle.zurkhovel.specs.Both.{accepts, refuses}
+use Rattle.refusal.specs.Checks.{both-pass, one-fails}
 use Rattle.zurkhovel.specs.Theorems.{both-clear, both-none, both-first, both-second}
 use Rattle.zurkhovel.proofs.Verdicts.{list-refuses, list-clears}
 use Rattle.zurkhovel.proofs.editions.both.Statement.{statement}
@@ -32,14 +32,14 @@ both-spec =
     tie.close
     (tie.spec
     (λ c κs. search needs)
-    (λ c. let s = start (c .before) .args in refuses (both-none (s .n1) (s .n2) (now (s .edges1)) (now (s .edges2)) (sym (c .before .limit-of .ensures) ∙ c .if1 .taken)))
+    (λ c. let s = start (c .before) .args in one-fails (both-none (s .n1) (s .n2) (now (s .edges1)) (now (s .edges2)) (sym (c .before .limit-of .ensures) ∙ c .if1 .taken)))
     (λ c κs. lawful-limit _ (c .before .limit-of .ensures) (c .if1 .left) .1)
     (λ c. search needs)
     (λ c.
     let d = c .before .before .before in
     let n = named d in
     let s = start (n .before) .args in
-    refuses
+    one-fails
     (both-first _ (s .n2) (now (s .edges1)) (now (s .edges2)) (an-edition _ (n .before .limit-of .ensures) (n .if1 .left)) (list-refuses _ (n .before .limit-of .ensures) (s .n1) (now (s .edges1)) (was-refused (d .check .ensures) (c .before .k .given .1)))))
     (λ c. search needs)
     (λ c κs. let n = named (c .before .before) in lawful-limit _ (n .before .limit-of .ensures) (n .if1 .left) .1)
@@ -49,12 +49,12 @@ both-spec =
     let d = f .before in
     let n = named (d .before .before) in
     let s = start (n .before) .args in
-    refuses (both-second _ _ (now (s .edges1)) (now (s .edges2)) (first d) (list-refuses _ (n .before .limit-of .ensures) (s .n2) (now (s .edges2)) (was-refused (f .check2 .ensures) (c .before .k2 .given .1)))))
+    one-fails (both-second _ _ (now (s .edges1)) (now (s .edges2)) (first d) (list-refuses _ (n .before .limit-of .ensures) (s .n2) (now (s .edges2)) (was-refused (f .check2 .ensures) (c .before .k2 .given .1)))))
     (λ c. search needs)
     (λ c.
     let e = c .before .before .before in
     let n = named (e .before .before) in
     let s = start (n .before) .args in
-    accepts
+    both-pass
     (both-clear _ _ (now (s .edges1)) (now (s .edges2)) .1
     (first e, list-clears _ (n .before .limit-of .ensures) (s .n2) (now (s .edges2)) (n .if1 .left) (was-clear (c .before .before .check2 .ensures) (c .enum-told2 .given .1))))))

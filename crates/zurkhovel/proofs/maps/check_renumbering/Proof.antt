@@ -1,7 +1,7 @@
 -- `zurkhovel::maps::check_renumbering` keeps its promise. Assumes nothing.
 use denote.Ref.{now}
 use borrow.Author.Needs.{needs}
-use Rattle.zurkhovel.specs.Both.{were-accepted, one-refused}
+use Rattle.refusal.specs.Lists.{were-accepted, one-refused}
 use Rattle.zurkhovel.specs.Theorems.{both-clear}
 use Rattle.zurkhovel.proofs.Handing.{judge-lists}
 use Rattle.zurkhovel.proofs.maps.check_renumbering.Statement.{statement}

@@ -10,7 +10,8 @@ use Rattle.skeleton.specs.document.Skeleton.{IsSkeleton}
 use Rattle.zurkhovel.specs.document.Maps.{HandOut}
 use Rattle.zurkhovel.specs.document.Reported.{OfBoth, not-coded}
 use Rattle.zurkhovel.specs.Accepted.{table-of}
-use Rattle.zurkhovel.proofs.Handing.{ofMap, hand-sizes, hand-found, hand-looked}
+use Rattle.zurkhovel.specs.Handing.{ofMap}
+use Rattle.zurkhovel.proofs.Handing.{hand-sizes, hand-found, hand-looked}
 use Rattle.zurkhovel.proofs.maps.hand_out.Statement.{statement}
 use Rattle.zurkhovel.proofs.maps.hand_out.Tie as tie
 

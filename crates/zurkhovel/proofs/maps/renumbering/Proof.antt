@@ -2,7 +2,7 @@
 use mathlib.Core.Path.{refl}
 use denote.Ref.{now}
 use borrow.Author.Needs.{needs}
-use Rattle.zurkhovel.specs.Both.{were-accepted, one-refused}
+use Rattle.refusal.specs.Lists.{were-accepted, one-refused}
 use Rattle.zurkhovel.specs.Theorems.{both-clear}
 use Rattle.zurkhovel.proofs.Handing.{hand-lists}
 use Rattle.zurkhovel.proofs.maps.renumbering.Statement.{statement}

@@ -7,7 +7,7 @@ use Rattle.refusal.specs.document.Table.{Clear}
 use Rattle.refusal.specs.Laws.{was-clear, was-refused, at-least, others}
 use Rattle.refusal.specs.Giving.{refused-first}
 use Rattle.limits.specs.document.Limits.{size}
-use Rattle.zurkhovel.specs.document.InEdition.{physicalTable}
+use Rattle.zurkhovel.specs.document.InEdition.{edgeTable, physicalTable}
 use Rattle.adjacency.specs.Plain.{numbered}
 use Rattle.adjacency.specs.Coded.{cam-length}
 use Rattle.zurkhovel.proofs.Made.{known-short, known-given}
@@ -19,7 +19,7 @@ abbrev start : tie.After-enum-told → tie.Start
 start c = c .before .before .before .before .before
 
 -- what is known behind the check
-clear : (c : tie.After-enum-told) → Clear (physicalTable (start c .args .edition) size (start c .args .n) (now (start c .args .edges)))
+clear : (c : tie.After-enum-told) → Clear (physicalTable (edgeTable (start c .args .edition)) size (start c .args .n) (now (start c .args .edges)))
 clear c = was-clear (c .before .before .check .ensures) (c .enum-told .given .1)
 
 pub cam-spec : {M : Type 1} → statement M

@@ -8,7 +8,7 @@ use Rattle.refusal.specs.Laws.{was-clear, was-refused, at-least, at-most, other
 use Rattle.refusal.specs.Giving.{refused-first}
 use Rattle.zurkhovel.specs.document.InEdition.{camTable}
 use Rattle.adjacency.specs.Made.{long}
-use Rattle.zurkhovel.proofs.Behind.{behind-same}
+use Rattle.refusal.specs.Behind.{behind-same}
 use Rattle.zurkhovel.proofs.matrix.decode_cam.Statement.{statement}
 use Rattle.zurkhovel.proofs.matrix.decode_cam.Tie as tie
 

@@ -13,7 +13,7 @@ use Rattle.limits.specs.document.Limits.{zeroSize}
 use Rattle.zurkhovel.specs.document.InEdition.{zeroTable}
 use Rattle.adjacency.specs.document.Adjacency.{zeroCam}
 use Rattle.adjacency.specs.Zero.{zero-length}
-use Rattle.zurkhovel.proofs.Behind.{behind-same}
+use Rattle.refusal.specs.Behind.{behind-same}
 use Rattle.zurkhovel.proofs.matrix.decode_zero_a.Statement.{statement}
 use Rattle.zurkhovel.proofs.matrix.decode_zero_a.Tie as tie
 

@@ -5,7 +5,7 @@ use borrow.Author.Needs.{needs}
 use Rattle.refusal.specs.document.Table.{Clear, kept, left}
 use Rattle.refusal.specs.Laws.{was-clear, was-refused}
 use Rattle.limits.specs.document.Limits.{zeroSize}
-use Rattle.zurkhovel.specs.document.InEdition.{physicalTable}
+use Rattle.zurkhovel.specs.document.InEdition.{edgeTable, physicalTable}
 use Rattle.zurkhovel.specs.RoundMatrix.{physical-exactly}
 use Rattle.edge_list.specs.Tables.{in-rows}
 use Rattle.edition.specs.Laws.{at-most-nine}
@@ -16,7 +16,7 @@ abbrev start : tie.After-enum-told → tie.Start
 start c = c .before .before .before .before
 
 -- what is known behind the check
-clear : (c : tie.After-enum-told) → Clear (physicalTable (start c .args .edition) zeroSize (start c .args .n) (now (start c .args .edges)))
+clear : (c : tie.After-enum-told) → Clear (physicalTable (edgeTable (start c .args .edition)) zeroSize (start c .args .n) (now (start c .args .edges)))
 clear c = was-clear (c .before .before .check .ensures) (c .enum-told .given .1)
 
 pub zero-a-spec : {M : Type 1} → statement M

@@ -1,0 +1,19 @@
+-- Skeletons with named atoms: what the public calls promise, and what is known of it. Assumes nothing.
+pub mod Accepted
+pub mod Marked
+pub mod Two
+pub mod Carbon
+pub mod Bounds
+pub mod Places
+pub mod Spelled
+pub mod Decoded
+pub mod Round
+pub mod Centred
+pub mod Demanded
+pub mod RoundText
+pub mod Looked
+pub mod AllCarbon
+pub mod Meaning
+pub mod One
+pub mod OneReported
+pub mod document

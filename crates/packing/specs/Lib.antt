@@ -1,0 +1,3 @@
+-- A call's answer in one whole number. Assumes nothing.
+pub mod Unpacked
+pub mod document
