@@ -15,10 +15,9 @@ use Rattle.digit_code.specs.Right.{RightCode, Rightₗ, right-clear, clear-righ
 use Rattle.skeleton.specs.document.Skeleton.{IsSkeleton}
 use Rattle.skeleton.specs.Theorems.{decode-code, decoded-tree, degrees}
 use Rattle.skeleton.specs.Ordered.{code-ordered}
-use Rattle.skeleton.specs.document.Label.{Marks, digits, labels}
+use Rattle.skeleton.specs.document.Label.{Marks, digits}
 use Rattle.skeleton.specs.Label.{Valences, markRows}
 use Rattle.skeleton.specs.Base.{base, digits-base}
-use Rattle.skeleton.specs.General.{decoded-tree as decoded-treeₗ}
 use Rattle.skeleton.specs.Accepted.{code-passes, marks-accepted, right-marks}
 use Rattle.form.specs.document.Form.{formRows}
 use Rattle.form.specs.document.Labelled.{Own, row14ₗ}
@@ -67,14 +66,6 @@ module _ (M : Marks) (form : ℕ → List ℕ → (ℕ → M .Label) → List �
   form-acceptedₗ size R most some one N E l s v x =
       clear-both (marks-accepted M c size R most some one .1 (is-rootedₗ M form f N E l c (s .tree) x, s, v))
       (clear-one {r = row14ₗ M form c} (λ p a. a .1 (form-againₗ M form f N E l c (s .tree) x)))
-
-  -- what passes, decoded and coded, is itself
-  pub form-itselfₗ : (size R : ℕ) (most : M .Label → ℕ) → ((a : M .Label) → most a ≤ R)
-      → Clear (formRowsₗ M form size R most c) → (d : List ℕ) → form (length c) (decode (digits M c)) (labels M c) d → d ≡ c
-  unfolding digits
-  form-itselfₗ size R most low k d y =
-      let (r, x) = form-passesₗ size R most low .0 k in
-      f .one (length c) (decode (digits M c)) (labels M c) (decoded-treeₗ M c (r .ends)) y x
 
 -- ---- document 01's codes
 

@@ -1,7 +1,7 @@
 -- Codes written by other numbers in the same order: the N-tuple code and the centred code are rewritten number by number, and the root of the
 -- centred code's numbering stays. So an all-carbon skeleton keeps its forms.
 --
--- In order: of any codes at the roots; with labels; where every vertex is carbon. Assumes nothing.
+-- In order: of any codes at the roots; where every vertex is carbon. Assumes nothing.
 use mathlib.Core.Path.{_≡_, ap, sym, _∙_, subst}
 use mathlib.Core.Logic.{_↔_, inl, inr, ⊎-elim}
 use mathlib.Core.List.{List, map}
@@ -9,9 +9,8 @@ use Prim.Native.Nat.{ℕ}
 use Rattle.laws.specs.document.Order.{_≽_}
 use Rattle.laws.specs.Rising.{Rising, lists-back, same-order}
 use Rattle.skeleton.specs.document.Skeleton.{rooted}
-use Rattle.skeleton.specs.document.Label.{Marks, rootedₗ}
+use Rattle.skeleton.specs.document.Label.{rootedₗ}
 use Rattle.skeleton.specs.document.AtomMarks.{atoms}
-use Rattle.skeleton.specs.Rewritten.{Rewritten, rooted-rewritten}
 use Rattle.skeleton.specs.Carbon.{carbon, carbonMark, carbon-marks, all-carbon}
 use Rattle.form.specs.document.Form.{NTuple, Centred, nTuple, centred}
 use Rattle.form.specs.document.Root.{RootOf}
@@ -70,18 +69,6 @@ module _ (φ : ℕ → ℕ) (up : Rising φ) (N : ℕ) (E : List ℕ) (at on : �
         (d, q, centred-risen d .0 (subst (Centred N E on) q x)),
     λ (d, q, y). subst (Centred N E on) (sym q) (centred-risen d .1 y),
   )
-
--- ---- with labels
-
-module _ (M P : Marks) {l : ℕ → M .Label} {k : ℕ → P .Label} {φ : ℕ → ℕ} (w : Rewritten M P l k φ) (N : ℕ) (E : List ℕ) where
-  pub n-tuple-rewritten : (d : List ℕ) → nTupleₗ P N E k (map φ d) ↔ nTupleₗ M N E l d
-  n-tuple-rewritten = n-tuple-risen φ (w .rising) N E (rootedₗ M l N E) (rootedₗ P k N E) (rooted-rewritten M P w N E)
-
-  pub centred-rewritten : (d : List ℕ) → centredₗ P N E k (map φ d) ↔ centredₗ M N E l d
-  centred-rewritten = centred-risen φ (w .rising) N E (rootedₗ M l N E) (rootedₗ P k N E) (rooted-rewritten M P w N E)
-
-  pub root-rewritten : (r : ℕ) → CentredRootₗ P N E k r ↔ CentredRootₗ M N E l r
-  root-rewritten = root-risen φ (w .rising) N E (rootedₗ M l N E) (rootedₗ P k N E) (rooted-rewritten M P w N E)
 
 -- ---- carbon
 

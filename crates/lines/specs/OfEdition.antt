@@ -44,9 +44,6 @@ module _ (e : ℕ) where
     of-limit rows (kept c h) = kept (others c) h
     of-limit rows (left l q) = left (refusal-behind (row22 e ∷ []) rows (edition-clear i) l) q
 
-    pub answer-in : {t : List ℕ} {o : Outcome (List ℕ)} → LineAnswers limited t o → LineAnswers (linesOf e) t o
-    answer-in {t} a = in-edition (lineRows limited t) a
-
     pub answer-of : {t : List ℕ} {o : Outcome (List ℕ)} → LineAnswers (linesOf e) t o → LineAnswers limited t o
     answer-of {t} a = of-limit (lineRows limited t) a
 

@@ -9,14 +9,11 @@ use lib.ListN.{length, take, drop, length-take, take-append-drop}
 use lib.Seq.{take-all, drop-drop}
 use Rattle.laws.specs.document.Laid.{Laid}
 use Rattle.laws.specs.Laying.{laid-front}
-use Rattle.limits.specs.document.Limits.{size}
 use Rattle.texts.specs.document.Text.{Format}
 use Rattle.texts.specs.Sound.{Once}
 use Rattle.texts.specs.Theorems.{one-reading}
 use Rattle.lines.specs.document.Line.{DigitRow, plainLines}
 use Rattle.lines.specs.Plain.{plain-once}
-use Rattle.named_lines.specs.document.Named.{namedLines, namedTable}
-use Rattle.named_lines.specs.NamedSound.{named-once}
 use Rattle.listing_text.specs.document.Listing.{listed, Listing, longer, lines, ListsOf, Lists}
 use Rattle.listing_text.specs.Window.{take-least}
 
@@ -66,7 +63,3 @@ module _ (most : ℕ) (rows : List DigitRow) where
   pub one-piece :
       (t old new new′ : List ℕ) (from n m : ℕ) → Lists most rows t old new from n → Lists most rows t old new′ from m → (n ≡ m) × (new ≡ new′)
   one-piece t old new new′ from n m p q = only-piece (plainLines most rows) plain-once t old new new′ from n m p q
-
-pub one-named-piece :
-    (t old new new′ : List ℕ) (from n m : ℕ) → ListsOf (namedLines size namedTable) t old new from n → ListsOf (namedLines size namedTable) t old new′ from m → (n ≡ m) × (new ≡ new′)
-one-named-piece t old new new′ from n m p q = only-piece (namedLines size namedTable) named-once t old new new′ from n m p q

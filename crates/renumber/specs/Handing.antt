@@ -2,7 +2,7 @@
 --
 -- In order, by any codes and orders: it is one; how it comes of two orders side by side; that there is one, and that what a program wrote is one;
 -- the lists that a program takes. Then for document 01's codes. Assumes nothing.
-use mathlib.Core.Path.{_≡_, refl, sym, ap, _∙_}
+use mathlib.Core.Path.{_≡_, sym, ap, _∙_}
 use mathlib.Core.List.{List, List·Memᴰ}
 use Prim.Native.Nat.{ℕ, suc, _-_, _≤_, _<_}
 use native.Mathlib.Omega.{arith}
@@ -11,12 +11,12 @@ use lib.Seq.{ext-getD, getD-take, length-take-le}
 use Rattle.laws.specs.document.Once.{Once}
 use Rattle.laws.specs.Places.{place, place-at, at-place, at-in}
 use Rattle.refusal.specs.document.Table.{Writes}
-use Rattle.skeleton.specs.document.Skeleton.{IsTree, rooted, Renumbering}
+use Rattle.skeleton.specs.document.Skeleton.{IsTree, Renumbering}
 use Rattle.numbering.specs.document.Order.{order}
-use Rattle.numbering.specs.Numbers.{Numbers, order-numbers, orders-beside}
+use Rattle.numbering.specs.Numbers.{Numbers, order-numbers}
 use Rattle.form.specs.document.Root.{RootOf}
 use Rattle.form.specs.Root.{CentredRoot, one-root, root-inside}
-use Rattle.renumber.specs.document.Map.{image, Renumbers, HandedBy, HandedOut}
+use Rattle.renumber.specs.document.Map.{image, HandedBy, HandedOut}
 use Rattle.renumber.specs.Parts.{Sent, Listed, Placed}
 use Rattle.renumber.specs.Lists.{entries, entries-length, entries-at, laid-first}
 
@@ -122,21 +122,6 @@ covers {N} {r} {E} t x =
 
 pub one-handed : {N P : ℕ} {E F : List ℕ} → IsTree N E → (w z : List ℕ) → HandedOut N E P F w → HandedOut N E P F z → w ≡ z
 one-handed t w z x y = one-handed-by (λ r c. covers t c) (λ w r. r .1) w z x y
-
-module _ {N : ℕ} {E F : List ℕ} {r q : ℕ} (t : IsTree N E) (u : IsTree N F) (x : CentredRoot N E r) (y : CentredRoot N F q) (e : rooted N E r ≡ rooted N F q) where
-  beside : (ρ : Renumbering N E F) × (ρ .to r ≡ q) × ((i : ℕ) → i < N → ρ .to (getD (order N E r) i 0) ≡ getD (order N F q) i 0)
-  beside = let (a, b) = root-inside t x in let (c, d) = root-inside u y in orders-beside N E F r q t a b u c d e
-
-  pub some-handed : (w : List ℕ) × HandedOut N E N F w
-  some-handed = let (ρ, root, at) = beside in some-handed-by (rooted N E) (rooted N F) (order N E) (order N F) (Renumbers N E N F) (covers t x) x y e ρ at (λ w l f. (refl, l, ρ, f))
-
-  pub placed-handed :
-      (o p old : List ℕ) {new : List ℕ} → take N o ≡ order N E r → take N p ≡ order N F q → N ≤ length old → Placed N o p old new N
-      → Writes (HandedOut N E N F) old N new
-  placed-handed = let (ρ, root, at) = beside in placed-handed-by (rooted N E) (rooted N F) (order N E) (order N F) (Renumbers N E N F) (covers t x) x y e ρ at (λ w l f. (refl, l, ρ, f))
-
-pub order-listed : {N r : ℕ} {E : List ℕ} → IsTree N E → CentredRoot N E r → (o : List ℕ) → take N o ≡ order N E r → Listed N o
-order-listed t x = listed-by (covers t x)
 
 -- a map with an entry for each vertex has one for each end of an edge
 pub sent : {N : ℕ} {E : List ℕ} → IsTree N E → (w : List ℕ) → length w ≡ N → Sent E w

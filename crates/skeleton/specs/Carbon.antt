@@ -1,16 +1,15 @@
 -- Document 02, wish 7: "an all-carbon skeleton keeps its old codes". Where every vertex is carbon a mark is three times the digit, and the
 -- rooted code over atoms has the digits of the plain one. Assumes nothing.
-use mathlib.Core.Path.{_≡_, refl, ap, ap₂, sym, _∙_}
+use mathlib.Core.Path.{_≡_, refl, ap, _∙_}
 use mathlib.Core.List.{List, [], _∷_, map}
-use Prim.Native.Nat.{ℕ, zero, suc, _-_, _*_, _/_, _%_, _≤_, _<_}
+use Prim.Native.Nat.{ℕ, zero, suc, _-_, _*_, _%_}
 use native.Mathlib.Omega.{arith}
-use lib.ListN.{length, getD}
+use lib.ListN.{getD}
 use Rattle.skeleton.specs.document.Skeleton.{rooted}
 use Rattle.skeleton.specs.document.Label.{rootedₗ, digits, labels}
 use Rattle.skeleton.specs.Base.{base, rooted-base, digits-base}
-use Rattle.skeleton.specs.document.Atom.{Atom, C, rank, named}
+use Rattle.skeleton.specs.document.Atom.{Atom, C, named}
 use Rattle.skeleton.specs.document.AtomMarks.{atoms}
-use Rattle.skeleton.specs.Atoms.{rank-named}
 use Rattle.skeleton.specs.Rewritten.{Rewritten, rooted-rewritten, digits-rewritten}
 
 -- every vertex is carbon
@@ -44,14 +43,3 @@ carbon-labels c v = at c (v - 1)
     at [] i = refl
     at (k ∷ c) zero = let e : (3 * k) % 3 ≡ 0 = omega arith in ap named e
     at (k ∷ c) (suc i) = at c i
-
--- and no others do: marks that all tell carbon are those of their digits
-pub only-carbon : (c : List ℕ) → ((v : ℕ) → 1 ≤ v → v ≤ length c → labels atoms c v ≡ C) → c ≡ map carbonMark (digits atoms c)
-unfolding labels digits
-only-carbon c h = each c (λ i l. let e : suc i - 1 ≡ i = omega arith in ap (λ j. named (getD c j 0 % 3)) (sym e) ∙ h (suc i) (omega arith) (omega arith))
-  where
-    each : (c : List ℕ) → ((i : ℕ) → i < length c → named (getD c i 0 % 3) ≡ C) → c ≡ map carbonMark (map (λ m. m / 3) c)
-    each [] h = refl
-    each (m ∷ c) h =
-        let e : m ≡ 3 * (m / 3) = omega (arith, rank-named (m % 3) (omega arith), ap rank (h 0 (omega arith))) in
-        ap₂ _∷_ e (each c (λ i l. h (suc i) (omega arith)))

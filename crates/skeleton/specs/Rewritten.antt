@@ -37,6 +37,3 @@ module _ (M P : Marks) {l : ℕ → M .Label} {k : ℕ → P .Label} {φ : ℕ �
   pub digits-rewritten : (c : List ℕ) → digits P (map φ c) ≡ digits M c
   unfolding digits
   digits-rewritten c = map-map (P .arity) φ c ∙ (λ i. map (λ m. w .arity m i) c)
-
-  pub same-digits : (N : ℕ) (E : List ℕ) (r : ℕ) → digits P (rootedₗ P k N E r) ≡ digits M (rootedₗ M l N E r)
-  same-digits N E r = ap (digits P) (rooted-rewritten N E r) ∙ digits-rewritten (rootedₗ M l N E r)
