@@ -10,7 +10,8 @@ use Rattle.laws.specs.document.Laid.{laid_over}
 use Rattle.refusal.specs.declared.Check.{Check}
 use Rattle.refusal.specs.document.Table.{Row, Clear}
 use Rattle.refusal.specs.Checks.{Answers, passes, fails}
-use Rattle.refusal.specs.Laws.{clear_right, refusal_behind}
+use Rattle.refusal.specs.Laws.{clear_right}
+use Rattle.refusal.proofs.Laws.{refusal_behind}
 use Rattle.adjacency.proofs.Writing.{laid-all}
 
 -- ---- the array

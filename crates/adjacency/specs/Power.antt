@@ -76,3 +76,5 @@ ones_columns i (suc n) (d ∷ ds) (Below.more l b) a =
     let k = rows_ones 1 i d l in
     let t = tied_length (suc i) (rows 1 i d) in
     rw length-append (omega arith)
+ones_columns i zero (d ∷ ds) b a = elim b [ ]
+ones_columns i (suc n) [] b a = elim b [ ]

@@ -70,12 +70,12 @@ module _ {most R N : ℕ} {E : List ℕ} (s : IsSkeleton most R N E) where
 
 -- ---- the lower neighbours in columns
 
-lower-tied : {q v : ℕ} {rs : List ℕ} (F : List ℕ) → Asc v q rs → lower (tied v rs ++ F) v ≡ rs ++ lower F v
+lower-tied : {v q : ℕ} {rs : List ℕ} (F : List ℕ) → Asc v q rs → lower (tied v rs ++ F) v ≡ rs ++ lower F v
 unfolding tied
 lower-tied F Asc.none = refl
 lower-tied {v = v} F (Asc.more {x = x} {S} a b s) = lower-one x v (tied v S ++ F) b ∙ ap (λ l. x ∷ l) (lower-tied F s)
 
-lower-other : {q v : ℕ} {rs : List ℕ} (F : List ℕ) (u : ℕ) → (v ≡ u → ⊥) → Asc v q rs → lower (tied v rs ++ F) u ≡ lower F u
+lower-other : {v q : ℕ} {rs : List ℕ} (F : List ℕ) (u : ℕ) → (v ≡ u → ⊥) → Asc v q rs → lower (tied v rs ++ F) u ≡ lower F u
 unfolding tied
 lower-other F u n Asc.none = refl
 lower-other {v = v} F u n (Asc.more {x = x} {S} a b s) =

@@ -55,6 +55,8 @@ entries_below i zero [] h = none
 entries_below i (suc n) (d ∷ ds) (Below.more l h) =
     let low : 1 ≤ suc d = omega arith in
     more low l (entries_below (suc i) n ds h)
+entries_below i zero (d ∷ ds) h = elim h [ ]
+entries_below i (suc n) [] h = elim h [ ]
 
 suc_less : {i : ℕ} {X : List ℕ} → Entries i X → map suc (less X) ≡ X
 suc_less none = refl

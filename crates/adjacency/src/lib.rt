@@ -1,6 +1,8 @@
 // CAM, 0A and A0: a skeleton by the neighbours that its vertices have among the lower numbers.
 //
 // What a call lends, and 15, are not looked at here. An edge list that is coded has been accepted by `edge_list::check`.
+#![tactic(auto)]
+
 use limits::{A_ZERO, ENDS, SIZE, ZERO_A};
 use refusal::Check;
 

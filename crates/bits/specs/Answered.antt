@@ -6,7 +6,8 @@ use Rattle.std.specs.Prelude.{◌≡◌, refl, Bool, List, [], ◌∷◌, ℕ, �
 use Rattle.std.proofs.Common.{ap, arith, length-append, length-take, length-take-le}
 use Rattle.refusal.specs.document.Table.{Clear, FirstRefusal}
 use Rattle.refusal.specs.Checks.{Answers, passes}
-use Rattle.refusal.specs.Laws.{clear_one, clear_both, first-place, refusal_front, refusal_back, goes_on, alike-answers}
+use Rattle.refusal.specs.Laws.{clear_one, clear_both, refusal_front}
+use Rattle.refusal.proofs.Laws.{first-place, refusal_back, goes_on, alike-answers}
 use Rattle.refusal.specs.declared.Answer.{Answer}
 use Rattle.refusal.specs.declared.Answer.TheVariants.{Done, Refused}
 use Rattle.refusal.specs.declared.Check.{Check}

@@ -5,7 +5,8 @@ use Rattle.std.specs.Prelude.{◌≡◌, refl, Bool, List, [], ◌∷◌, ◌++�
 use Rattle.std.proofs.Common.{arith}
 use Rattle.refusal.specs.document.Table.{Row, Clear, FirstRefusal, row3}
 use Rattle.refusal.specs.Checks.{passes, fails}
-use Rattle.refusal.specs.Laws.{clear_both, size_clear, refusal_front, refusal_back, was_clear, was_refused, alike_clear}
+use Rattle.refusal.specs.Laws.{clear_both, size_clear, refusal_front, was_clear, was_refused, alike_clear}
+use Rattle.refusal.proofs.Laws.{refusal_back}
 use Rattle.refusal.specs.declared.Answer.{Answer}
 use Rattle.refusal.specs.declared.Answer.TheVariants.{Done, Refused}
 use Rattle.limits.specs.document.Limits.{size}

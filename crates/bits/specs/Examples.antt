@@ -2,7 +2,8 @@
 use Rattle.std.specs.Prelude.{◌≡◌, refl, Bool, true, false, List, [], ◌∷◌, ◌++◌, ℕ, zero, suc, ◌*◌, ◌^◌, ◌<◌, length, get_or}
 use Rattle.std.proofs.Common.{ap, ⊎_elim, true≢false, arith, length-append}
 use Rattle.refusal.specs.document.Table.{FirstRefusal, row3}
-use Rattle.refusal.specs.Laws.{clear_one, clear_both, first-place, refusal_front, refusal_back, size_clear}
+use Rattle.refusal.specs.Laws.{clear_one, clear_both, refusal_front, size_clear}
+use Rattle.refusal.proofs.Laws.{first-place, refusal_back}
 use Rattle.limits.specs.document.Limits.{valence, packed_bytes, whole_size}
 use Rattle.digit_code.specs.document.Code as code
 use Rattle.digit_code.specs.Ends.{ends_iff}

@@ -7,7 +7,8 @@ use Rattle.std.specs.Prelude.{◌≡◌, refl, ◌⊎◌, Bool, List, [], ◌∷
 use Rattle.std.proofs.Common.{sym, ◌∙◌, inl, inr, arith, length-append}
 use Rattle.std.proofs.Math.ListN.{get_or-append}
 use Rattle.refusal.specs.document.Table.{Clear, FirstRefusal}
-use Rattle.refusal.specs.Laws.{clear_one, first-place, refusal_front, refusal_back, Alike, alike_clear}
+use Rattle.refusal.specs.Laws.{clear_one, refusal_front, Alike, alike_clear}
+use Rattle.refusal.proofs.Laws.{first-place, refusal_back}
 use Rattle.digit_code.specs.document.Code.{EndsAt, plain, Larger, digit, row12, digit_rows}
 use Rattle.digit_code.specs.document.Code as code
 use Rattle.digit_code.specs.Counting.{one_end, some_end}

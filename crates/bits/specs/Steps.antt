@@ -9,7 +9,8 @@ use Rattle.std.proofs.Math.ListN.{get_or-append}
 use Rattle.std.proofs.Math.Seq.{get_or-append_seam, take-append_seam, take-length}
 use Rattle.std.proofs.lemmas.List.{take-append-le}
 use Rattle.refusal.specs.document.Table.{Clear, FirstRefusal}
-use Rattle.refusal.specs.Laws.{clear_one, first-place}
+use Rattle.refusal.specs.Laws.{clear_one}
+use Rattle.refusal.proofs.Laws.{first-place}
 use Rattle.digit_code.specs.document.Code.{sum, EndsAt, digit, cap, row12}
 use Rattle.digit_code.specs.Counting.{sum-append}
 use Rattle.bits.specs.document.Bits.{bits, digits_from, cut_from, whole_digits, runs, row10-bits}

@@ -1,4 +1,6 @@
 // The bit forms of a rooted code: packed bytes, a whole number, the 53 bits of a fraction.
+#![tactic(auto)]
+
 ghost use Rattle.std.specs.Prelude.{◌≡◌, [], ◌∷◌, suc, ◌+◌, ◌-◌, ◌*◌, ◌/◌, ◌^◌, ◌<◌, ◌≤◌, length, get_or, drop};
 ghost use Rattle.limits.specs.document.Limits.{size, packed_bytes, whole_size};
 ghost use Rattle.limits.specs.Width.{width};
@@ -19,7 +21,7 @@ use limits::{PACKED, WHOLE};
 use refusal::{Answer, Check};
 
 // What a reader of digits came to.
-#[derive(Drop)]
+#[derive(Clone, Copy)]
 pub enum Found {
     // The digit of this number is above its cap.
     Over(usize),
@@ -30,7 +32,7 @@ pub enum Found {
 }
 
 // What one turn of a reader came to.
-#[derive(Drop)]
+#[derive(Clone, Copy)]
 enum Turn {
     // One digit more is read, and the next begins at this bit.
     On(usize),

@@ -4,6 +4,8 @@
 // A walk lists the vertices in the order in which it finds them, those near its source first. For each it notes the vertex that it was
 // found from, at the vertex's own number: the source leads to itself, and 0 says that a vertex is not found yet. So the last found is a
 // farthest one, and the notes lead from it to the source.
+#![tactic(auto)]
+
 ghost use Rattle.std.specs.Prelude.{◌≡◌, List, ◌∷◌, ℕ, suc, ◌≤◌, ◌<◌};
 ghost use Rattle.limits.specs.Width.{width};
 ghost use Rattle.skeleton.specs.document.Skeleton.{IsTree};
@@ -18,7 +20,7 @@ use limits::{SIZE, WIDTH};
 const NOTES: usize = SIZE + 1;
 
 // The centre: its one vertex twice, or its two.
-#[derive(Drop)]
+#[derive(Clone, Copy)]
 pub struct Middles {
     pub first: usize,
     pub second: usize,

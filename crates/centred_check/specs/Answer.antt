@@ -2,11 +2,11 @@
 use Rattle.std.specs.Prelude.{◌≡◌, refl, ◌↔◌, Bool, true, false, List, [], ◌∷◌, ℕ}
 use Rattle.std.proofs.Common.{arith}
 use Rattle.refusal.specs.Checks.{Answers, passes, fails}
-use Rattle.refusal.specs.Laws.{clear_one, clear_both, first-place, refusal_front, refusal_back}
+use Rattle.refusal.specs.Laws.{clear_one, clear_both, refusal_front}
+use Rattle.refusal.proofs.Laws.{first-place, refusal_back}
 use Rattle.refusal.specs.declared.Check.{Check}
 use Rattle.refusal.specs.declared.Check.TheVariants.{Passed, Refuse}
 use Rattle.digit_code.specs.document.Code.{code_rows}
-use Rattle.digit_code.specs.document.Code as Code
 use Rattle.digit_code.specs.Digits as CodeSaid
 use Rattle.digit_code.specs.Ends.{Ends}
 use Rattle.digit_code.specs.Ordered.{Ordered}

@@ -1,6 +1,8 @@
 // Whether a right rooted code is a centred one, tested on its marks alone: nothing is decoded, sorted or copied. The test is `Middle` of
 // specs/Middle.antt, and specs/Theorems.antt proves that it is document 01's definition. `ds` are the digits that the marks `code` tell; a
 // plain code's marks are its digits, and one slice is lent as both.
+#![tactic(auto)]
+
 ghost use Rattle.std.specs.Prelude.{◌≡◌, [], ◌∷◌, ◌++◌, suc, ◌+◌, ◌-◌, ◌≤◌, ◌<◌, length, get_or, drop};
 ghost use Rattle.std.specs.Int.{w64};
 ghost use Rattle.std.proofs.Common.{Fits};

@@ -7,7 +7,8 @@ use native.Mathlib.Omega.{arith}
 use lib.ListN.{length, get_or, take, drop}
 use lib.Seq.{take-nil}
 use Rattle.refusal.specs.Checks.{Answers, passes, fails}
-use Rattle.refusal.specs.Laws.{clear_one, first-place}
+use Rattle.refusal.specs.Laws.{clear_one}
+use Rattle.refusal.proofs.Laws.{first-place}
 use Rattle.refusal.specs.declared.Check.TheVariants.{Passed, Refuse}
 use Rattle.digit_code.specs.document.Code.{codes, child_codes, LargerOf, Larger, row13}
 use Rattle.digit_code.specs.Parts.{codes_past}

@@ -4,7 +4,8 @@ use Rattle.std.specs.Prelude.{◌≡◌, refl, ◌⊎◌, List, [], ◌∷◌, �
 use Rattle.std.proofs.Common.{inl, inr, add-zero, add-one, arith, take-suc}
 use Rattle.std.proofs.Math.Decide.{dec_lt, ℕ_discrete}
 use Rattle.refusal.specs.document.Table.{Clear, FirstRefusal}
-use Rattle.refusal.specs.Laws.{clear_one, clear_both, first-place, refusal_front, refusal_back, never, others}
+use Rattle.refusal.specs.Laws.{clear_one, clear_both, refusal_front, never, others}
+use Rattle.refusal.proofs.Laws.{first-place, refusal_back}
 use Rattle.digit_code.specs.document.Code.{sum, EndsAt, row11, row12}
 
 pub sum-append : (x y : List ℕ) → sum (x ++ y) ≡ sum x + sum y

@@ -7,8 +7,10 @@ use Rattle.std.specs.Prelude.{◌≡◌, ◌⊎◌, List, [], ◌∷◌, ℕ, ze
 use Rattle.std.proofs.Common.{inl, inr, le_refl, arith}
 use Rattle.std.proofs.Math.Decide.{dec_le}
 use Rattle.refusal.specs.document.Table.{Row, Clear, FirstRefusal, OutcomeOf, Promise, row3}
-use Rattle.refusal.specs.Laws.{clear_one, first-place}
-use Rattle.refusal.specs.Stricter.{RefusedBy, Told, relaxed_clear, relaxed, tightened_clear, tightened_refusal}
+use Rattle.refusal.specs.Laws.{clear_one}
+use Rattle.refusal.proofs.Laws.{first-place}
+use Rattle.refusal.specs.Stricter.{RefusedBy, Told}
+use Rattle.refusal.proofs.Stricter.{relaxed_clear, relaxed, tightened_clear, tightened_refusal}
 use Rattle.digit_code.specs.document.Code.{plain, digit, cap, row10, row11, row12, row13, code_rows}
 use Rattle.digit_code.specs.Right.{RightCode, right_clear, clear_right}
 

@@ -24,18 +24,25 @@ pub ends_sum : (w : ℕ) (ds : List ℕ) → Ends w ds → sum ds + w ≡ length
 unfolding sum
 ends_sum zero [] h = refl
 ends_sum (suc w) (k ∷ ds) h = omega (arith, ends_sum (k + w) ds h)
-
 -- what ends is not begun by a shorter one that ends
+ends_sum zero (k ∷ ds) h = elim h [ ]
+ends_sum (suc w) [] h = elim h [ ]
+
 pub prefix_free : (w : ℕ) (c r : List ℕ) → Ends w c → Ends w (c ++ r) → r ≡ []
 prefix_free zero [] [] h g = refl
 prefix_free (suc w) (k ∷ c) r h g = prefix_free (k + w) c r h g
-
 -- before its last digit a place is open
+prefix_free zero [] (_ ∷ _) h g = elim g [ ]
+prefix_free zero (k ∷ c) r h g = elim h [ ]
+prefix_free (suc w) [] r h g = elim h [ ]
+
 pub ends_open : (w : ℕ) (c : List ℕ) → Ends w c → (i : ℕ) → i < length c → i < sum (take i c) + w
 unfolding sum
 ends_open zero [] h i l = omega arith
 ends_open (suc w) (k ∷ ds) h zero l = omega arith
 ends_open (suc w) (k ∷ ds) h (suc i) l = omega (arith, ends_open (k + w) ds h i (omega arith))
+ends_open zero (k ∷ ds) h i l = elim h [ ]
+ends_open (suc w) [] h i l = elim h [ ]
 
 ends_from : (w : ℕ) (c : List ℕ) → sum c + w ≤ length c → ((i : ℕ) → i < length c → i < sum (take i c) + w) → Ends w c
 unfolding sum

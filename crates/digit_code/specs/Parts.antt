@@ -37,14 +37,18 @@ module _ (arity : ℕ → ℕ) where
   unfolding codes
   codes-count zero [] h = refl
   codes-count (suc w) (m ∷ ms) h = ap suc (length-drop (arity m) (codes arity ms) ∙ (let e = codes-count (arity m + w) ms h in omega arith))
-
   -- what is left of marks whose digits end fills the places open there
+  codes-count zero (m ∷ ms) h = elim h [ ]
+  codes-count (suc w) [] h = elim h [ ]
+
   ends_drop : (w : ℕ) (c : List ℕ) → Ends w (digits arity c) → (i : ℕ) → (n : ℕ) × Ends n (digits arity (drop i c))
   ends_drop w c h zero = (w, h)
   ends_drop zero [] h (suc i) = (0, tt)
   ends_drop (suc w) (m ∷ ms) h (suc i) = ends_drop (arity m + w) ms h i
-
   -- every mark of marks whose digits end has its children behind it
+  ends_drop zero (m ∷ ms) h (suc i) = elim h [ ]
+  ends_drop (suc w) [] h (suc i) = elim h [ ]
+
   pub enough : (c : List ℕ) → Ends 1 (digits arity c) → (i : ℕ) → i < length c → arity (get_or c i 0) ≤ length (codes arity (drop (suc i) c))
   enough c h i l = let (n, e) = ends_drop 1 c h i in served n (drop i c) e (drop-cons c i 0 l)
     where
@@ -53,6 +57,7 @@ module _ (arity : ℕ → ℕ) where
         where
           at : (m : ℕ) → Ends m (digits arity (get_or c i 0 ∷ drop (suc i) c)) → arity (get_or c i 0) ≤ length (codes arity (drop (suc i) c))
           at (suc m) f = omega (arith, codes-count (arity (get_or c i 0) + m) (drop (suc i) c) f)
+          at zero f = elim f [ ]
 
   -- the code that begins at mark j ends before mark e
   pub record Ending (c : List ℕ) (j e : ℕ) : Type 0 where

@@ -25,8 +25,9 @@ module _ (arity : ℕ → ℕ) where
   codes_some (m ∷ ms) (suc i) h =
       let l : arity m + i < length (codes arity ms) = omega (arith, length-drop (arity m) (codes arity ms)) in
       rw get_or-drop (codes_some ms (arity m + i) l)
-
   -- of the codes behind mark v, the n-th of a mark's children begins within c
+  codes_some [] i h = elim h [ ]
+
   begins_within : (c : List ℕ) (v k n : ℕ) → n < length (take k (codes arity (drop v c))) → v + 1 + length (flatten (take n (take k (codes arity (drop v c))))) ≤ length c
   begins_within c v k n h =
       let D = codes arity (drop v c) in

@@ -1,4 +1,6 @@
 // Rooted digit codes: the comparer, the check of a digit code, and decoding.
+#![tactic(auto)]
+
 ghost use Rattle.std.specs.Prelude.{◌≡◌, [], ◌∷◌, suc, ◌+◌, ◌≤◌, ◌<◌, length};
 ghost use Rattle.refusal.specs.Checks.{Answers};
 ghost use Rattle.laws.specs.document.Laid.{Laid};
@@ -18,7 +20,7 @@ use limits::SIZE;
 use refusal::Check;
 
 // How one code stands to another in the dictionary, and how many pairs of digits were looked at to tell.
-#[derive(Drop)]
+#[derive(Clone, Copy)]
 pub enum Order {
     Less(usize),
     Equal(usize),

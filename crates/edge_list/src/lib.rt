@@ -1,6 +1,8 @@
 // A partner's edge list: its refusals 3 and 5 to 9, with letters 2, 21, 20 and 14 too, and the table of its neighbours.
 //
 // An edge list is flat, one byte for each end. Edges count from 1, as the places of the refusals do.
+#![tactic(auto)]
+
 ghost use Rattle.std.specs.Prelude.{◌≡◌, ◌⊎◌, [], ◌∷◌, ℕ, ◌≤◌, ◌<◌, length, replicate};
 ghost use Rattle.laws.specs.Tells.{Tells};
 ghost use Rattle.refusal.specs.document.Table.{Clear, Outside, row3};

@@ -1,12 +1,12 @@
--- Laws of editions. In order: how many neighbours; whether there is an edition, by them; row 22; a table in an edition, from what is known of it for
--- the limit. Assumes nothing.
+-- Laws of editions. In order: how many neighbours; whether there is an edition, by them; row 22; a table in an edition, from what is known of it for the limit. What
+-- rests on `in_edition` is in `proofs.Laws`. Assumes nothing.
 use Rattle.std.specs.Prelude.{◌≡◌, refl, List, [], ◌∷◌, ℕ, zero, suc, ◌≤◌}
 use Rattle.std.proofs.Common.{sym, subst, ◌∙◌, inl, inr, arith}
 use Rattle.refusal.specs.document.Table.{Row, Clear, FirstRefusal}
-use Rattle.refusal.specs.Checks.{Answers, passes, fails}
-use Rattle.refusal.specs.declared.Check.{Check}
+use Rattle.refusal.specs.Checks.{Answers, fails}
 use Rattle.refusal.specs.declared.Check.TheVariants.{Refuse}
-use Rattle.refusal.specs.Laws.{clear_one, clear_both, never, first-place, refusal_front, refusal_back}
+use Rattle.refusal.specs.Laws.{clear_one, clear_both, never, refusal_front}
+use Rattle.refusal.proofs.Laws.{first-place, refusal_back}
 use Rattle.edition.specs.document.Edition.{IsEdition, neighbours_in, row22, in_edition}
 
 -- ---- neighbours
@@ -68,7 +68,3 @@ module _ (e : ℕ) {r : ℕ} (is : r ≡ neighbours_in e) where
 
     pub refusal_in : (rows : ℕ → List Row) {k p : ℕ} → FirstRefusal (rows r) k p → FirstRefusal (in_edition e rows) k p
     refusal_in rows {k} {p} l = refusal_back (edition_clear an_edition) (subst (λ (x : ℕ). FirstRefusal (rows x) k p) is l)
-
-    pub answers_in : (rows : ℕ → List Row) {a : Check} → Answers (rows r) a → Answers (in_edition e rows) a
-    answers_in rows (passes c) = passes (clear_in rows c)
-    answers_in rows (fails l) = fails (refusal_in rows l)

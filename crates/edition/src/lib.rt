@@ -1,4 +1,6 @@
 // Editions: how many neighbours a vertex may have in each. What an edition is, and refusal 22, stands in specs/document/Edition.antt.
+#![tactic(auto)]
+
 ghost use Rattle.std.specs.Prelude.{◌≡◌};
 ghost use Rattle.edition.specs.document.Edition.{neighbours_in};
 

@@ -3,6 +3,8 @@
 // that reports how many pairs it looked at has two: the one whose name ends in `_pairs` hands that number over through a lent place. The four that
 // an exporter's host needs are of edition 1, and each has a second, whose name ends in `_edition`; every other is told the edition.
 // Those on skeletons with named atoms are in `atoms`.
+#![tactic(auto)]
+
 mod atoms;
 
 ghost use Rattle.form.specs.document.Form.{IsNTuple, IsCentred};

@@ -9,7 +9,8 @@ use Rattle.laws.specs.Rising.{Rising, lists_back, same-order}
 use Rattle.skeleton.specs.document.Skeleton.{rooted}
 use Rattle.skeleton.specs.document.Label.{rootedₗ}
 use Rattle.skeleton.specs.document.AtomMarks.{atoms}
-use Rattle.skeleton.specs.Carbon.{carbon, carbon_mark, carbon-marks, all-carbon}
+use Rattle.skeleton.specs.Carbon.{carbon, carbon_mark}
+use Rattle.skeleton.proofs.Carbon.{carbon-marks, all-carbon}
 use Rattle.form.specs.document.Form.{NTuple, Centred, IsNTuple, IsCentred}
 use Rattle.form.specs.document.Root.{RootOf}
 use Rattle.form.specs.Root.{CentredRoot}

@@ -1,1 +1,2 @@
 // The N-tuple code, the centre, the centred code and the verdict.
+#![tactic(auto)]

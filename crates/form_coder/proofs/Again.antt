@@ -11,7 +11,8 @@ use Rattle.laws.specs.Laid.{laid_length}
 use Rattle.laws.specs.Laying.{laid-front}
 use Rattle.refusal.specs.document.Table.{Writes}
 use Rattle.refusal.specs.Checks.{Answers, passes, fails}
-use Rattle.refusal.specs.Laws.{clear_one, first-place, Alike, alike-answers}
+use Rattle.refusal.specs.Laws.{clear_one, Alike}
+use Rattle.refusal.proofs.Laws.{first-place, alike-answers}
 use Rattle.refusal.specs.Giving.{laid_writes, written, written-room, written_length}
 use Rattle.refusal.specs.declared.Check.{Check}
 use Rattle.refusal.specs.declared.Check.TheVariants.{Passed, Refuse}
@@ -24,7 +25,8 @@ use Rattle.skeleton.specs.document.Skeleton.{IsSkeleton}
 use Rattle.skeleton.specs.document.Label.{digits, labels}
 use Rattle.skeleton.specs.document.Atom.{Atom}
 use Rattle.skeleton.specs.document.AtomMarks.{atoms}
-use Rattle.skeleton.specs.Carbon.{carbon, carbon_mark, carbon-digits, carbon-labels}
+use Rattle.skeleton.specs.Carbon.{carbon, carbon_mark}
+use Rattle.skeleton.proofs.Carbon.{carbon-digits, carbon-labels}
 use Rattle.form.specs.document.Form.{IsNTuple, row14_form}
 use Rattle.form.specs.document.Labelled.{IsNTupleₗ, Own, row14ₗ}
 use Rattle.form.specs.Labelled.{IsFormₗ}

@@ -15,7 +15,8 @@ use Rattle.laws.specs.Places.{place, place_at, at_place}
 use Rattle.refusal.specs.document.Table.{Writes}
 use Rattle.skeleton.specs.document.Skeleton.{IsTree}
 use Rattle.numbering.specs.document.Order.{order}
-use Rattle.numbering.specs.Numbers.{Numbers, order-numbers}
+use Rattle.numbering.specs.Numbers.{Numbers}
+use Rattle.numbering.proofs.Numbers.{order-numbers}
 use Rattle.numbering.specs.Same.{map_in}
 use Rattle.rooted_coder.specs.Ordered.{mark_of}
 use Rattle.form_coder.specs.Numbered.{Numbered, Counts, ByPlace}

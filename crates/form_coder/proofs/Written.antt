@@ -22,10 +22,11 @@ use Rattle.skeleton.specs.document.Skeleton.{IsTree, rooted}
 use Rattle.skeleton.specs.document.Label.{rootedₗ, digits}
 use Rattle.skeleton.specs.document.Atom.{Atom}
 use Rattle.skeleton.specs.document.AtomMarks.{atoms}
-use Rattle.skeleton.specs.Carbon.{carbon, carbon_mark, carbon-digits, all-carbon-digits}
+use Rattle.skeleton.specs.Carbon.{carbon, carbon_mark}
+use Rattle.skeleton.proofs.Carbon.{carbon-digits, all-carbon-digits}
 use Rattle.skeleton.specs.General.{code_length}
 use Rattle.letters.specs.Named.{Ranked, carbon-named}
-use Rattle.numbering.specs.Rewritten.{order-carbon}
+use Rattle.numbering.proofs.Rewritten.{order-carbon}
 use Rattle.longest_path.specs.document.Path.{IsCentre}
 use Rattle.longest_path.specs.Theorems.{centre_inside}
 use Rattle.form.specs.document.Form.{IsNTuple, IsCentred}

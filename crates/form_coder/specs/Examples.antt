@@ -1,6 +1,6 @@
 -- The sums, run on small skeletons. Assumes nothing.
 use Rattle.std.specs.Prelude.{◌≡◌, refl, ℕ}
-use Rattle.std.proofs.Math.Logic.{Dec·not}
+use Rattle.std.proofs.Math.Logic.{Dec.not as dec_not}
 use mathlib.Core.List.{List, [], ◌∷◌, flatten}
 use Rattle.std.proofs.Math.Decide.{ℕ_discrete, dec_lt}
 use Rattle.laws.specs.document.Order.{dec≽, insert, sort}
@@ -14,7 +14,7 @@ abbrev butane : List ℕ
 butane = 1 ∷ 2 ∷ 2 ∷ 3 ∷ 3 ∷ 4 ∷ []
 
 of_butane : of_degree butane (rooted_pairs 4 butane) 2 4 ≡ 2
-unfolding of_degree degree rooted_pairs pairs_at sibling_pairs digit_pairs sum code_at join children neighbours arcs sort insert dec≽ flatten ℕ_discrete dec_lt Dec·not
+unfolding of_degree degree rooted_pairs pairs_at sibling_pairs digit_pairs sum code_at join children neighbours arcs sort insert dec≽ flatten ℕ_discrete dec_lt dec_not
 of_butane = refl
 
 its_roots : of_degree butane (λ v. 1) 2 4 ≡ 2
@@ -26,5 +26,5 @@ abbrev isobutane : List ℕ
 isobutane = 1 ∷ 2 ∷ 1 ∷ 3 ∷ 1 ∷ 4 ∷ []
 
 of_isobutane : of_degree isobutane (rooted_pairs 4 isobutane) 3 4 ≡ 3
-unfolding of_degree degree rooted_pairs pairs_at sibling_pairs digit_pairs sum code_at join children neighbours arcs sort insert dec≽ flatten ℕ_discrete dec_lt Dec·not
+unfolding of_degree degree rooted_pairs pairs_at sibling_pairs digit_pairs sum code_at join children neighbours arcs sort insert dec≽ flatten ℕ_discrete dec_lt dec_not
 of_isobutane = refl

@@ -19,9 +19,9 @@ use Rattle.skeleton.specs.document.Atom.{Atom}
 use Rattle.skeleton.specs.document.AtomMarks.{atoms}
 use Rattle.skeleton.specs.Carbon.{carbon}
 use Rattle.numbering.specs.Numbers.{pairsₗ}
-use Rattle.numbering.specs.Rewritten.{carbon-counted}
-use Rattle.numbering.specs.Pairs.{pairs-counted}
-use Rattle.numbering.specs.Bound.{pairs_bound, pairsₗ_power}
+use Rattle.numbering.proofs.Rewritten.{carbon-counted}
+use Rattle.numbering.proofs.Pairs.{pairs-counted}
+use Rattle.numbering.proofs.Bound.{pairs_bound, pairsₗ_power}
 use Rattle.form.specs.Forms.{n_tuple-form, centred-form}
 use Rattle.form_coder.specs.document.Pairs.{OverMiddles, of_degree, OverWidest, CentredPairs, NTuplePairs, CentredRoots, NTupleRoots}
 

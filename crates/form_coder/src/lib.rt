@@ -3,6 +3,8 @@
 //
 // Marks of digit and atom are compared. `atoms` has the rank of each vertex's atom; a plain code is that of the skeleton whose vertices are all
 // carbon, and its digits are what the marks tell.
+#![tactic(auto)]
+
 ghost use Rattle.std.specs.Prelude.{◌≡◌, List, [], ◌∷◌, map, ℕ, ◌≤◌, ◌<◌, length, get_or, take, set};
 ghost use Rattle.laws.specs.document.Once.{Once};
 ghost use Rattle.laws.specs.document.Laid.{laid_over};
@@ -87,7 +89,7 @@ fn raise(best: &mut [u8], other: &[u8], n: usize) -> bool
     if digit_code::falls(&best[..n], &other[..n]) {
         return false;
     }
-    bytes::copy(&other[..n], best);
+    copying::copy(&other[..n], best);
     true
 }
 
@@ -139,7 +141,7 @@ pub fn numbered_marks(
         let mut other = [0u8; SIZE];
         looked += rooted_coder::rooted(&rows, &degs, atoms, n, v, &mut its, &mut other);
         if raise(out, &other, n) {
-            bytes::copy(&its, order);
+            copying::copy(&its, order);
         }
     }
     looked
@@ -157,12 +159,12 @@ pub fn centred_marks(
     requires n_in_bounds { (n ≤ length ds.old) × (n ≤ length out.old) }
     ensures ds_after { take n ds.new ≡ digits names.atoms (take n out.new) }
     ensures by_index { (label : ℕ → Atom) → Named n label atoms.now
-        → Writes (centredₗ names.atoms n edges.now label) out.old n out.new
+        → Writes (IsCentredₗ names.atoms n edges.now label) out.old n out.new
         × OverMiddles n edges.now (numbers.pairsₗ names.atoms label n edges.now) result }
 {
     let mut order = [0u8; SIZE];
     let looked = numbered_marks(n, edges, atoms, &mut order, out);
-    bytes::copy(&out[..n], ds);
+    copying::copy(&out[..n], ds);
     read_digits(ds, n);
     looked
 }
@@ -251,7 +253,7 @@ pub fn n_tuple_marks(n: usize, edges: &[u8], atoms: &[u8; SIZE], out: &mut [u8])
     requires skeleton { tree.IsSkeleton size width n edges.now × Ranked n atoms.now }
     requires n_in_bounds { n ≤ length out.old }
     ensures { (label : ℕ → Atom) → Named n label atoms.now
-        → Writes (nTupleₗ names.atoms n edges.now label) out.old n out.new
+        → Writes (IsNTupleₗ names.atoms n edges.now label) out.old n out.new
         × OverWidest n edges.now (numbers.pairsₗ names.atoms label n edges.now) result }
 {
     let mut rows = [[0u8; WIDTH]; SIZE];
@@ -271,7 +273,7 @@ pub fn n_tuple_marks(n: usize, edges: &[u8], atoms: &[u8; SIZE], out: &mut [u8])
             raise(&mut best, &other, n);
         }
     }
-    bytes::copy(&best[..n], out);
+    copying::copy(&best[..n], out);
     looked
 }
 

@@ -44,6 +44,8 @@ same_bits (fin false m e) (fin false n d) a c C v w = ap (λ (k : ℕ). 0 + (siz
         let z : i * up g * 2 ^ 1074 * c ≡ a * 2 ^ 1074 * down g =
         mul_right_comm (i * up g) (2 ^ 1074) c ∙ ap (λ (k : ℕ). k * 2 ^ 1074) u.1 ∙ mul_right_comm a (down g) (2 ^ 1074) in
         cut_same (i * up g * 2 ^ 1074) (down g) (a * 2 ^ 1074) c (down_pos g) C z
+same_bits nan y a c C v w = elim v [ ]
+same_bits (inf _) y a c C v w = elim v [ ]
 
 value_unique :
     (x y : Float) (a c : ℕ) → 0 < c → T (fits binary64 x) → T (fits binary64 y) → HasValue x false a c → HasValue y false a c → x ≡ y

@@ -131,3 +131,5 @@ divided (fin false m e) (fin false n d) a b B v w =
     let s : m * up e * down d * b ≡ a * (n * up d * down e) = rw (p, q) (simp (mul_assoc, mul_comm, mul_left_comm)) in
     rw (ne_eqb n 0 z)
     (round_same binary64 false (m * up e * down d) (n * up d * down e) a b (mul-pos k (down_pos e)) B s)
+divided nan y a b B v w = elim v [ ]
+divided (inf _) y a b B v w = elim v [ ]

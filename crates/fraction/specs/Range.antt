@@ -8,7 +8,8 @@ use Rattle.std.specs.Float.Ieee.{up, down, lt, ne, of_bits, to_bits, fits, is_na
 use Rattle.std.specs.Float.Ieee.Bits.{to_bits-lt}
 use Rattle.std.specs.Float.Ieee.Compare.{differs_from_itself, nan_differs}
 use Rattle.refusal.specs.Checks.{Answers, passes, fails}
-use Rattle.refusal.specs.Laws.{clear_one, first-place}
+use Rattle.refusal.specs.Laws.{clear_one}
+use Rattle.refusal.proofs.Laws.{first-place}
 use Rattle.refusal.specs.declared.Check.TheVariants.{Passed, Refuse}
 use Rattle.fraction.specs.document.Fraction.{NoFraction, row4_fraction}
 

@@ -1,4 +1,6 @@
 // The fraction form of a rooted code, as an f64.
+#![tactic(auto)]
+
 ghost use Rattle.std.specs.Prelude.{◌≡◌, [], ◌∷◌, ◌≤◌, length};
 ghost use Rattle.limits.specs.document.Limits.{size, fraction_size};
 ghost use Rattle.limits.specs.Width.{width};
@@ -13,7 +15,7 @@ ghost use Rattle.fraction.specs.Drawing.{Next, Draws};
 use refusal::{Answer, Check};
 
 // What the writer of a fraction answers.
-#[derive(Drop)]
+#[derive(Clone, Copy)]
 pub enum Fraction {
     // The exact value.
     Exact(f64),
@@ -22,14 +24,14 @@ pub enum Fraction {
 }
 
 // The first bit behind the binary point, and what is left of the double.
-#[derive(Drop)]
+#[derive(Clone, Copy)]
 pub struct Digit {
     pub bit: u64,
     pub rest: f64,
 }
 
 // The first 53 bits behind the binary point, and whether anything but zero is left.
-#[derive(Drop)]
+#[derive(Clone, Copy)]
 pub struct Drawn {
     pub bits: u64,
     pub rest: bool,

@@ -5,7 +5,8 @@ use mathlib.Core.List.{List, [], ◌∷◌, flatten}
 use Rattle.std.proofs.Math.Decide.{dec_lt, ℕ_discrete}
 use Rattle.laws.specs.document.Order.{◌≽◌, dec≽, insert}
 use Rattle.refusal.specs.document.Table.{FirstRefusal}
-use Rattle.refusal.specs.Laws.{clear_one, first-place, refusal_front, refusal_back}
+use Rattle.refusal.specs.Laws.{clear_one, refusal_front}
+use Rattle.refusal.proofs.Laws.{first-place, refusal_back}
 use Rattle.digit_code.specs.document.Code.{codes, row10}
 use Rattle.skeleton.specs.document.Label.{digits, row20}
 use Rattle.skeleton.specs.document.Atom.{bonds}

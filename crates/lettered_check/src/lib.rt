@@ -1,5 +1,7 @@
 // Whether digits with an atom letter for each are a centred code: what is refused of them, in the order of the table. Marks are made of digits and
 // letters in one pass, and a right code is told by `centred_check` in another; only what is none is looked at row by row.
+#![tactic(auto)]
+
 ghost use Rattle.std.specs.Prelude.{◌≡◌, [], ◌∷◌, ◌++◌, ◌≤◌, length, take};
 ghost use Rattle.refusal.specs.document.Table.{Clear, row3};
 ghost use Rattle.refusal.specs.Checks.{Answers};
@@ -73,7 +75,7 @@ fn check_marks(ds: &[u8], code: &[u8]) -> Check
 }
 
 // How digits stand to the limits of their letters.
-#[derive(Drop)]
+#[derive(Clone, Copy)]
 enum Caps {
     // A digit is above VALENCE, and there are no marks.
     High,

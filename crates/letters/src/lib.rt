@@ -1,4 +1,6 @@
 // Letters that name atoms, a byte for each vertex: what is refused of them by themselves, the atoms that they name, and the letters and digits of marks.
+#![tactic(auto)]
+
 ghost use Rattle.std.specs.Prelude.{◌≡◌, [], ◌∷◌, ◌-◌, ◌≤◌, length};
 ghost use Rattle.laws.specs.Tells.{Tells};
 ghost use Rattle.refusal.specs.Checks.{Answers};

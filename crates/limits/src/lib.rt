@@ -1,4 +1,5 @@
 // The numbers of document 01 that bound what is taken, each said once. specs/ has them for the definitions.
+#![tactic(auto)]
 
 // Vertices of a skeleton, at most; so digits of a code too.
 pub const SIZE: usize = 64;

@@ -2,3 +2,6 @@
 pub mod Writing
 pub mod Locating
 pub mod Passing
+pub mod Judged
+pub mod Plain
+pub mod OfEdition

@@ -8,7 +8,8 @@ use lib.ListN.{length, take, drop}
 use lib.Seq.{length-take-le}
 use Rattle.laws.specs.Part.{part, part_length}
 use Rattle.refusal.specs.document.Table.{Row, FirstRefusal, Outside}
-use Rattle.refusal.specs.Laws.{clear_one, first-place, refusal_front, refusal_back}
+use Rattle.refusal.specs.Laws.{clear_one, refusal_front}
+use Rattle.refusal.proofs.Laws.{first-place, refusal_back}
 use Rattle.lines.specs.declared.Opening.{Opening}
 use Rattle.lines.specs.declared.Opening.TheVariants.{At, Nothing}
 use Rattle.lines.specs.declared.Span.{Span}

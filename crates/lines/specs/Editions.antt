@@ -7,7 +7,8 @@
 use Rattle.std.specs.Prelude.{◌≡◌, refl, ◌⊎◌, List, [], ◌∷◌, ◌++◌, map, ℕ, ◌≤◌, length}
 use Rattle.std.proofs.Common.{ap, inl, inr, ⊎_elim, arith, length-drop}
 use Rattle.refusal.specs.document.Table.{Row, Outcome, OutcomeOf, Promise, kept, left}
-use Rattle.refusal.specs.Stricter.{RefusedBy, relaxed}
+use Rattle.refusal.specs.Stricter.{RefusedBy}
+use Rattle.refusal.proofs.Stricter.{relaxed}
 use Rattle.digit_code.specs.document.Code.{plain, row10, row11, row12, row13}
 use Rattle.digit_code.specs.Editions.{above-both}
 use Rattle.form.specs.document.Form.{IsCentred, row14_form}

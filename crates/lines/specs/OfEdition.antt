@@ -1,22 +1,23 @@
 -- The lines of an edition are the plain lines for its limit, where there is such an edition; else each is 22.
 --
--- In order: of an edition that is none; the answer to a line, and reading one, both ways; that they are a sound format. Assumes nothing.
+-- In order: of an edition that is none; the answer to a line, and reading one, both ways; that they are a sound format. What rests on `tied` is in `proofs.OfEdition`.
+-- Assumes nothing.
 use Rattle.std.specs.Prelude.{◌≡◌, refl, List, [], ◌∷◌, ◌++◌, ℕ, ◌≤◌, length}
 use Rattle.std.proofs.Common.{sym, subst, ◌∙◌}
 use Rattle.refusal.specs.document.Table.{Row, Clear, Outcome, refuses, Promise, kept, left}
-use Rattle.refusal.specs.Laws.{clear_both, others, refusal_back, refusal_behind}
+use Rattle.refusal.specs.Laws.{clear_both, others}
+use Rattle.refusal.proofs.Laws.{refusal_back, refusal_behind}
 use Rattle.limits.specs.document.Limits.{size}
 use Rattle.edition.specs.document.Edition.{IsEdition, neighbours_in, row22}
 use Rattle.edition.specs.Laws.{at_most_nine, an_edition, edition_clear, refused_22}
 use Rattle.texts.specs.document.Text.{Format, line_rows, LineAnswers}
 use Rattle.texts.specs.document.Lent.{Hands, line_row15}
 use Rattle.texts.specs.Damage.{Accept}
-use Rattle.texts.specs.Sound.{Sound}
 use Rattle.texts.specs.Judging.{judged}
 use Rattle.lines.specs.document.Line.{Front, plain_lines}
 use Rattle.lines.specs.document.Judged.{digit_table}
 use Rattle.lines.specs.document.Reading.{digits_lent, lines_of, LineRead}
-use Rattle.lines.specs.Judged.{table_sound, table_accept}
+use Rattle.lines.specs.Judged.{table_accept}
 
 -- ---- of an edition that is none
 
@@ -66,24 +67,9 @@ module _ (e : ℕ) where
 
     -- ---- a sound format
 
-    accept_of : {c : List ℕ} → Accept (lines_of e) c → Accept limited c
-    accept_of a = record { formed = a.formed; clear = a.clear }
-
     -- a centred code of at most `size` digits is one that a line may carry
     pub edition_accept : (c : List ℕ) → length c ≤ size → Clear (judged (digit_table (neighbours_in e)) c) → Accept (lines_of e) c
     edition_accept c l k = let a = table_accept (neighbours_in e) (at_most_nine e) c l k in record { formed = a.formed; clear = a.clear }
-
-    pub edition_sound : Sound (lines_of e)
-    edition_sound =
-        let s = table_sound (neighbours_in e) (at_most_nine e) in
-        record {
-          reads = record { first_clear = edition_clear i; once = s.reads.once; read = s.reads.read; back = s.reads.back };
-          free = λ c a. s.free c (accept_of a);
-          some = λ c a. s.some c (accept_of a);
-          apart = λ c d a b. s.apart c d (accept_of a) (accept_of b);
-          starts = λ c d z a b. s.starts c d z (accept_of a) (accept_of b);
-          ends = λ c d x a b. s.ends c d x (accept_of a) (accept_of b);
-        }
 
 -- a line that is read for the limit of an edition
 pub line_in :

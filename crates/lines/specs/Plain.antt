@@ -1,5 +1,5 @@
--- Plain lines are a sound format. In order: how long a line is; a text has their form in one way; reading undoes writing; their parts, the count
--- and the digits, are tied: from the digits the count, from the count the digits' number and, by the rows, their sum. Assumes nothing.
+-- Plain lines are a sound format. In order: how long a line is; a text has their form in one way; reading undoes writing; their parts, the count and the digits, are
+-- tied: from the digits the count, from the count the digits' number and, by the rows, their sum. What rests on `tied` is in `proofs.Plain`. Assumes nothing.
 use Rattle.std.specs.Prelude.{◌≡◌, ℕ, ◌+◌, ◌≤◌, ◌<◌, length}
 use Rattle.std.proofs.Math.Path.{refl, ap}
 use Rattle.std.proofs.Common.{sym, ap₂, subst, ◌∙◌, inr, ⊎_elim, arith, length-append}
@@ -12,11 +12,10 @@ use Rattle.texts.specs.document.Numerals.{figures, decimal, Digits, IsCount}
 use Rattle.texts.specs.document.Text.{through}
 use Rattle.texts.specs.Judging.{judged, judged-through, none}
 use Rattle.texts.specs.Damage.{Accept}
-use Rattle.texts.specs.Sound.{Once, Reads, Sound}
-use Rattle.texts.specs.Numerals.{length_figures, sum-figures, same-figures, decimal-counts, count-decimal, count-short, count_some, one-count, marks-figures, marks-count}
+use Rattle.texts.specs.Sound.{Once, Reads}
+use Rattle.texts.specs.Numerals.{length_figures, sum-figures, same-figures, decimal-counts, count-decimal, count-short, one-count, marks-figures, marks-count}
 use Rattle.texts.specs.document.Parts.{spaced}
 use Rattle.texts.specs.Spaced.{Marked, Alike, Tied, same_parts}
-use Rattle.texts.specs.Parted.{parted_sound}
 use Rattle.lines.specs.document.Line.{body, line, Front, front, Formed, row3-line, row5_line, DigitRow, plain_lines}
 
 pub length_line : (c : List ℕ) → length (line c) ≡ length (decimal (length c)) + length c + 2
@@ -96,10 +95,10 @@ module _ (most : ℕ) (rows : List DigitRow) where
     total : (c : List ℕ) → Accept (plain_lines most rows) c → sum c + 1 ≡ length c
     total c a = lawful c (parts_clear (front (length c) c) a.clear).2
 
-    few : (c : List ℕ) → Accept (plain_lines most rows) c → length c ≤ 99
+    pub few : (c : List ℕ) → Accept (plain_lines most rows) c → length c ≤ 99
     few c a = (count-decimal a.formed.counts).1
 
-    tied : (c d : List ℕ) → Accept (plain_lines most rows) c → Accept (plain_lines most rows) d → Tied (decimal (length c)) (figures c ∷ []) (decimal (length d)) (figures d ∷ [])
+    pub tied : (c d : List ℕ) → Accept (plain_lines most rows) c → Accept (plain_lines most rows) d → Tied (decimal (length c)) (figures c ∷ []) (decimal (length d)) (figures d ∷ [])
     tied c d a b = (count-alike, digits-alike)
       where
         count-alike : ◌≡◌ {A = List (List ℕ)} (figures c ∷ []) (figures d ∷ []) → Alike (decimal (length c)) (decimal (length d))
@@ -112,17 +111,3 @@ module _ (most : ℕ) (rows : List DigitRow) where
         digits-alike e =
             let n : length c ≡ length d = one-count (decimal-counts (length c) (few c a)) (subst (λ (x : List ℕ). IsCount x (length d)) (sym e) (decimal-counts (length d) (few d b))) in
             (omega (arith, length_figures c, length_figures d), omega (arith, sum-figures c, sum-figures d, length_figures c, total c a, total d b))
-
-    pub plain_sound : Sound (plain_lines most rows)
-    unfolding body spaced
-    plain_sound =
-        parted_sound plain_reads
-        (record {
-          front = λ c. decimal (length c);
-          more = λ c. figures c ∷ [];
-          is = λ c. refl;
-          sized = λ c d. refl;
-          some = λ c a. count_some (decimal-counts (length c) (few c a));
-          marked = λ c a. (marks-count (decimal-counts (length c) (few c a)), (marks-figures c, tt));
-          tied = tied;
-        })

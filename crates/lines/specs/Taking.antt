@@ -5,7 +5,8 @@ use Rattle.std.proofs.lemmas.List.{length-map}
 use Rattle.laws.specs.document.Laid.{laid_over}
 use Rattle.laws.specs.Part.{part, part_length}
 use Rattle.refusal.specs.document.Table.{Row, Clear, FirstRefusal, gives, refuses, left, row3}
-use Rattle.refusal.specs.Laws.{clear_one, others, refusal_front, refusal_back, refusal_behind, alike_refusal}
+use Rattle.refusal.specs.Laws.{clear_one, others, refusal_front}
+use Rattle.refusal.proofs.Laws.{refusal_back, refusal_behind, alike_refusal}
 use Rattle.texts.specs.document.Text.{through, of_line}
 use Rattle.texts.specs.document.Lent.{line_row15}
 use Rattle.texts.specs.Judging.{judged, judged-through, none}

@@ -1,5 +1,7 @@
 // Lines: the form of a line, found and written; a line and a text, read. What a line is stands in specs/document/Line.antt, what the
 // functions on its form promise in specs/Form.antt, and what reading promises in specs/document/Reading.antt.
+#![tactic(auto)]
+
 ghost use Rattle.std.specs.Prelude.{◌≡◌, true, List, ◌∷◌, ℕ, ◌≤◌, ◌<◌, length, set};
 ghost use Rattle.laws.specs.document.Laid.{laid_over, Laid};
 ghost use Rattle.laws.specs.document.Each.{Each};
@@ -26,7 +28,7 @@ use refusal::{Answer, Check};
 const BLOCK: usize = 16;
 
 // How a line begins.
-#[derive(Drop)]
+#[derive(Clone, Copy)]
 pub enum Opening {
     // what its count says, and where what follows the space begins
     At(usize, usize),
@@ -35,7 +37,7 @@ pub enum Opening {
 }
 
 // The digits of a line.
-#[derive(Drop)]
+#[derive(Clone, Copy)]
 pub enum Span {
     // where they begin, and where they end
     Digits(usize, usize),
@@ -44,7 +46,7 @@ pub enum Span {
 }
 
 // How far a text is read: so many lines, up to a place.
-#[derive(Drop)]
+#[derive(Clone, Copy)]
 pub struct Progress {
     pub lines: usize,
     pub at: usize,

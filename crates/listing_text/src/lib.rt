@@ -1,12 +1,14 @@
 // The listing: an answer to each line of a text and then the totals, as document 01 has them written. What it is stands in
 // specs/document/Listing.antt. It is handed out in pieces: it is put together from its start, number by number, and a window goes along, into
 // which falls what is asked for.
+#![tactic(auto)]
+
 ghost use Rattle.std.specs.Prelude.{◌≡◌, [], ◌∷◌, ◌++◌, ◌≤◌, min, length};
 ghost use Rattle.limits.specs.document.Limits.{size};
 ghost use Rattle.refusal.specs.document.Outcome.{told};
 ghost use Rattle.lines.specs.document.Judged.{digit_table};
 ghost use Rattle.named_lines.specs.document.Named.{lines_of_named, named_table};
-ghost use Rattle.listing_text.specs.document.Listing.{longest, numeral, answer_line, totals as Listing·totals, ListsOf, Lists};
+ghost use Rattle.listing_text.specs.document.Listing.{longest, numeral, answer_line, totals as listing_totals, ListsOf, Lists};
 ghost use Rattle.listing_text.specs.Window.{Puts};
 ghost use Rattle.listing_text.specs.Steps.{lines_of_kind, Allowed, Replied, is_record, Spelt};
 
@@ -14,7 +16,7 @@ use limits::SIZE;
 use refusal::Answer;
 
 // Which lines a text has.
-#[derive(Drop)]
+#[derive(Clone, Copy)]
 pub enum Kind {
     // plain ones, where a vertex may have so many neighbours
     Plain(u8),
@@ -23,7 +25,7 @@ pub enum Kind {
 }
 
 // How far the window is: so many bytes are still to be passed over, and so many lie in what is lent.
-#[derive(Drop)]
+#[derive(Clone, Copy)]
 struct Window {
     skip: usize,
     done: usize,
@@ -52,7 +54,7 @@ fn put(bytes: &[u8], w: Window, out: &mut [u8]) -> Window
         return Window { skip: 0, done };
     }
     let end = least(n, skip + (out.len() - done));
-    bytes::copy(&bytes[skip..end], &mut out[done..]);
+    copying::copy(&bytes[skip..end], &mut out[done..]);
     Window {
         skip: 0,
         done: done + (end - skip),
@@ -102,7 +104,7 @@ fn answer(a: Answer, line: usize, w: Window, out: &mut [u8]) -> Window
 
 // Puts the totals.
 fn totals(read: usize, refused: usize, w: Window, out: &mut [u8]) -> Window
-    ensures { Puts (Listing·totals read refused) out.old w.skip w.done out.new result.skip result.done }
+    ensures { Puts (listing_totals read refused) out.old w.skip w.done out.new result.skip result.done }
 {
     let a = put(b"read ", w, out);
     let b = number(read, 32, a, out);

@@ -3,7 +3,7 @@
 -- In order: farthest vertices; lists that begin differently; two paths from one vertex made one way, and that there is one way only; where
 -- the way from a vertex joins a path; the theorems. Nothing is said of how a farthest vertex is found. Assumes nothing.
 use Rattle.std.specs.Prelude.{◌≡◌, refl, ◌⊎◌, ℕ, suc, ◌+◌, ◌≤◌, length}
-use Rattle.std.proofs.Common.{sym, ◌∙◌, inl, inr, ⊎_elim, arith}
+use Rattle.std.proofs.Common.{sym, subst, ◌∙◌, inl, inr, ⊎_elim, arith}
 use mathlib.Core.List.Memᴰ
 use mathlib.Core.List.{List, [], ◌∷◌, Memᴰ}
 use Rattle.std.proofs.Math.Decide.{ℕ_discrete}
@@ -94,7 +94,7 @@ module _ (N : ℕ) (E : List ℕ) (t : IsTree N E) where
   triangle m (x ∷ l) (y ∷ r) u v h k i j = step (ℕ_discrete x y) (λ (g : IsPath N E (x ∷ r)) (z : Last v (x ∷ r)). triangle x l r u v (path_tail N E h) g i z)
     where
       step : Dec (x ≡ y) → (IsPath N E (x ∷ r) → Last v (x ∷ r) → (w : Way N E u v) × (length w.rest ≤ length l + length r)) → (w : Way N E u v) × (length w.rest ≤ suc (length l) + suc (length r))
-      step (yes e) f = let (w, b) = f (rw e (path_tail N E k)) (rw e j) in (w, omega arith)
+      step (yes e) f = let (w, b) = f (rw e (path_tail N E k)) (subst (λ (z : ℕ). Last v (z ∷ r)) (sym e) j) in (w, omega arith)
       step (no n) f = split m (x ∷ l) (y ∷ r) u v h k i j n
 
   same_way : (a : ℕ) (p q : List ℕ) (b : ℕ) → IsPath N E (a ∷ p) → IsPath N E (a ∷ q) → Last b (a ∷ p) → Last b (a ∷ q) → p ≡ q
@@ -104,7 +104,7 @@ module _ (N : ℕ) (E : List ℕ) (t : IsTree N E) where
   same_way a (x ∷ p) (y ∷ q) b h k i j = step (ℕ_discrete x y) (λ (r : List ℕ) (g : IsPath N E (x ∷ r)) (z : Last b (x ∷ r)). same_way x p r b (path_tail N E h) g i z)
     where
       step : Dec (x ≡ y) → ((r : List ℕ) → IsPath N E (x ∷ r) → Last b (x ∷ r) → p ≡ r) → x ∷ p ≡ y ∷ q
-      step (yes e) f = let d : p ≡ q = f q (rw e (path_tail N E k)) (rw e j) in cc
+      step (yes e) f = let d : p ≡ q = f q (rw e (path_tail N E k)) (subst (λ (z : ℕ). Last b (z ∷ q)) (sym e) j) in cc
       step (no n) f =
           let d : p ≡ a ∷ y ∷ q = f (a ∷ y ∷ q) (before N E t x a (y ∷ q) k (turn E h.joined.0) n) j in
           absurd (h.once.0 (Memᴰ.tail (rw d (Memᴰ.head refl))))
@@ -125,7 +125,7 @@ module _ (N : ℕ) (E : List ℕ) (t : IsTree N E) where
             path_l = before N E t y m l a.path_l (turn E a.path_r.joined.0) (apart_turn l (y ∷ r) a.apart);
             path_r = path_tail N E a.path_r;
             path_w = rw e (path_tail N E a.path_w);
-            last = rw e a.last;
+            last = subst (λ (z : ℕ). Last u (z ∷ w)) (sym e) a.last;
             apart = past_first m y r a.path_r.once;
             off_l = past_first m z w a.path_w.once;
             long = omega (arith, a.long);

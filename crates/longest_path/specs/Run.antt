@@ -3,7 +3,7 @@
 -- In order: searching and sifting a list; the rounds; the theorems that follow. Assumes nothing.
 use Rattle.std.specs.Prelude.{◌≡◌, refl, ◌⊎◌, ℕ, zero, suc, ◌+◌, ◌*◌, ◌≤◌}
 use Rattle.std.proofs.Common.{sym, inl, inr, ⊎_elim, arith}
-use Rattle.std.proofs.Math.Logic.{Dec·and, Dec·not}
+use Rattle.std.proofs.Math.Logic.{Dec.and as dec_and, Dec.not as dec_not}
 use mathlib.Core.List.Memᴰ
 use mathlib.Core.List.{List, [], ◌∷◌, Memᴰ}
 use Rattle.std.proofs.Math.Decide.{ℕ_discrete}
@@ -60,10 +60,10 @@ abbrev Leads : List ℕ → ℕ → Arc → Type 0
 Leads l v e = (e.0 ≡ v) × In l e.1
 
 unfoldable pub dec_two : (E l : List ℕ) (v : ℕ) → Dec (Two E (In l) v)
-dec_two E l v = step (seek (λ e. Dec·and (leads e) (seek (λ f. Dec·and (leads f) (Dec·not (ℕ_discrete e.1 f.1))) (arcs E))) (arcs E))
+dec_two E l v = step (seek (λ e. dec_and (leads e) (seek (λ f. dec_and (leads f) (dec_not (ℕ_discrete e.1 f.1))) (arcs E))) (arcs E))
   where
     leads : (e : Arc) → Dec (Leads l v e)
-    leads e = Dec·and (ℕ_discrete e.0 v) (dec_in e.1 l)
+    leads e = dec_and (ℕ_discrete e.0 v) (dec_in e.1 l)
 
     Other : Arc → Type 0
     Other e = (f : Arc) × Memᴰ f (arcs E) × (Leads l v f × (e.1 ≡ f.1 → ⊥))
@@ -96,7 +96,7 @@ data Size (l : List ℕ) : Type 0 where
   many : (u v w : ℕ) → In l u → In l v → In l w → (u ≡ v → ⊥) → (u ≡ w → ⊥) → (v ≡ w → ⊥) → Size l
 
 size : (l : List ℕ) (u : ℕ) → In l u → Size l
-size l u i = step (seek (λ w. Dec·not (ℕ_discrete u w)) l)
+size l u i = step (seek (λ w. dec_not (ℕ_discrete u w)) l)
   where
     -- w is no other vertex than u and v
     which : (v w : ℕ) → ((u ≡ w → ⊥) → (v ≡ w → ⊥) → ⊥) → Dec (u ≡ w) → Dec (v ≡ w) → (w ≡ u) ⊎ (w ≡ v)
@@ -109,7 +109,7 @@ size l u i = step (seek (λ w. Dec·not (ℕ_discrete u w)) l)
     third v j d (no n) = few u v i j (λ w m. which v w (λ e f. n (w, m, (e, f))) (ℕ_discrete u w) (ℕ_discrete v w))
 
     step : Dec ((w : ℕ) × In l w × (u ≡ w → ⊥)) → Size l
-    step (yes s) = let (v, j, d) = s in third v j d (seek (λ w. Dec·and (Dec·not (ℕ_discrete u w)) (Dec·not (ℕ_discrete v w))) l)
+    step (yes s) = let (v, j, d) = s in third v j d (seek (λ w. dec_and (dec_not (ℕ_discrete u w)) (dec_not (ℕ_discrete v w))) l)
     step (no n) = few u u i i (λ w m. which u w (λ e f. n (w, m, e)) (ℕ_discrete u w) (ℕ_discrete u w))
 
 -- the centre, known of every longest path

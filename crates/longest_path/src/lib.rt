@@ -1,1 +1,2 @@
 // Paths of a skeleton and its centre: definitions and theorems, in specs/. No code stands here.
+#![tactic(auto)]

@@ -14,7 +14,7 @@ use Rattle.form.specs.Labelled.{centred_formₗ, is_rootedₗ}
 use Rattle.orbits.specs.document.Carried.{ClassesOfₗ}
 use Rattle.orbits.specs.Classes.{classesₗ}
 use Rattle.orbits.specs.Appearance.{one-numbering}
-use Rattle.orbits.specs.Theorems.{classes_ofₗ}
+use Rattle.orbits.proofs.Theorems.{classes_ofₗ}
 use Rattle.named.specs.document.Alike.{NamedEqualVertices}
 use Rattle.named.specs.Accepted.{tree_of}
 use Rattle.named.proofs.Lining.{derived}

@@ -8,7 +8,8 @@ use lib.Seq.{take_all}
 use Rattle.laws.specs.document.Laid.{laid_over, Laid}
 use Rattle.refusal.specs.document.Table.{Row, Clear, Outcome, gives}
 use Rattle.refusal.specs.document.Both.{TwoOutputs, GivesBoth}
-use Rattle.refusal.specs.Both.{Sized, both-given, both_behind}
+use Rattle.refusal.specs.Both.{Sized, both-given}
+use Rattle.refusal.proofs.Both.{both_behind}
 use Rattle.digit_code.specs.document.Code.{decode}
 use Rattle.digit_code.specs.Ends.{ends_sum}
 use Rattle.texts.specs.Judging.{none}

@@ -8,12 +8,13 @@ use lib.ListN.{length, take}
 use Rattle.refusal.specs.document.Table.{Row, Clear, FirstRefusal, Outcome, gives, refuses, kept, left, Writes, short}
 use Rattle.refusal.specs.document.Lists.{lists_rows}
 use Rattle.refusal.specs.Giving.{written}
-use Rattle.refusal.specs.Lists.{lists_clear, maps_clear, maps-lists, maps_third}
+use Rattle.refusal.specs.Lists.{lists_clear, maps_clear, maps-lists}
+use Rattle.refusal.proofs.WhichList.{maps_third}
 use Rattle.skeleton.specs.document.Atom.{atom_at}
 use Rattle.skeleton.specs.document.AtomMarks.{atoms}
 use Rattle.numbering.specs.document.Pairs.{rooted_pairsₗ}
 use Rattle.numbering.specs.Numbers.{pairsₗ}
-use Rattle.numbering.specs.Pairs.{pairs_countedₗ}
+use Rattle.numbering.proofs.Pairs.{pairs_countedₗ}
 use Rattle.form.specs.document.Labelled.{IsCentredₗ}
 use Rattle.form_coder.specs.document.Pairs.{OverMiddles}
 use Rattle.form_coder.specs.Sums.{middles-same}

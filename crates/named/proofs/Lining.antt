@@ -3,7 +3,7 @@ use mathlib.Core.Path.{◌≡◌, refl, sym, subst}
 use mathlib.Core.List.{List, []}
 use Prim.Native.Nat.{ℕ}
 use Rattle.refusal.specs.document.Table.{Clear, Outcome, Gives}
-use Rattle.refusal.specs.Behind.{behind}
+use Rattle.refusal.proofs.Behind.{behind}
 use Rattle.skeleton.specs.document.Label.{digits}
 use Rattle.skeleton.specs.document.Atom.{atom_at}
 use Rattle.skeleton.specs.document.AtomMarks.{atoms}

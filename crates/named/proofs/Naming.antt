@@ -12,7 +12,7 @@ use Rattle.skeleton.specs.document.Atom.{Atom, atom_at}
 use Rattle.skeleton.specs.document.AtomMarks.{atoms}
 use Rattle.numbering.specs.document.Pairs.{rooted_pairsₗ}
 use Rattle.numbering.specs.Numbers.{pairsₗ}
-use Rattle.numbering.specs.Pairs.{pairs_countedₗ}
+use Rattle.numbering.proofs.Pairs.{pairs_countedₗ}
 use Rattle.letters.specs.Named.{Named, Ranked}
 use Rattle.edge_list.specs.document.Letters.{letter_rows}
 use Rattle.form.specs.document.Labelled.{IsCentredₗ}

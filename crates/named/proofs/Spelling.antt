@@ -5,7 +5,8 @@ use Prim.Native.Nat.{ℕ}
 use lib.ListN.{length, take}
 use Rattle.refusal.specs.document.Table.{Row, Clear, Outcome, gives, refuses, Writes}
 use Rattle.refusal.specs.document.Both.{TwoOutputs, GivesBoth}
-use Rattle.refusal.specs.Both.{Sized, both_behind}
+use Rattle.refusal.specs.Both.{Sized}
+use Rattle.refusal.proofs.Both.{both_behind}
 use Rattle.refusal.specs.Giving.{written}
 use Rattle.skeleton.specs.document.Label.{digits}
 use Rattle.skeleton.specs.document.AtomMarks.{atoms}

@@ -15,7 +15,8 @@ use Rattle.edition.specs.Laws.{edition_clear}
 use Rattle.skeleton.specs.document.Label.{rootedₗ, digits}
 use Rattle.skeleton.specs.document.Atom.{atom_at}
 use Rattle.skeleton.specs.document.AtomMarks.{atoms}
-use Rattle.skeleton.specs.Carbon.{carbon, carbon_mark, carbon-digits, all-carbon-digits}
+use Rattle.skeleton.specs.Carbon.{carbon, carbon_mark}
+use Rattle.skeleton.proofs.Carbon.{carbon-digits, all-carbon-digits}
 use Rattle.letters.specs.document.Letters.{row14_atom, AllCarbon}
 use Rattle.letters.specs.Lettered.{carbon-at}
 use Rattle.edge_list.specs.document.Edges.{edge_rows}

@@ -7,9 +7,11 @@ use Rattle.refusal.specs.document.Table.{Row, of_list, Clear, row3}
 use Rattle.refusal.specs.document.Lists.{lists_rows, maps_rows}
 use Rattle.refusal.specs.document.Small.{byte_values, SmallOf, Bounded, BoundedBy}
 use Rattle.refusal.specs.Laws.{never, others, at_most, clear_one}
-use Rattle.refusal.specs.Bounded.{bounded_rows, bounded_both, at_0}
-use Rattle.refusal.specs.Lists as Lists
-use Rattle.refusal.specs.Lists.{below22, bounded_of, bounded_none, lists_clear}
+use Rattle.refusal.specs.Bounded.{bounded_rows, at_0}
+use Rattle.refusal.proofs.Bounded.{bounded_both}
+use Rattle.refusal.proofs.WhichList as Lists
+use Rattle.refusal.specs.Lists.{below22, bounded_none, lists_clear}
+use Rattle.refusal.proofs.WhichList.{bounded_of}
 use Rattle.limits.specs.document.Limits.{size, valence}
 use Rattle.digit_code.specs.document.Code.{Larger}
 use Rattle.digit_code.specs.Within.{larger_within}

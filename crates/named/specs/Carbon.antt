@@ -2,7 +2,8 @@
 use Rattle.std.specs.Prelude.{refl, List, [], ◌∷◌, ◌++◌, length, ℕ}
 use Rattle.std.proofs.Common.{inl}
 use Rattle.refusal.specs.document.Table.{Row, Clear, Outcome, Promise, kept, left, Answered, short, Gives}
-use Rattle.refusal.specs.Laws.{clear_both, clear_right, refusal_back, refusal_behind}
+use Rattle.refusal.specs.Laws.{clear_both, clear_right}
+use Rattle.refusal.proofs.Laws.{refusal_back, refusal_behind}
 use Rattle.limits.specs.document.Limits.{valence}
 use Rattle.edge_list.specs.document.Letters.{carbon_rows}
 use Rattle.edge_list.specs.Letters.{letters_accepted, carbon_accepted}

@@ -8,7 +8,7 @@ use Rattle.texts.specs.document.Demand.{CleanLines, OneCall, TurnsAgree, CleanTe
 use Rattle.texts.specs.Damage.{Accept}
 use Rattle.texts.specs.Seen.{Legible}
 use Rattle.texts.specs.Demanded.{Writes}
-use Rattle.texts.specs.Demanded as Any
+use Rattle.texts.specs.Demanded as AnyLine
 use Rattle.named_lines.specs.document.Named.{Named, named_table, lines_of_named}
 use Rattle.named_lines.specs.NamedDemanded.{named_legible}
 use Rattle.named_lines.specs.NamedTable.{table_sound}
@@ -30,37 +30,37 @@ pub named_gives_a_line : NamedGivesALine
 named_gives_a_line N E s old new n w = let (k, x, m) = gave w in (k, x)
 
 pub named_clean_lines : CleanLines named_texts
-named_clean_lines = Any.clean_lines named_texts writes
+named_clean_lines = AnyLine.clean_lines named_texts writes
 
 -- ---- what a caller sees
 
 pub named-one_call : OneCall named_texts
-named-one_call = Any.one_call named_texts
+named-one_call = AnyLine.one_call named_texts
 
 pub named-turns_agree : TurnsAgree named_texts
-named-turns_agree = Any.turns_agree named_texts legible
+named-turns_agree = AnyLine.turns_agree named_texts legible
 
 -- ---- the clean text, and the two sentences
 
 pub named_clean_text : CleanText named_texts
-named_clean_text = Any.clean_text named_texts legible writes table_sound
+named_clean_text = AnyLine.clean_text named_texts legible writes table_sound
 
 pub named-one-byte_changed : OneByteChanged named_texts
-named-one-byte_changed = Any.one-byte_changed named_texts legible writes table_sound
+named-one-byte_changed = AnyLine.one-byte_changed named_texts legible writes table_sound
 
 pub named_any_damage : AnyDamage named_texts
-named_any_damage = Any.any_damage named_texts legible writes table_sound
+named_any_damage = AnyLine.any_damage named_texts legible writes table_sound
 
 -- ---- reaching the end
 
 pub named-answers-each-line : AnswersEachLine named_texts
-named-answers-each-line = Any.answers-each-line named_texts legible
+named-answers-each-line = AnyLine.answers-each-line named_texts legible
 
 pub named_reaches_the_end : ReachesTheEnd named_texts
-named_reaches_the_end = Any.reaches_the_end named_texts
+named_reaches_the_end = AnyLine.reaches_the_end named_texts
 
 pub named_gets_on : GetsOn named_texts
-named_gets_on = Any.gets_on named_texts
+named_gets_on = AnyLine.gets_on named_texts
 
 pub named-turns-end : TurnsEnd named_texts
-named-turns-end = Any.turns-end named_texts
+named-turns-end = AnyLine.turns-end named_texts

@@ -11,8 +11,8 @@ use Rattle.limits.specs.document.Limits.{size, valence}
 use Rattle.skeleton.specs.document.Atom.{atom_at}
 use Rattle.skeleton.specs.document.AtomMarks.{atoms}
 use Rattle.numbering.specs.document.Pairs.{rooted_pairsₗ}
-use Rattle.numbering.specs.Bound.{pairsₗ_bound}
-use Rattle.numbering.specs.Pairs.{pairs_countedₗ}
+use Rattle.numbering.proofs.Bound.{pairsₗ_bound}
+use Rattle.numbering.proofs.Pairs.{pairs_countedₗ}
 use Rattle.edge_list.specs.document.Letters.{letter_rows}
 use Rattle.form.specs.document.Labelled.{IsNTupleₗ, IsCentredₗ}
 use Rattle.form_coder.specs.document.Pairs.{CentredRoots, NTupleRoots}

@@ -4,7 +4,7 @@
 -- In order: the centred codes and the N-tuple codes that the calls give; the verdict; the renumbering that is handed out; the one that is judged; the two together. Assumes nothing.
 use Rattle.std.specs.Prelude.{◌≡◌, ◌↔◌, true, false, List, [], ℕ, ◌≤◌, length, take}
 use Rattle.std.proofs.Common.{sym, ap, ◌∙◌, arith}
-use Rattle.std.proofs.Math.Logic.{Iff·trans}
+use Rattle.std.proofs.Math.Logic.{Iff.trans as iff_trans}
 use Rattle.refusal.specs.document.Table.{Clear, gives}
 use Rattle.refusal.specs.document.Both.{TwoOutputs}
 use Rattle.refusal.specs.Both.{gave_both}
@@ -77,11 +77,11 @@ module _ (N : ℕ) (E s : List ℕ) (P : ℕ) (F u : List ℕ) where
 
   -- "The same" is said of two accepted lists exactly when they are.
   pub named-same-said : NamedSameSkeleton N E s P F u (gives true) ↔ (Clear (named_list_rows N E s) × Clear (named_list_rows P F u) × NamedSameUnder N E s P F u)
-  named-same-said = Iff·trans (same_means means) accepted
+  named-same-said = iff_trans (same_means means) accepted
 
   -- "Not the same" is said of two accepted lists exactly when they are not.
   pub named_not_same_said : NamedSameSkeleton N E s P F u (gives false) ↔ (Clear (named_list_rows N E s) × Clear (named_list_rows P F u) × (NamedSameUnder N E s P F u → ⊥))
-  named_not_same_said = Iff·trans (not_same_means means) accepted
+  named_not_same_said = iff_trans (not_same_means means) accepted
 
   -- ---- a renumbering handed out, and one judged
 
@@ -93,7 +93,7 @@ module _ (N : ℕ) (E s : List ℕ) (P : ℕ) (F u : List ℕ) where
 
   -- A map is accepted exactly when both lists are, and it is a renumbering of the first onto the second, entry by entry, that keeps the atoms.
   pub named_accepted_exactly : (w : List ℕ) → NamedCheckRenumbering N E s P F u w (gives 0) ↔ (Clear (named_list_rows N E s) × Clear (named_list_rows P F u) × Right w)
-  named_accepted_exactly w = Iff·trans (map_means (exact w)) accepted
+  named_accepted_exactly w = iff_trans (map_means (exact w)) accepted
 
   right : (w : List ℕ) → HandedKept atoms (atom_at s) (atom_at u) N E P F w → Right w
   right w x = x.renumbers

@@ -8,11 +8,11 @@ use Rattle.refusal.specs.document.Table.{Clear}
 use Rattle.refusal.specs.document.Both.{TwoOutputs}
 use Rattle.refusal.specs.document.Outcome.{told}
 use Rattle.refusal.specs.declared.Answer.{Answer}
-use Rattle.refusal.specs.Apart.{told-both}
-use Rattle.refusal.specs.Laws.{one_result}
-use Rattle.refusal.specs.Giving.{one_clear}
-use Rattle.refusal.specs.Both.{one-both}
-use Rattle.refusal.specs.Lists.{one-handed_out}
+use Rattle.refusal.proofs.Apart.{told-both}
+use Rattle.refusal.proofs.Laws.{one_result}
+use Rattle.refusal.proofs.Giving.{one_clear}
+use Rattle.refusal.proofs.Both.{one-both}
+use Rattle.refusal.proofs.WhichList.{one-handed_out}
 use Rattle.limits.specs.document.Limits.{size, valence}
 use Rattle.skeleton.specs.document.Label.{digits}
 use Rattle.skeleton.specs.document.Atom.{atom_at}
@@ -21,8 +21,6 @@ use Rattle.letters.specs.document.Letters.{letters_of}
 use Rattle.edge_list.specs.document.Letters.{letter_rows}
 use Rattle.form.specs.document.Labelled.{IsNTupleₗ, IsCentredₗ}
 use Rattle.form.specs.Labelled.{IsFormₗ, n_tuple_formₗ, centred_formₗ}
-use Rattle.fraction.specs.document.Outcome as fraction
-use Rattle.fraction.specs.Apart as apart
 use Rattle.orbits.specs.document.Carried.{ClassesOfₗ}
 use Rattle.orbits.specs.Appearance.{one-numbering}
 use Rattle.renumber.specs.Kept.{one-handed-kept}

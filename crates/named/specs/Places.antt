@@ -9,8 +9,9 @@ use Rattle.refusal.specs.document.Table.{Row, Clear, Outcome, short}
 use Rattle.refusal.specs.document.Both.{TwoOutputs}
 use Rattle.refusal.specs.document.Small.{byte_values, Small, SmallOf, SmallAnswer}
 use Rattle.refusal.specs.Laws.{never, others, clear_left, at_most}
-use Rattle.refusal.specs.Bounded.{bounded_rows, small, small-check, small-written}
-use Rattle.refusal.specs.Both.{small-both}
+use Rattle.refusal.specs.Bounded.{bounded_rows, small, small-check}
+use Rattle.refusal.proofs.Bounded.{small-written}
+use Rattle.refusal.proofs.Both.{small-both}
 use Rattle.refusal.specs.Lists.{maps_clear}
 use Rattle.limits.specs.document.Limits.{size, valence}
 use Rattle.digit_code.specs.document.Code.{decode}

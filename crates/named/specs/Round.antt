@@ -8,7 +8,8 @@ use Rattle.laws.specs.Laying.{laid-front}
 use Rattle.refusal.specs.document.Table.{Row, Clear, Outcome, gives, row3}
 use Rattle.refusal.specs.document.Both.{TwoOutputs, GivesBoth}
 use Rattle.refusal.specs.Laws.{clear_both, clear_left, clear_right}
-use Rattle.refusal.specs.Both.{one-both, both-given, gave_both}
+use Rattle.refusal.specs.Both.{both-given, gave_both}
+use Rattle.refusal.proofs.Both.{one-both}
 use Rattle.limits.specs.document.Limits.{size, valence}
 use Rattle.digit_code.specs.document.Code.{decode}
 use Rattle.skeleton.specs.document.Skeleton.{IsTree, Renumbering}

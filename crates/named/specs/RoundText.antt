@@ -7,7 +7,8 @@ use Rattle.refusal.specs.document.Table.{Outcome, gives, kept}
 use Rattle.refusal.specs.document.Both.{TwoOutputs}
 use Rattle.refusal.specs.document.Given.{Given}
 use Rattle.refusal.specs.Laws.{clear_left}
-use Rattle.refusal.specs.Giving.{gave, must_give}
+use Rattle.refusal.specs.Giving.{gave}
+use Rattle.refusal.proofs.Giving.{must_give}
 use Rattle.limits.specs.document.Limits.{size}
 use Rattle.skeleton.specs.document.Label.{digits}
 use Rattle.skeleton.specs.document.Atom.{atom_at}

@@ -8,7 +8,7 @@ use Rattle.skeleton.specs.document.Atom.{atom_at}
 use Rattle.skeleton.specs.document.AtomMarks.{atoms}
 use Rattle.numbering.specs.document.Pairs.{rooted_pairsₗ}
 use Rattle.numbering.specs.Numbers.{pairsₗ}
-use Rattle.numbering.specs.Pairs.{pairs_countedₗ}
+use Rattle.numbering.proofs.Pairs.{pairs_countedₗ}
 use Rattle.form.specs.document.Labelled.{IsCentredₗ}
 use Rattle.form.specs.Labelled.{centred_formₗ, form_sizeₗ}
 use Rattle.form.specs.Root.{root-centred}

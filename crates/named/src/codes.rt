@@ -112,7 +112,7 @@ fn lay(code: &[u8], letters: &[u8], edges: &mut [u8], spelling: &mut [u8]) -> An
     if spelling.len() < letters.len() {
         return Answer::Refused(15, letters.len());
     }
-    bytes::copy(letters, spelling);
+    copying::copy(letters, spelling);
     Answer::Done(digit_code::write_edges(code, edges))
 }
 

@@ -4,7 +4,8 @@ use Rattle.std.proofs.Common.{⊎_elim, arith}
 use Rattle.std.proofs.Math.Decide.{dec_lt, ℕ_discrete}
 use Rattle.refusal.specs.document.Table.{FirstRefusal}
 use Rattle.skeleton.specs.document.Atom.{C, O}
-use Rattle.refusal.specs.Laws.{clear_one, clear_both, first-place, refusal_front, refusal_back}
+use Rattle.refusal.specs.Laws.{clear_one, clear_both, refusal_front}
+use Rattle.refusal.proofs.Laws.{first-place, refusal_back}
 use Rattle.texts.specs.document.Bytes.{Cut}
 use Rattle.texts.specs.document.Numerals.{figures, decimal, one-digit, says}
 use Rattle.texts.specs.document.Text.{PartRow, through, line_rows}

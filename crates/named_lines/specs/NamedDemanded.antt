@@ -6,7 +6,6 @@ use Rattle.refusal.specs.document.Table.{Clear}
 use Rattle.limits.specs.document.Limits.{size}
 use Rattle.texts.specs.Judging.{judged}
 use Rattle.texts.specs.Seen.{Told, Legible}
-use Rattle.texts.specs.Demanded as Any
 use Rattle.named_lines.specs.document.Named.{Named, Parts, carried, lines_of_named, named_table}
 use Rattle.named_lines.specs.document.NamedDemand.{named_kind}
 use Rattle.named_lines.specs.NamedSound.{named_once, named-room, parts-left}
@@ -23,6 +22,10 @@ module _ (Gives : List ℕ → Named → Type 0) where
       let n : length q.letters ≡ length q.front.digits = omega (arith, r.many, r.matches.number) in
       ap₂ {C = Named} (λ (ds ls : List ℕ). record { digits = ds; letters = ls }) (laid-front q.front.digits old old' (length q.front.digits) x.0 refl)
       (laid-front q.letters lets lets' (length q.front.digits) x.1.0 n)
+  told q k [] news x = elim x [ ]
+  told q k (old ∷ []) [] x = elim x [ ]
+  told q k (old ∷ (lets ∷ [])) [] x = elim x [ ]
+  told q k (old ∷ (lets ∷ (more ∷ olds))) [] x = elim x [ ]
 
   pub named_legible : Legible (named_kind Gives)
   named_legible = record { once = named_once; fits = named-room size named_table; numbered = λ t. search rules; told = told }

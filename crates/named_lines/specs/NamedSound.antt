@@ -20,11 +20,11 @@ use Rattle.texts.specs.Damage.{Accept}
 use Rattle.texts.specs.Sound.{Once, Reads, Sound}
 use Rattle.laws.specs.Each.{each_follows}
 use Rattle.texts.specs.Numerals.{length_figures, sum-figures, same-figures, decimal-counts, count-decimal, count_some, one-count, marks-figures, marks-count}
-use Rattle.texts.specs.Numbers.{one_number, number-decimal, decimal-number, marks-number}
+use Rattle.texts.specs.Numbers.{one_number, marks-number}
+use Rattle.texts.proofs.Numbers.{number-decimal, decimal-number}
 use Rattle.texts.specs.document.Parts.{spaced, tally}
 use Rattle.texts.specs.Spaced.{Marks, Marked, Alike, Tied, same_parts}
-use Rattle.texts.specs.Parted.{parted_sound}
-use Rattle.texts.specs.Theorems as Texts
+use Rattle.texts.proofs.Parted.{parted_sound}
 use Rattle.texts.specs.Turns.{AllRoom}
 use Rattle.texts.specs.Going.{Spacious}
 use Rattle.lines.specs.document.Line.{Front, row3-line, row5_line}

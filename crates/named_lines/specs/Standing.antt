@@ -7,7 +7,8 @@ use Rattle.laws.specs.document.Laid.{laid_over}
 use Rattle.laws.specs.Part.{part, part_length}
 use Rattle.limits.specs.document.Limits.{size, valence}
 use Rattle.refusal.specs.document.Table.{Row, Clear, FirstRefusal, Outside, gives, refuses, left, row3}
-use Rattle.refusal.specs.Laws.{clear_one, first-place, others, refusal_front, refusal_back, refusal_behind, size_clear}
+use Rattle.refusal.specs.Laws.{clear_one, others, refusal_front, size_clear}
+use Rattle.refusal.proofs.Laws.{first-place, refusal_back, refusal_behind}
 use Rattle.lettered_check.specs.Rows.{lettered_rows}
 use Rattle.texts.specs.document.Text.{PartRow, through, Shaped, row1, line_rows}
 use Rattle.texts.specs.document.Lent.{line_row15}

@@ -1,6 +1,8 @@
 // Named lines: their form, found; a line and a text, read; a line, written. What a named line is stands in specs/document/Named.antt, what
 // the functions promise that find its form in specs/NamedForm.antt, and that write its parts in specs/NamedWriting.antt. What plain lines have in common
 // with them is done by `lines`.
+#![tactic(auto)]
+
 ghost use Rattle.std.specs.Prelude.{◌≡◌, List, ◌∷◌, ℕ, ◌+◌, ◌≤◌, length};
 ghost use Rattle.limits.specs.document.Limits.{size, valence};
 ghost use Rattle.refusal.specs.document.Table.{row3};
@@ -26,7 +28,7 @@ use lines::{Opening, Progress, Span, until};
 use refusal::{Answer, Check};
 
 // What stands behind the digits of a named line.
-#[derive(Drop)]
+#[derive(Clone, Copy)]
 pub enum Lettering {
     // so many letters; and 0 where the counts behind them are theirs, else 21
     Letters(usize, u8),
@@ -35,7 +37,7 @@ pub enum Lettering {
 }
 
 // The form of a named line.
-#[derive(Drop)]
+#[derive(Clone, Copy)]
 pub enum Layout {
     // what its count says; where its digits begin and end; how many letters there are; and 0 where their counts are right, else 21
     At(usize, usize, usize, usize, u8),

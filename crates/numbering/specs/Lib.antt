@@ -6,7 +6,6 @@ pub mod Numbering
 pub mod Numbers
 pub mod Same
 pub mod Pairs
-pub mod Rewritten
 pub mod Bound
 pub mod Standing
 pub mod Decoded

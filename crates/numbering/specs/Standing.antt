@@ -152,7 +152,7 @@ module _ (c E : List ℕ) (A : List Arc) where
   pub find : {p j : ℕ} (f : Forest) → Part p j f → (i : ℕ) → j ≤ i → i < j + count f → Found i
   unfolding count
   find none x i a b = let z : ⊥ = omega arith in absurd z
-  find {p} {j} (tree v d f) x i a b = step (ℕ_discrete i j) (dec_lt i (suc j + count d)) (find d (inner x) i) (find f (beside x) i)
+  find {p} {j} (tree v d f) x i a b = step (ℕ_discrete i j) (dec_lt i (suc j + count d)) (find {p = j} {j = suc j} d (inner x) i) (find {p = p} {j = suc j + count d} f (beside x) i)
     where
       step : Dec (i ≡ j) → Dec (i < suc j + count d) → (suc j ≤ i → i < suc j + count d → Found i) → (suc j + count d ≤ i → i < suc j + count d + count f → Found i) → Found i
       step (yes e) l g h = record { up = p; old = v; below = d; aside = f; part = rw e x }

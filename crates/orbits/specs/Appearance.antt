@@ -106,7 +106,7 @@ module _
     (turn : (u v : ℕ) → R u v → R v u)
     (join : (u v w : ℕ) → R u v → R v w → R u w)
   where
-    found : {n x : ℕ} {l : List ℕ} → Placed R n l → Finds R (suc n) (suc (greatest l)) 1 l x → Next R n l x
+    found : {n : ℕ} {l : List ℕ} {x : ℕ} → Placed R n l → Finds R (suc n) (suc (greatest l)) 1 l x → Next R n l x
     found {n} {l = l} p (old j h r) =
         let e : 1 + j ≡ suc j = omega arith in
         let r' : R (suc j) (suc n) = subst (λ (w : ℕ). R w (suc n)) e r in

@@ -1,36 +1,28 @@
--- The classes of the vertices that renumberings of the skeleton onto itself carry to one another, told from vertex to vertex in the numbering of
--- a centred code, with the classes of the vertices before for the test.
+-- The classes of the vertices that renumberings of the skeleton onto itself carry to one another, told from vertex to vertex in the numbering of a centred code, with the
+-- classes of the vertices before for the test.
 --
--- In order: the test; the classes, and how many there are; that the test tells whether two vertices are carried to one another (`test_right`);
--- that the classes are by first appearance (`classes_right`). Assumes nothing.
+-- In order: the test; the classes, and how many there are; that the test tells whether two vertices are carried to one another (`test_right`); that the classes are by
+-- first appearance (`classes_right`). What rests on `Testₗ` is in `proofs.Classes`. Assumes nothing.
 use Rattle.std.specs.Prelude.{◌≡◌, ◌↔◌, length}
-use Rattle.std.proofs.Math.Path.{refl, ap}
-use Rattle.std.proofs.Common.{sym, ◌∙◌, subst}
-use Rattle.std.proofs.Math.Logic.{Iff·trans, ite, Dec·and}
+use Rattle.std.proofs.Math.Path.{refl}
+use Rattle.std.proofs.Common.{subst}
+use Rattle.std.proofs.Math.Logic.{Iff.trans as iff_trans, Dec.and as dec_and}
 use mathlib.Core.List.{List, [], ◌∷◌, ◌++◌}
-use Prim.Native.Nat.{ℕ, zero, suc, ◌+◌, ◌≤◌, ◌<◌}
+use Prim.Native.Nat.{ℕ, zero, suc, ◌≤◌}
 use Rattle.std.proofs.Math.Decide.{ℕ_discrete}
 use native.Mathlib.Omega.{arith}
 use Rattle.std.proofs.Math.ListN.{length-append}
 use Rattle.digit_code.specs.document.Code.{decode}
-use Rattle.digit_code.specs.Ends.{Ends}
-use Rattle.skeleton.specs.document.Label.{Marks, rootedₗ, digits, labels}
-use Rattle.skeleton.specs.Label.{IsRootedₗ}
+use Rattle.skeleton.specs.document.Label.{Marks, digits, labels}
 use Rattle.skeleton.specs.Base.{base, digits-base}
-use Rattle.skeleton.specs.General.{decoded_tree}
-use Rattle.form.specs.document.Form.{IsCentred}
-use Rattle.form.specs.document.Labelled.{IsCentredₗ, Own}
-use Rattle.form.specs.Labelled.{centred_formₗ, is_rootedₗ}
-use Rattle.form.specs.Forms.{own_base}
 use Rattle.numbering.specs.document.Decoded.{parent}
 use Rattle.orbits.specs.document.Carried.{Carried, ClassesOf, Carriedₗ, ClassesOfₗ}
 use Rattle.orbits.specs.document.Numbering.{class, ByAppearance}
-use Rattle.orbits.specs.Found.{greatest, class_of, numbering, same?}
-use Rattle.orbits.specs.Appearance.{greatest-more, class_most, numbering_is, numbering_length}
-use Rattle.orbits.specs.Parents.{subtreeₗ, tree_ofₗ, parent_lowₗ}
-use Rattle.orbits.specs.Carried.{carried-base, carried-codes}
+use Rattle.orbits.specs.Found.{greatest, class_of, same?}
+use Rattle.orbits.specs.Appearance.{greatest-more, class_most}
+use Rattle.orbits.specs.Parents.{subtreeₗ}
+use Rattle.orbits.specs.Carried.{carried-base}
 use Rattle.orbits.specs.Half.{restₗ}
-use Rattle.orbits.specs.Rule.{carried_parents, carried-root}
 
 -- ---- the test
 
@@ -50,8 +42,8 @@ module _ (M : Marks) (ds c : List ℕ) where
 
   unfoldable pub testₗ : (l : List ℕ) (u v : ℕ) → Dec (Testₗ l u v)
   testₗ l zero v = no (λ h. h)
-  testₗ l (suc zero) v = Dec·and (ℕ_discrete (parent ds v) 1) (same? (subtreeₗ M c v) (restₗ M c v))
-  testₗ l (suc (suc u)) v = Dec·and (ℕ_discrete (class l (parent ds (suc (suc u)))) (class l (parent ds v))) (same? (subtreeₗ M c (suc (suc u))) (subtreeₗ M c v))
+  testₗ l (suc zero) v = dec_and (ℕ_discrete (parent ds v) 1) (same? (subtreeₗ M c v) (restₗ M c v))
+  testₗ l (suc (suc u)) v = dec_and (ℕ_discrete (class l (parent ds (suc (suc u)))) (class l (parent ds v))) (same? (subtreeₗ M c (suc (suc u))) (subtreeₗ M c v))
 
   -- ---- the classes
 
@@ -82,102 +74,22 @@ classes c = classesₗ base c c
 
 -- ---- the test is right
 
--- tests that agree on the vertices before v give it the same class
-class_agrees : {R S : ℕ → ℕ → Type 0} (R? : (u v : ℕ) → Dec (R u v)) (S? : (u v : ℕ) → Dec (S u v)) (v new u : ℕ) (l : List ℕ)
-    → ((w : ℕ) → u ≤ w → w < u + length l → R w v ↔ S w v) → class_of R? v new u l ≡ class_of S? v new u l
-unfolding class_of
-class_agrees R? S? v new u [] h = refl
-class_agrees {R} {S} R? S? v new u (k ∷ l) h = step (R? u v) (S? u v) (h u (omega arith) (omega arith)) (class_agrees R? S? v new (suc u) l (λ w a b. h w (omega arith) (omega arith)))
-  where
-    step : (d : Dec (R u v)) (e : Dec (S u v)) → R u v ↔ S u v → {m n : ℕ} → m ≡ n → ite d k m ≡ ite e k n
-    step (yes a) (yes b) i q = refl
-    step (yes a) (no b) i q = absurd (b (i.0 a))
-    step (no a) (yes b) i q = absurd (a (i.1 b))
-    step (no a) (no b) i q = q
-
 -- ---- they are right
 
 -- relations that are the same on the vertices have the same numberings by first appearance
 pub appearance_same : {R S : ℕ → ℕ → Type 0} {N : ℕ} {l : List ℕ} → ((u v : ℕ) → 1 ≤ u → u ≤ N → 1 ≤ v → v ≤ N → R u v ↔ S u v) → ByAppearance R N l → ByAppearance S N l
 appearance_same h b = record {
   count = b.count;
-  alike = λ u v a g i k. Iff·trans (b.alike u v a g i k) (h u v a g i k);
+  alike = λ u v a g i k. iff_trans (b.alike u v a g i k) (h u v a g i k);
   from_one = b.from_one;
   lower-first = b.lower-first;
 }
-
-module _ (M : Marks) (c : List ℕ) (x : IsRootedₗ M c) (z : Own M (IsCentredₗ M) c) where
-  abbrev N : ℕ
-  N = length c
-
-  abbrev ds : List ℕ
-  ds = digits M c
-
-  abbrev E : List ℕ
-  E = decode ds
-
-  abbrev at : ℕ → List ℕ
-  at = rootedₗ M (labels M c) N E
-
-  -- equal rooted codes: an equivalence on all numbers, and `Carriedₗ` on those of vertices
-  abbrev R : ℕ → ℕ → Type 0
-  R u v = at u ≡ at v
-
-  R? : (u v : ℕ) → Dec (R u v)
-  R? u v = same? (at u) (at v)
-
-  carried_is : (u v : ℕ) → 1 ≤ u → u ≤ N → 1 ≤ v → v ≤ N → Carriedₗ M N E (labels M c) u v ↔ R u v
-  carried_is = carried-codes M N E (labels M c) (tree_ofₗ M c x)
-
-  by_codes : (n : ℕ) → ByAppearance R n (numbering R? n)
-  by_codes = numbering_is (λ u. refl) (λ u v e. sym e) (λ u v w e f. e ∙ f) R?
-
-  -- where the classes before v are by first appearance, the test tells who of those before is carried to v
-  pub test_right : (n : ℕ) (l : List ℕ) → ByAppearance R n l → suc n ≤ N → (u : ℕ) → 1 ≤ u → u ≤ n → Testₗ M ds c l u (suc n) ↔ R u (suc n)
-  test_right n l b h zero i j = let w : ⊥ = omega arith in absurd w
-  test_right n l b h (suc zero) i j =
-      let (there, back) = carried-root M c x z (suc n) (omega arith) h in
-      Iff·trans (back, there) (carried_is 1 (suc n) (omega arith) (omega arith) (omega arith) h)
-  test_right n l b h (suc (suc u)) i j =
-      let (there, back) = carried_parents M c x z (suc (suc u)) (suc n) (omega arith) (omega arith) (omega arith) h in
-      let (p, q) = parent_lowₗ M c x (suc (suc u)) (omega arith) (omega arith) in
-      let (r, s) = parent_lowₗ M c x (suc n) (omega arith) h in
-      let up = b.alike (parent ds (suc (suc u))) (parent ds (suc n)) p (omega arith) r (omega arith) in
-      let like = carried_is (parent ds (suc (suc u))) (parent ds (suc n)) p (omega arith) r (omega arith) in
-      let same = carried_is (suc (suc u)) (suc n) (omega arith) (omega arith) (omega arith) h in (
-        λ (e, f). same.0 (back (like.1 (up.0 e), f)),
-        λ e. let (g, f) = there (same.1 e) in (up.1 (like.0 g), f),
-      )
-
-  told-numbering : (n : ℕ) → n ≤ N → toldₗ M ds c n ≡ numbering R? n
-  unfolding toldₗ numbering
-  told-numbering zero h = refl
-  told-numbering (suc n) h =
-      let e : toldₗ M ds c n ≡ numbering R? n = told-numbering n (omega arith) in
-      let l : List ℕ = numbering R? n in
-      ap (λ m. m ++ (class_of (testₗ M ds c m) (suc n) (suc (greatest m)) 1 m ∷ [])) e
-      ∙ ap (λ k. l ++ (k ∷ []))
-      (class_agrees (testₗ M ds c l) R? (suc n) (suc (greatest l)) 1 l (λ w a b. test_right n l (by_codes n) h w a (omega (arith, numbering_length R? n))))
-
-  numbered : ClassesOfₗ M c (classesₗ M ds c)
-  unfolding classesₗ
-  numbered =
-      appearance_same (λ u v a g h k. let (there, back) = carried_is u v a g h k in (back, there))
-      (subst (ByAppearance R N) (sym (told-numbering N (omega arith))) (by_codes N))
-
--- In the numbering of a centred code they are numbered by first appearance, one for two vertices exactly when one is carried to the other.
-pub classes_rightₗ : (M : Marks) (c : List ℕ) → Ends 1 (digits M c) → Own M (IsCentredₗ M) c → ClassesOfₗ M c (classesₗ M (digits M c) c)
-classes_rightₗ M c w z = numbered M c (is_rootedₗ M (IsCentredₗ M) (centred_formₗ M) (length c) (decode (digits M c)) (labels M c) c (decoded_tree M c w) z) z
 
 -- ---- of a plain code
 
 pub classes-base : (c l : List ℕ) → ClassesOfₗ base c l ↔ ClassesOf c l
 classes-base c l =
-    let same : (u v : ℕ) → Carriedₗ base (length c) (decode (digits base c)) (labels base c) u v ↔ Carried (length c) (decode c) u v = λ u v. Iff·trans
+    let same : (u v : ℕ) → Carriedₗ base (length c) (decode (digits base c)) (labels base c) u v ↔ Carried (length c) (decode c) u v = λ u v. iff_trans
     (carried-base (length c) (decode (digits base c)) (labels base c) u v)
     (subst (λ d. Carried (length c) (decode (digits base c)) u v ↔ Carried (length c) (decode d) u v) (digits-base c) (λ h. h, λ h. h)) in
     (appearance_same (λ u v a g h k. same u v), appearance_same (λ u v a g h k. let (there, back) = same u v in (back, there)))
-
-pub classes_right : (c : List ℕ) → Ends 1 c → IsCentred (length c) (decode c) c → ClassesOf c (classes c)
-classes_right c w z =
-    (classes-base c (classes c)).0 (subst (λ d. ClassesOfₗ base c (classesₗ base d c)) (digits-base c) (classes_rightₗ base c (rw digits-base w) (rw own_base z)))

@@ -22,7 +22,7 @@ use Rattle.skeleton.specs.Right.{read-code}
 use Rattle.skeleton.specs.General.{decode-code}
 use Rattle.skeleton.specs.Walks.{turn}
 use Rattle.numbering.specs.document.Decoded.{starts, begins, parent}
-use Rattle.numbering.specs.Decoded.{begins-marks, marks-decoded}
+use Rattle.numbering.proofs.Decoded.{begins-marks, marks-decoded}
 use Rattle.numbering.specs.Standing.{Known, at-root, marked-codes, marked-down}
 use Rattle.orbits.specs.Joins.{Ones, ones_perm, ones_more, join_ends, Same, same-join, join-same, same-less}
 use Rattle.orbits.specs.Sides.{branches_ones, Edge}

@@ -5,7 +5,7 @@
 use Rattle.std.specs.Prelude.{◌≡◌, refl, ◌⊎◌, ℕ, zero, suc, ◌+◌, ◌-◌, ◌≤◌, ◌<◌, get_or, drop}
 use Rattle.std.proofs.Math.Path.{ap, ap₂, sym}
 use Rattle.std.proofs.Common.{◌∙◌, subst, arith, drop-cons}
-use Rattle.std.proofs.Math.Logic.{inl, inr, ⊎_elim, if_pos, if_neg, Dec·not}
+use Rattle.std.proofs.Math.Logic.{inl, inr, ⊎_elim, if_pos, if_neg, Dec.not as dec_not}
 use mathlib.Core.List.Memᴰ
 use mathlib.Core.List.{List, [], ◌∷◌, map, flatten, Memᴰ}
 use Rattle.std.proofs.Math.Decide.{ℕ_discrete}
@@ -24,7 +24,8 @@ use Rattle.skeleton.specs.Codes.{but}
 use Rattle.skeleton.specs.Ordered.{code_orderedₗ}
 use Rattle.skeleton.specs.Walks.{turn, arc_end}
 use Rattle.numbering.specs.document.Decoded.{starts, begins, parent}
-use Rattle.numbering.specs.Decoded.{IsVertexₗ, marks-decoded}
+use Rattle.numbering.specs.Decoded.{IsVertexₗ}
+use Rattle.numbering.proofs.Decoded.{marks-decoded}
 
 -- the root has no parent, and what has one is another vertex
 pub root-parent : (c : List ℕ) → parent c 1 ≡ 0
@@ -44,9 +45,9 @@ but_or p w (x ∷ l) m = step (ℕ_discrete x p) (Memᴰ.cases_cons m) (but_or p
   where
     step : Dec (x ≡ p) → (w ≡ x) ⊎ Memᴰ w l → (Memᴰ w l → (w ≡ p) ⊎ Memᴰ w (but p l)) → (w ≡ p) ⊎ Memᴰ w (but p (x ∷ l))
     step (yes e) (inl q) r = inl (q ∙ e)
-    step (yes e) (inr k) r = rw (if_neg (Dec·not (ℕ_discrete x p)) (λ n. n e) (x ∷ but p l) (but p l)) (r k)
-    step (no n) (inl q) r = inr (rw (if_pos (Dec·not (ℕ_discrete x p)) n (x ∷ but p l) (but p l)) (Memᴰ.head q))
-    step (no n) (inr k) r = ⊎_elim inl (λ h. inr (rw (if_pos (Dec·not (ℕ_discrete x p)) n (x ∷ but p l) (but p l)) (Memᴰ.tail h))) (r k)
+    step (yes e) (inr k) r = rw (if_neg (dec_not (ℕ_discrete x p)) (λ n. n e) (x ∷ but p l) (but p l)) (r k)
+    step (no n) (inl q) r = inr (rw (if_pos (dec_not (ℕ_discrete x p)) n (x ∷ but p l) (but p l)) (Memᴰ.head q))
+    step (no n) (inr k) r = ⊎_elim inl (λ h. inr (rw (if_pos (dec_not (ℕ_discrete x p)) n (x ∷ but p l) (but p l)) (Memᴰ.tail h))) (r k)
 
 -- codes begin behind one another
 starts_high : (v j : ℕ) (cs : List (List ℕ)) → Memᴰ v (starts j cs) → j ≤ v

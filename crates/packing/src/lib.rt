@@ -1,5 +1,7 @@
 // How a call's answer is one whole number for C: 256 times the refusal number plus the place, or the bytes written. What that number is stands in
 // specs/document/Packing.antt, and that it is read back in specs/Unpacked.antt.
+#![tactic(auto)]
+
 ghost use Rattle.std.specs.Prelude.{◌≡◌, ◌+◌, ◌*◌, ◌≤◌, ◌<◌};
 ghost use Rattle.refusal.specs.document.Outcome.{told, numbered};
 ghost use Rattle.refusal.specs.document.Small.{byte_values, Small, SmallOf, SmallAnswer, SmallRefusal};

@@ -1,23 +1,11 @@
--- The answers of the calls, told by number and values (`Outcome`), stay apart: two that are told alike are one. So what a promise says of
--- what is told, it says of the call's own result.
+-- The answers of the calls, told by number and values (`Outcome`), stay apart: two that are told alike are one. So what a promise says of what is told, it says of the
+-- call's own result.
 --
--- In order: of a call that writes or only checks; of a call that is asked for a number. Assumes nothing.
+-- In order: of a call that writes or only checks; of a call that is asked for a number. What rests on `told` is in `proofs.Apart`. Assumes nothing.
 use Rattle.std.specs.Prelude.{◌≡◌}
-use Rattle.refusal.specs.document.Outcome.{told, numbered}
-use Rattle.refusal.specs.declared.Answer.{Answer}
-use Rattle.refusal.specs.declared.Answer.TheVariants.{Done, Refused}
+use Rattle.refusal.specs.document.Outcome.{numbered}
 use Rattle.refusal.specs.declared.Number.{Number}
 use Rattle.refusal.specs.declared.Number.TheVariants as number
-
-pub told_apart : (r s : Answer) → told r ≡ told s → r ≡ s
-told_apart (Done n) (Done m) e = cc
-told_apart (Done n) (Refused k p) e = cc
-told_apart (Refused k p) (Done n) e = cc
-told_apart (Refused k p) (Refused j q) e = cc
-
--- and so beside what was lent
-pub told-both : {A : Type 0} (r s : Answer) → (told r ≡ told s) × A → (r ≡ s) × A
-told-both r s e = (told_apart r s e.0, e.1)
 
 pub numbered_apart : (r s : Number) → numbered r ≡ numbered s → r ≡ s
 numbered_apart (number.Value v) (number.Value w) e = cc

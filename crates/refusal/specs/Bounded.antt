@@ -1,13 +1,12 @@
 -- Tables whose refusals are small: a number of 1 to 255, and a place below 256.
 --
--- In order: what such a table is; how it is put together of rows and of other tables; what a call with such a table tells.
+-- In order: what such a table is; how it is put together of rows and of other tables; what a call with such a table tells. What rests on `First` is in `proofs.Bounded`.
 -- Assumes nothing.
-use Rattle.std.specs.Prelude.{◌≡◌, refl, Bool, true, List, [], ◌∷◌, ◌++◌, ℕ, ◌<◌, ltb, length}
-use Rattle.std.proofs.Common.{inl, inr, ⊎_elim, arith, ltb-true}
-use Rattle.refusal.specs.document.Table.{RowOf, Row, Clear, First, OutcomeOf, Outcome, Promise, kept, left, Answered, short, Gives}
+use Rattle.std.specs.Prelude.{◌≡◌, Bool, true, List, [], ◌∷◌, ℕ, ◌<◌, ltb}
+use Rattle.std.proofs.Common.{inl, inr, arith, ltb-true}
+use Rattle.refusal.specs.document.Table.{RowOf, Row, Clear, First, OutcomeOf, Outcome, Promise, kept, left, Answered}
 use Rattle.refusal.specs.document.Lowest.{both}
 use Rattle.refusal.specs.document.Small.{byte_values, SmallNumber, Small, SmallAnswer, SmallRefusal, BoundedBy, Bounded}
-use Rattle.refusal.specs.Laws.{clear_left, refusal_either}
 use Rattle.refusal.specs.Lowest.{both_left, both_right}
 
 -- ---- put together
@@ -29,19 +28,15 @@ first_small (r ∷ rs) k p t (b, d) (inl (e, a, f)) =
     let m = ltb-true r.number byte_values (both_right (ltb 0 r.number) _ n) in
     ((omega arith, omega arith), b p a)
 first_small (r ∷ rs) k p t (b, d) (inr (n, f)) = first_small rs k p (both_right (both (ltb 0 r.number) (ltb r.number byte_values)) _ t) d f
-
 -- a table by its rows
+first_small [] k p t _ x4 = elim x4 [ ]
+
 pub bounded_rows : {rs : List Row} → numbers_small rs ≡ true → PlacesSmall rs → Bounded rs
 bounded_rows {rs} t b = record { refusal = λ k p l. first_small rs k p t b l.is }
 
 -- a row that applies at 0 alone
 pub at_0 : {A : Type 0} (p : ℕ) → (p ≡ 0) × A → p < byte_values
 at_0 p (e, a) = omega arith
-
--- one table behind another, which counts where the first is clear
-pub bounded_both :
-    {K : Type 0} {Number : K → Type 0} (xs ys : List (RowOf K)) → BoundedBy Number xs → (Clear xs → BoundedBy Number ys) → BoundedBy Number (xs ++ ys)
-bounded_both xs ys b d = record { refusal = λ k p l. ⊎_elim (λ f. b.refusal k p f) (λ (c, f). (d c).refusal k p f) (refusal_either xs ys l) }
 
 -- ---- what is told
 
@@ -59,12 +54,3 @@ small-value b g = small b (λ c a r. tt) g
 -- a call that only checks
 pub small-check : {rs : List Row} {o : Outcome ℕ} → Bounded rs → Answered rs (λ n. n ≡ 0) o → SmallAnswer o
 small-check b g = small b (λ c n e. omega arith) g
-
--- a call that writes, where a right result of an input that no row refuses has fewer than 256 bytes
-pub small-written :
-    {rs : List Row} {Right : List ℕ → Type 0} {old new : List ℕ} {o : Outcome ℕ} → Bounded rs → (Clear rs → (c : List ℕ) → Right c → length c < byte_values)
-    → Gives rs Right old new o → SmallAnswer o
-small-written {rs} {Right} {old} b v g =
-    small
-    (bounded_both rs (short Right (length old) ∷ []) b (λ k. bounded_rows refl ((λ p (c, r, (e, l)). omega (arith, v k c r)), tt)))
-    (λ k n w. omega (arith, w.count, v (clear_left rs (short Right (length old) ∷ []) k) w.result w.right)) g.promise

@@ -1,14 +1,13 @@
 -- Laws of the calls that write into a lent output, once for every call.
 --
--- In order: what is written, as a caller learns it; that it is one; the promise kept; what a call gave, and what the next must give. Assumes
--- nothing.
-use Rattle.std.specs.Prelude.{◌≡◌, refl, List, [], ◌∷◌, ◌++◌, ℕ, ◌≤◌, ◌<◌, length, take, drop}
+-- In order: what is written, as a caller learns it; that it is one; the promise kept; what a call gave, and what the next must give. What rests on `First` is in
+-- `proofs.Giving`. Assumes nothing.
+use Rattle.std.specs.Prelude.{◌≡◌, refl, List, [], ◌∷◌, ◌++◌, ℕ, ◌≤◌, length, take, drop}
 use Rattle.std.proofs.Common.{sym, ap, ◌∙◌, subst, arith, length-append}
 use Rattle.laws.specs.document.Laid.{laid_over, Laid}
 use Rattle.laws.specs.Laying.{laid-front}
-use Rattle.refusal.specs.document.Table.{Row, Clear, FirstRefusal, Outcome, gives, refuses, Promise, Answered, kept, left, Writes, short, Gives}
-use Rattle.refusal.specs.Laws.{one_accepted, one_result, clear_one, clear_both, clear_left, first-place, refusal_front, refusal_back}
-use Rattle.refusal.specs.document.Given.{Given}
+use Rattle.refusal.specs.document.Table.{Row, Clear, FirstRefusal, gives, refuses, Promise, Answered, kept, left, Writes, short, Gives}
+use Rattle.refusal.specs.Laws.{clear_one, clear_both, clear_left, refusal_front}
 
 -- ---- what is written
 
@@ -42,19 +41,6 @@ one_written {old = old} one n m v w =
     let e = one v.result w.result v.right w.right in
     (v.count ∙ ap length e ∙ sym w.count, v.lies ∙ ap (λ c. laid_over c old) e ∙ sym w.lies)
 
--- one answer and one output, where a right result of an input that no row refuses is one
-pub one_clear :
-    {rs : List Row} {Right : List ℕ → Type 0} {old s t : List ℕ} {o u : Outcome ℕ} → (Clear rs → (c d : List ℕ) → Right c → Right d → c ≡ d)
-    → Gives rs Right old s o → Gives rs Right old t u → (o ≡ u) × (s ≡ t)
-one_clear {rs} {Right} {old} one g h =
-    one_accepted (λ c. one_written (one (clear_left rs (short Right (length old) ∷ []) c))) g.promise h.promise
-
--- where it is one of any input
-pub one-given :
-    {rs : List Row} {Right : List ℕ → Type 0} {old s t : List ℕ} {o u : Outcome ℕ} → ((c d : List ℕ) → Right c → Right d → c ≡ d)
-    → Gives rs Right old s o → Gives rs Right old t u → (o ≡ u) × (s ≡ t)
-one-given one g h = one_clear (λ c. one) g h
-
 -- ---- the promise kept
 
 module _ {rs : List Row} {Right : List ℕ → Type 0} {old : List ℕ} where
@@ -63,17 +49,6 @@ module _ {rs : List Row} {Right : List ℕ → Type 0} {old : List ℕ} where
   refused-first l e = record { promise = left (refusal_front (short Right (length old) ∷ []) l) e }
 
   module _ (clear : Clear rs) {n : ℕ} (sized : (c : List ℕ) → Right c → length c ≡ n) where
-    -- a right result that does not fit
-    pub refused-short : {new c : List ℕ} → Right c → length old < n → new ≡ old → Gives rs Right old new (refuses 15 n)
-    refused-short {c = c} r h e =
-        record { promise = left (refusal_back clear (first-place {r = short Right (length old)} here before)) e }
-      where
-        here : (short Right (length old)).applies n
-        here = let l = sized c r in (c, r, (sym l, omega arith))
-
-        before : (q : ℕ) → q < n → (short Right (length old)).applies q → ⊥
-        before q l a = let z : ⊥ = omega (arith, a.2.0, sized a.0 a.1) in z
-
     -- one that does
     pub given : {new : List ℕ} → n ≤ length old → Writes Right old n new → Gives rs Right old new (gives n)
     given h w = record { promise = kept (clear_both clear (clear_one {r = short Right (length old)} room_there)) w }
@@ -100,15 +75,3 @@ gave {rs} {Right} {old} {new} {n} g = by_cases g.promise
 -- the same of a value
 pub gave_value : {A : Type 0} {rs : List Row} {Right : A → Type 0} {a : A} → Answered rs Right (gives a) → Clear rs × Right a
 gave_value (kept k r) = (k, r)
-
--- where no row refuses, c alone is right and there is room, c must be given
-module _ {rs : List Row} (k : Clear rs) where
-  pub must_give :
-      {Right : List ℕ → Type 0} {old new : List ℕ} {o : Outcome ℕ} (c : List ℕ) → Right c → ((d : List ℕ) → Right d → d ≡ c) → length c ≤ length old
-      → Gives rs Right old new o → Given c old new o
-  must_give c r one h g =
-      one-given (λ d e x y. one d x ∙ sym (one e y)) g
-      (given k (λ d x. ap length (one d x)) h (record { result = c; right = r; count = refl; lies = refl }))
-
-  pub must_answer : {A : Type 0} {Right : A → Type 0} {o : Outcome A} (a : A) → Right a → ((b : A) → Right b → b ≡ a) → Answered rs Right o → o ≡ gives a
-  must_answer a r one g = (one_result (λ x y p q. (one x p ∙ sym (one y q), refl)) g (kept k r)).0

@@ -6,7 +6,6 @@ pub mod Lowest
 pub mod Bounded
 pub mod Lists
 pub mod Giving
-pub mod Behind
 pub mod Both
 pub mod Checks
 pub mod document

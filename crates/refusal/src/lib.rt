@@ -1,4 +1,5 @@
 // What a call answers. The meaning of each case, and which of several refusals is given, is in specs/Table.antt.
+#![tactic(auto)]
 
 ghost use Rattle.std.specs.Prelude.{◌≡◌, [], ◌∷◌};
 ghost use Rattle.refusal.specs.document.Table.{row3};
@@ -7,7 +8,7 @@ ghost use Rattle.refusal.specs.document.Outcome.{told};
 ghost use Rattle.refusal.specs.document.Reported.{Reports};
 
 // Of a call that writes a result into a lent output, or only looks at its input.
-#[derive(Drop)]
+#[derive(Clone, Copy)]
 pub enum Answer {
     // Done: so many bytes are written at the start of the lent output (0 where none is lent).
     Done(usize),
@@ -16,7 +17,7 @@ pub enum Answer {
 }
 
 // Of a call that is asked for a whole number.
-#[derive(Drop)]
+#[derive(Clone, Copy)]
 pub enum Number {
     // The number.
     Value(u64),
@@ -25,21 +26,21 @@ pub enum Number {
 }
 
 // Of a call that writes and orders children: the answer, and how many pairs were looked at to put siblings in order. With a refusal that number is 0.
-#[derive(Drop)]
+#[derive(Clone, Copy)]
 pub struct Reported {
     pub answer: Answer,
     pub pairs: usize,
 }
 
 // Of one check among several: nothing applies, or the first row of its table that does, at its first place.
-#[derive(Drop)]
+#[derive(Clone, Copy)]
 pub enum Check {
     Passed,
     Refuse(u8, usize),
 }
 
 // Of the check of two lists.
-#[derive(Drop)]
+#[derive(Clone, Copy)]
 pub enum Lists {
     // Both are accepted.
     Accepted,

@@ -10,7 +10,8 @@ use Rattle.laws.specs.Places.{place, place_at, at_place, at_in}
 use Rattle.refusal.specs.document.Table.{Writes}
 use Rattle.skeleton.specs.document.Skeleton.{IsTree, Renumbering}
 use Rattle.numbering.specs.document.Order.{order}
-use Rattle.numbering.specs.Numbers.{Numbers, order-numbers}
+use Rattle.numbering.specs.Numbers.{Numbers}
+use Rattle.numbering.proofs.Numbers.{order-numbers}
 use Rattle.form.specs.document.Root.{RootOf}
 use Rattle.form.specs.Root.{CentredRoot, one-root, root_inside}
 use Rattle.renumber.specs.document.Map.{image, HandedBy, HandedOut}

@@ -10,11 +10,12 @@ use Rattle.refusal.specs.Laws.{never, others, clear_one, clear_both, Alike}
 use Rattle.skeleton.specs.document.Skeleton.{IsTree, rooted, Renumbering}
 use Rattle.skeleton.specs.document.Label.{Marks, rootedₗ, Keeps}
 use Rattle.skeleton.specs.document.AtomMarks.{atoms}
-use Rattle.skeleton.specs.Carbon.{carbon, carbon_mark, carbon-marks, all-carbon}
+use Rattle.skeleton.specs.Carbon.{carbon, carbon_mark}
+use Rattle.skeleton.proofs.Carbon.{carbon-marks, all-carbon}
 use Rattle.numbering.specs.Numbering.{Orders}
 use Rattle.numbering.specs.document.Order.{mark_at, orderₗ}
-use Rattle.numbering.specs.Numbers.{orderₗ-numbers, orders_besideₗ}
-use Rattle.numbering.specs.Rewritten.{order-carbon}
+use Rattle.numbering.proofs.Numbers.{orderₗ-numbers, orders_besideₗ}
+use Rattle.numbering.proofs.Rewritten.{order-carbon}
 use Rattle.form.specs.Labelled.{CentredRootₗ}
 use Rattle.form.specs.Root.{root_inside}
 use Rattle.form.specs.Rewritten.{root-carbon}

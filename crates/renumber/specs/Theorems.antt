@@ -3,7 +3,7 @@ use Rattle.std.specs.Prelude.{◌≡◌, refl, ◌↔◌, List, ℕ}
 use Rattle.std.proofs.Common.{sym, subst}
 use Rattle.refusal.specs.document.Table.{Clear}
 use Rattle.refusal.specs.document.Lowest.{LowestWins}
-use Rattle.refusal.specs.Lowest.{lowest_number}
+use Rattle.refusal.proofs.Lowest.{lowest_number}
 use Rattle.skeleton.specs.document.Skeleton.{IsTree}
 use Rattle.renumber.specs.document.Map.{map_rows, Renumbers, HandedOut}
 use Rattle.renumber.specs.Accepted.{map_clear}

@@ -2,6 +2,8 @@
 //
 // Entries and edges count from 1, as the places of the refusals do. Both lists have been accepted by `edge_list::check`. Vertices have atoms, which a map
 // keeps; a plain list's are all carbon.
+#![tactic(auto)]
+
 ghost use Rattle.std.specs.Prelude.{◌≡◌, ℕ, ◌≤◌, length};
 ghost use mathlib.Core.List.{[], ◌∷◌, Memᴰ};
 ghost use Rattle.laws.specs.Tells.{Tells};
@@ -159,7 +161,7 @@ pub fn check_marks(
 ) -> Check
     requires { IsSkeleton size width n1 edges1.now }
     ensures { (l k : ℕ → Atom) → Named n1 l atoms1.now → Named n2 k atoms2.now
-        → Answers (keptRows l k n1 edges1.now n2 edges2.now map.now) result }
+        → Answers (kept_rows l k n1 edges1.now n2 edges2.now map.now) result }
 {
     if let Check::Refuse(k, p) = sizes(n1, n2, map) {
         return Check::Refuse(k, p);
@@ -193,7 +195,7 @@ fn place(first: &[u8; SIZE], second: &[u8; SIZE], n: usize, out: &mut [u8])
 }
 
 // What is answered to two skeletons of the same size, and how many pairs were looked at for their centred codes.
-#[derive(Drop)]
+#[derive(Clone, Copy)]
 pub struct Handed {
     pub answer: Answer,
     pub pairs: usize,

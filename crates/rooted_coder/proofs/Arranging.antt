@@ -11,7 +11,8 @@ use Rattle.limits.specs.document.Limits.{size}
 use Rattle.digit_code.specs.Compare.{looked}
 use Rattle.numbering.specs.document.Order.{insert_by, sort_by}
 use Rattle.numbering.specs.Order.{pairs, place}
-use Rattle.numbering.specs.Sorted.{sort-more, sum_sorted, sorted_length, pairs-more}
+use Rattle.numbering.specs.Sorted.{pairs-more}
+use Rattle.numbering.proofs.Sorted.{sort-more, sum_sorted, sorted_length}
 use Rattle.rooted_coder.specs.Ordered.{Heads, Stand, Standing, met, Waits, Waiting, Settles, Arranges}
 use Rattle.rooted_coder.proofs.Standing.{length_both, length_first, First, first_of, empty, heads_move}
 

@@ -8,7 +8,7 @@ use Rattle.digit_code.specs.document.Code.{sum}
 use Rattle.limits.specs.document.Limits.{size}
 use Rattle.numbering.specs.document.Order.{sort_by, order_by}
 use Rattle.numbering.specs.Order.{pairs, pairs_by}
-use Rattle.numbering.specs.Sorted.{sorted_length}
+use Rattle.numbering.proofs.Sorted.{sorted_length}
 use Rattle.rooted_coder.specs.Ordered.{mark_of, marked, kids, ordered, compared}
 use Rattle.rooted_coder.proofs.Standing.{length_first}
 

@@ -20,10 +20,12 @@ use Rattle.skeleton.specs.Atoms.{rank-under}
 use Rattle.skeleton.specs.Grow.{rooted_tree}
 use Rattle.letters.specs.Named.{rank_at, Named, Ranked}
 use Rattle.edge_list.specs.Table.{IsTable, Held, deg}
-use Rattle.numbering.specs.Numbering.{Reads, Orders, tree_numbering}
+use Rattle.numbering.specs.Numbering.{Reads, Orders}
+use Rattle.numbering.proofs.Numbering.{tree_numbering}
 use Rattle.numbering.specs.document.Order.{orderₗ, mark_at}
 use Rattle.numbering.specs.Numbers.{pairsₗ, reads_tree}
-use Rattle.numbering.specs.Same.{Same, one-order}
+use Rattle.numbering.specs.Same.{Same}
+use Rattle.numbering.proofs.Same.{one-order}
 use Rattle.rooted_coder.specs.Ordered.{mark_of, marked, filled, but, row, cell, kids, ordered, compared, Rows, Filled, Small, Fills, Covers, Placed}
 use Rattle.rooted_coder.proofs.Neighbours.{neighbour_in, mutual_in, lone}
 

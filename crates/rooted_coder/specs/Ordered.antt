@@ -5,7 +5,7 @@
 -- stand one behind the other in the buffer, and what each function leaves there; marks, with labels, and what the buffer then holds of
 -- the skeleton whose table it is; digits and atoms as marks. Assumes nothing.
 use Rattle.std.specs.Prelude.{◌≡◌, ◌⊎◌, Bool, true, false, ℕ, suc, ◌+◌, ◌-◌, ◌*◌, ◌≤◌, ◌<◌, length, get_or, take}
-use Rattle.std.proofs.Math.Logic.{ite, Dec·not}
+use Rattle.std.proofs.Math.Logic.{ite, Dec.not as dec_not}
 use mathlib.Core.List.{List, [], ◌∷◌, ◌++◌, map, filter, flatten}
 use Rattle.std.proofs.Math.Decide.{ℕ_discrete}
 use Rattle.digit_code.specs.document.Code.{sum}
@@ -37,7 +37,7 @@ filled (x ∷ l) = ite (ℕ_discrete x 0) [] (x ∷ filled l)
 
 -- without p
 abbrev pub but : ℕ → List ℕ → List ℕ
-but p l = filter {p = λ w. ¬ (w ≡ p)} (λ w. Dec·not (ℕ_discrete w p)) l
+but p l = filter {p = λ w. ¬ (w ≡ p)} (λ w. dec_not (ℕ_discrete w p)) l
 
 -- the row of v, and the number in its column j
 abbrev pub row : List (List ℕ) → ℕ → List ℕ

@@ -1,5 +1,7 @@
 // The vertices of a skeleton in the order of its rooted code, written into a buffer by recursion over rooted subtrees, and how many pairs of
 // marks were looked at on the way.
+#![tactic(auto)]
+
 ghost use Rattle.std.specs.Prelude.{◌≡◌, List, ◌++◌, ℕ, ◌+◌, ◌-◌, ◌*◌, ◌≤◌, ◌<◌, length, get_or, set, take, drop};
 ghost use Rattle.laws.specs.Part.{part};
 ghost use Rattle.laws.specs.document.Laid.{laid_over};
@@ -21,7 +23,7 @@ use edge_list::wide;
 use limits::{ATOMS, BYTES, SIZE, WIDTH};
 
 // A place in the buffer, and how many pairs were looked at to find it.
-#[derive(Drop)]
+#[derive(Clone, Copy)]
 struct Sought {
     at: usize,
     looked: usize,
@@ -64,7 +66,7 @@ fn transfer(src: &[u8], a: usize, e: usize, dst: &mut [u8], at: usize)
     ensures { dst.new ≡ take at dst.old ++ (part a e src.now ++ drop (at + (e - a)) dst.old) }
 {
     let to = at + (e - a);
-    bytes::copy(&src[a..e], &mut dst[at..to]);
+    copying::copy(&src[a..e], &mut dst[at..to]);
 }
 
 // Exchanges two neighbours, the part from `a` up to `m` and the part from `m` up to `b`, by way of another buffer.
@@ -158,6 +160,7 @@ fn settle(
 }
 
 // Puts the parts behind what stands at `at` in order, largest first: each is settled among those before it. There is at least one.
+#[inline(never)]
 fn arrange(marks: &[u8; BYTES], out: &mut [u8; SIZE], lens: &mut [u8; SIZE], at: usize) -> usize
     requires out_len { (length out.old ≡ size) × (length lens.old ≡ size) }
     requires standing { Standing out.old lens.old (at + 1) (end_of lens.old at) × (at + 1 < end_of lens.old at) }
@@ -371,7 +374,7 @@ pub fn rooted(
     requires le_root { (1 ≤ root) × (root ≤ n) × (length order.old ≡ size) × (n ≤ length out.old) }
     ensures order_len { length order.new ≡ size }
     ensures by_index { (E : List ℕ) (label : ℕ → Atom) → tree.IsTree n E → IsTable n E rows.now degs.now → Named n label atoms.now
-        → (take n order.new ≡ orders.orderₗ names.atoms label n E root) × (out.new ≡ laidOver (rootedₗ names.atoms label n E root) out.old)
+        → (take n order.new ≡ orders.orderₗ names.atoms label n E root) × (out.new ≡ laid_over (rootedₗ names.atoms label n E root) out.old)
         × (result ≡ numbers.pairsₗ names.atoms label n E root) }
 {
     let mut marks = [0u8; BYTES];

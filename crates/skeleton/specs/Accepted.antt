@@ -3,7 +3,7 @@
 use Rattle.std.specs.Prelude.{◌≡◌, ◌↔◌, List, [], ◌∷◌, ℕ, zero, suc, ◌-◌, ◌≤◌, ◌<◌}
 use Rattle.std.proofs.Math.Path.{refl}
 use Rattle.std.proofs.Common.{ap, ◌∙◌, arith}
-use Rattle.std.proofs.Math.Logic.{Iff·trans}
+use Rattle.std.proofs.Math.Logic.{Iff.trans as iff_trans}
 use Rattle.std.proofs.Math.ListN.{length, length-map}
 use Rattle.refusal.specs.document.Table.{Clear, row3}
 use Rattle.refusal.specs.Laws.{clear_one, clear_both, clear_left, clear_right, never, others, at_least, at_most, size_clear}
@@ -63,7 +63,7 @@ module _ (M : Marks) (c : List ℕ) where
 
     -- the bound on the marks is the bound on the neighbours
     bounded : (most : M.Label → ℕ) → ((a : M.Label) → 1 ≤ most a) → Valences M most x.label x.number x.edges ↔ Capped M most c
-    bounded most one = Iff·trans
+    bounded most one = iff_trans
         (rw (← x.is) at (General.degrees M x.number x.edges x.root x.label x.tree x.inside.0 x.inside.1 most))
         (by_places c (omega (arith, code_sizeₗ, x.inside)))
       where

@@ -3,7 +3,7 @@
 use Rattle.std.specs.Prelude.{◌≡◌}
 use Rattle.std.proofs.Math.Path.{refl, ap, ap₂, subst}
 use Rattle.std.proofs.Common.{sym, ◌∙◌}
-use Rattle.std.proofs.Math.Logic.{if_pos, if_neg, Dec·not}
+use Rattle.std.proofs.Math.Logic.{if_pos, if_neg, Dec.not as dec_not}
 use mathlib.Core.List.Memᴰ
 use mathlib.Core.List.{List, [], ◌∷◌, ◌++◌, map, filter, flatten, append-nil, append_assoc, map-append, filter-append, Memᴰ, Permᴰ}
 use Prim.Native.Nat.{ℕ, zero, suc, ◌≤◌, ◌<◌}
@@ -127,24 +127,24 @@ module _ (A : List Arc) where
 
 -- the members of l but p
 abbrev pub but : ℕ → List ℕ → List ℕ
-but p l = filter {p = λ w. ¬ (w ≡ p)} (λ w. Dec·not (ℕ_discrete w p)) l
+but p l = filter {p = λ w. ¬ (w ≡ p)} (λ w. dec_not (ℕ_discrete w p)) l
 
 pub but-none : (p : ℕ) (l : List ℕ) → (Memᴰ p l → ⊥) → but p l ≡ l
 but-none p [] n = refl
 but-none p (x ∷ l) n =
-    if_pos (Dec·not (ℕ_discrete x p)) (λ e. n (Memᴰ.head (sym e))) (x ∷ but p l) (but p l) ∙ ap (λ m. x ∷ m) (but-none p l (λ h. n (Memᴰ.tail h)))
+    if_pos (dec_not (ℕ_discrete x p)) (λ e. n (Memᴰ.head (sym e))) (x ∷ but p l) (but p l) ∙ ap (λ m. x ∷ m) (but-none p l (λ h. n (Memᴰ.tail h)))
 
 pub but_first : (p : ℕ) (l : List ℕ) → (Memᴰ p l → ⊥) → but p (p ∷ l) ≡ l
-but_first p l n = if_neg (Dec·not (ℕ_discrete p p)) (λ h. h refl) (p ∷ but p l) (but p l) ∙ but-none p l n
+but_first p l n = if_neg (dec_not (ℕ_discrete p p)) (λ h. h refl) (p ∷ but p l) (but p l) ∙ but-none p l n
 
 -- where the neighbours are l, and the parent is none or besides, the children are l
 pub children-all : (A : List Arc) (p v : ℕ) (l : List ℕ) → Permᴰ (neighbours A v) l → (Memᴰ p l → ⊥) → Permᴰ (children A p v) l
 unfolding children
-children-all A p v l π n = subst (λ m. Permᴰ (children A p v) m) (but-none p l n) (mathlib.Core.List.Permᴰ.filter (λ w. Dec·not (ℕ_discrete w p)) π)
+children-all A p v l π n = subst (λ m. Permᴰ (children A p v) m) (but-none p l n) (mathlib.Core.List.Permᴰ.filter (λ w. dec_not (ℕ_discrete w p)) π)
 
 pub children-but : (A : List Arc) (p v : ℕ) (l : List ℕ) → Permᴰ (neighbours A v) (p ∷ l) → (Memᴰ p l → ⊥) → Permᴰ (children A p v) l
 unfolding children
-children-but A p v l π n = subst (λ m. Permᴰ (children A p v) m) (but_first p l n) (mathlib.Core.List.Permᴰ.filter (λ w. Dec·not (ℕ_discrete w p)) π)
+children-but A p v l π n = subst (λ m. Permᴰ (children A p v) m) (but_first p l n) (mathlib.Core.List.Permᴰ.filter (λ w. dec_not (ℕ_discrete w p)) π)
 
 module _ (M : Marks) where
   pub join_perm : (a : M.Label) {cs ds : List (List ℕ)} → Permᴰ cs ds → joinₗ M a cs ≡ joinₗ M a ds

@@ -1,48 +1,23 @@
--- The definitions, run on document 01's own figures, and with atoms. Assumes nothing.
-use Rattle.std.specs.Prelude.{◌≡◌, refl, ℕ, zero, suc}
-use Rattle.std.proofs.Math.Logic.{Dec·not}
-use mathlib.Core.List.{List, [], ◌∷◌, flatten}
+-- The definitions, run on document 01's own figures, and with atoms. What rests on `atoms` is in `proofs.Examples`. Assumes nothing.
+use Rattle.std.specs.Prelude.{◌≡◌, refl}
+use Rattle.std.proofs.Math.Logic.{Dec.not as dec_not}
+use mathlib.Core.List.{[], ◌∷◌, flatten}
 use Rattle.std.proofs.Math.Decide.{ℕ_discrete, dec_lt}
 use Rattle.laws.specs.document.Order.{dec≽, insert, sort}
 use Rattle.digit_code.specs.document.Code.{edges_from, decode}
 use Rattle.skeleton.specs.document.Skeleton.{arcs, neighbours, children, join, code_at, rooted}
-use Rattle.skeleton.specs.document.Label.{joinₗ, codeₗ, rootedₗ, digits, labels}
-use Rattle.skeleton.specs.document.Atom.{Atom, C, O}
-use Rattle.skeleton.specs.document.AtomMarks.{atoms}
 
 -- 3-methylhexane in 001's numbering, at its centre and at the other middle vertex
 centre : rooted 7 (1 ∷ 2 ∷ 2 ∷ 3 ∷ 2 ∷ 4 ∷ 3 ∷ 5 ∷ 1 ∷ 6 ∷ 6 ∷ 7 ∷ []) 2 ≡ 3 ∷ 1 ∷ 1 ∷ 0 ∷ 1 ∷ 0 ∷ 0 ∷ []
-unfolding rooted code_at join children neighbours arcs sort insert dec≽ flatten ℕ_discrete dec_lt Dec·not
+unfolding rooted code_at join children neighbours arcs sort insert dec≽ flatten ℕ_discrete dec_lt dec_not
 centre = refl
 
 other : rooted 7 (1 ∷ 2 ∷ 2 ∷ 3 ∷ 2 ∷ 4 ∷ 3 ∷ 5 ∷ 1 ∷ 6 ∷ 6 ∷ 7 ∷ []) 1 ≡ 2 ∷ 2 ∷ 1 ∷ 0 ∷ 0 ∷ 1 ∷ 0 ∷ []
-unfolding rooted code_at join children neighbours arcs sort insert dec≽ flatten ℕ_discrete dec_lt Dec·not
+unfolding rooted code_at join children neighbours arcs sort insert dec≽ flatten ℕ_discrete dec_lt dec_not
 other = refl
 
 -- ---- with atoms
 
--- methanol, its carbon 1 and its oxygen 2: the code at the oxygen, 10 with the letters OC, is the larger
-methanol : ℕ → Atom
-methanol zero = C
-methanol (suc zero) = C
-methanol (suc (suc v)) = O
-
-at_oxygen : rootedₗ atoms methanol 2 (1 ∷ 2 ∷ []) 2 ≡ 5 ∷ 0 ∷ []
-unfolding methanol rootedₗ codeₗ joinₗ children neighbours arcs sort insert dec≽ flatten ℕ_discrete dec_lt Dec·not
-at_oxygen = refl
-
-at-carbon : rootedₗ atoms methanol 2 (1 ∷ 2 ∷ []) 1 ≡ 3 ∷ 2 ∷ []
-unfolding methanol rootedₗ codeₗ joinₗ children neighbours arcs sort insert dec≽ flatten ℕ_discrete dec_lt Dec·not
-at-carbon = refl
-
--- 210110 with the letters CNCCCC: the branch with the nitrogen goes before the longer one, so the code's digits are not the code of the bare skeleton
-abbrev branched : List ℕ
-branched = 6 ∷ 4 ∷ 0 ∷ 3 ∷ 3 ∷ 0 ∷ []
-
-nitrogen_first : rootedₗ atoms (labels atoms branched) 6 (decode (digits atoms branched)) 1 ≡ branched
-unfolding rootedₗ codeₗ joinₗ digits labels decode edges_from children neighbours arcs sort insert dec≽ flatten ℕ_discrete dec_lt Dec·not
-nitrogen_first = refl
-
 bare : rooted 6 (decode (2 ∷ 1 ∷ 0 ∷ 1 ∷ 1 ∷ 0 ∷ [])) 1 ≡ 2 ∷ 1 ∷ 1 ∷ 0 ∷ 1 ∷ 0 ∷ []
-unfolding rooted code_at join decode edges_from children neighbours arcs sort insert dec≽ flatten ℕ_discrete dec_lt Dec·not
+unfolding rooted code_at join decode edges_from children neighbours arcs sort insert dec≽ flatten ℕ_discrete dec_lt dec_not
 bare = refl

@@ -5,7 +5,7 @@
 use Rattle.std.specs.Prelude.{◌≡◌, ◌↔◌, take}
 use Rattle.std.proofs.Math.Path.{refl, ap, ap₂, sym}
 use Rattle.std.proofs.Common.{◌∙◌, subst, take_at, drop_at}
-use Rattle.std.proofs.Math.Logic.{Iff·trans}
+use Rattle.std.proofs.Math.Logic.{Iff.trans as iff_trans}
 use mathlib.Core.List.{List, [], ◌∷◌, ◌++◌, map, flatten, append-nil, append_assoc, nil≢cons, cons≢nil, head-eq_of_cons-eq, tail-eq_of_cons-eq}
 use Prim.Native.Nat.{ℕ, suc, ◌+◌, ◌-◌}
 use native.Mathlib.Omega.{arith}
@@ -179,4 +179,4 @@ module _ (M : Marks) where
 
 -- and for document 01's codes
 pub code-ordered : (c : List ℕ) → IsRooted c ↔ (Ends 1 c × Ordered plain c)
-code-ordered c = Iff·trans (is_rooted c) (rw digits-base at (code_orderedₗ base c))
+code-ordered c = iff_trans (is_rooted c) (rw digits-base at (code_orderedₗ base c))

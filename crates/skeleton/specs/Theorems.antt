@@ -2,7 +2,7 @@
 -- vertices with labels, `Ordered` a test of a code on its digits alone, and `Accepted` what the refusal table lets pass. A section's
 -- first line names what its theorems speak of. Assumes nothing.
 use Rattle.std.specs.Prelude.{◌≡◌, refl, ◌↔◌, ℕ, ◌+◌, ◌≤◌, length}
-use Rattle.std.proofs.Math.Logic.{Iff·trans}
+use Rattle.std.proofs.Math.Logic.{Iff.trans as iff_trans}
 use mathlib.Core.List.{List, [], ◌++◌, Permᴰ}
 use Rattle.digit_code.specs.document.Code.{digit, sum, EndsAt, decode, cap}
 use Rattle.digit_code.specs.Ends.{Ends}
@@ -16,7 +16,7 @@ use Rattle.skeleton.specs.General as General
 
 -- c is a rooted code exactly when its digits end and c is the code at vertex 1 of what it decodes to
 pub decode-code : (c : List ℕ) → IsRooted c ↔ (Ends 1 c × (rooted (length c) (decode c) 1 ≡ c))
-decode-code c = Iff·trans (is_rooted c) (rw (digits-base, rooted-base) at (General.decode-code base c))
+decode-code c = iff_trans (is_rooted c) (rw (digits-base, rooted-base) at (General.decode-code base c))
 
 -- digits that end decode to a tree
 pub decoded_tree : (c : List ℕ) → Ends 1 c → IsTree (length c) (decode c)
@@ -42,7 +42,7 @@ module _ (N : ℕ) (E : List ℕ) (r : ℕ) (t : IsTree N E) (h : 1 ≤ r) (k : 
   -- it is also that of another tree at q exactly when a renumbering carries the one to the other, root to root
   pub equal-codes : (F : List ℕ) (q : ℕ) → IsTree N F → 1 ≤ q → q ≤ N → (rooted N E r ≡ rooted N F q) ↔ ((ρ : Renumbering N E F) × (ρ.to r ≡ q))
   equal-codes F q u i j =
-      Iff·trans (simp rooted-base at (General.equal-codes base N E r (λ v. tt) t h k F q (λ v. tt) u i j)) (λ (ρ, e, s). (ρ, e), λ (ρ, e). (ρ, e, λ v a b. refl))
+      iff_trans (simp rooted-base at (General.equal-codes base N E r (λ v. tt) t h k F q (λ v. tt) u i j)) (λ (ρ, e, s). (ρ, e), λ (ρ, e). (ρ, e, λ v a b. refl))
 
   -- it does not depend on the order in which edges, or the ends of an edge, are listed
   pub order_free : (F : List ℕ) → Permᴰ (arcs E) (arcs F) → rooted N E r ≡ rooted N F r
@@ -64,4 +64,4 @@ module _ (N : ℕ) (E : List ℕ) (r : ℕ) (t : IsTree N E) (h : 1 ≤ r) (k : 
   pub degrees : (R : ℕ) → Degrees R N E ↔ ((p : ℕ) → 1 ≤ p → p ≤ length (rooted N E r) → digit (rooted N E r) p ≤ cap R p)
   unfolding Degrees Valences
   degrees R =
-      Iff·trans (rw rooted-base at (General.degrees base N E r (λ v. tt) t h k (λ a. R))) (caps R (rooted N E r) ((decode-code (rooted N E r)).0 right).0)
+      iff_trans (rw rooted-base at (General.degrees base N E r (λ v. tt) t h k (λ a. R))) (caps R (rooted N E r) ((decode-code (rooted N E r)).0 right).0)

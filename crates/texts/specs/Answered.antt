@@ -3,7 +3,8 @@
 use Rattle.std.specs.Prelude.{◌≡◌, refl, List, [], ◌∷◌, ◌++◌, map, ℕ}
 use Rattle.std.proofs.Common.{sym, ap, subst, ◌∙◌, inl, inr, arith}
 use Rattle.refusal.specs.document.Table.{Row, Applies, Clear, FirstRefusal, Outcome, gives, refuses, kept, left}
-use Rattle.refusal.specs.Laws.{one_result, not_both, clear_one, clear_both, clear_right, first-place, refusal_front, refusal_back, others, RowByRow, Alike, alike_clear, alike_refusal}
+use Rattle.refusal.specs.Laws.{not_both, clear_one, clear_both, clear_right, refusal_front, others, RowByRow, Alike, alike_clear}
+use Rattle.refusal.proofs.Laws.{one_result, first-place, refusal_back, alike_refusal}
 use Rattle.texts.specs.document.Bytes.{Free, Cut}
 use Rattle.texts.specs.document.Text.{PartRow, Format, Shaped, Where, row1, row2, of_line, line_rows, LineCarries, LineAnswers}
 use Rattle.texts.specs.Judging.{judged}
@@ -102,6 +103,7 @@ module _ {A F : Type 0} (format : Format A F) (once : Once format.Formed) where
       no_row : (k p : ℕ) → Applies (row1 t ∷ row2 format.Formed t ∷ []) k p → ⊥
       no_row k p (inl e) = shaped_fed format.Formed s e.1.1
       no_row k p (inr (inl e)) = e.1.1 q s
+      no_row k p (inr (inr x'')) = elim x'' [ ]
 
   -- a line of the form whose parts are accepted, where nothing is refused of every line
   pub line_clear : {t : List ℕ} {q : F} → Clear format.first → Shaped format.Formed t q → Clear (judged format.rows q) → Clear (line_rows format t)

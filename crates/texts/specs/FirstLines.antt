@@ -51,8 +51,10 @@ Pairwise Q (x ∷ xs) (y ∷ ys) = Q x y × Pairwise Q xs ys
 pairwise_equal : {A : Type 0} (xs ys : List A) → Pairwise ◌≡◌ xs ys → xs ≡ ys
 pairwise_equal [] [] h = refl
 pairwise_equal (x ∷ xs) (y ∷ ys) h = ap₂ ◌∷◌ h.0 (pairwise_equal xs ys h.1)
-
 -- where a line ends is the same for any format
+pairwise_equal {A = A} [] (y ∷ ys) h = elim h [ ]
+pairwise_equal {A = A} (x ∷ xs) [] h = elim h [ ]
+
 module _ {A F B G : Type 0} (format : Format A F) (other : Format B G) where
   -- two readings of so many lines leave one rest, and their answers are related as those to one line are
   pub taken-pairs :

@@ -1,8 +1,9 @@
--- Numbers of any length, without leading zeros. In order: such a number says one number; up to 99 it is a count. Assumes nothing.
+-- Numbers of any length, without leading zeros. In order: such a number says one number; up to 99 it is a count. What rests on `count-decimal`, `number-count` or
+-- `count-number` is in `proofs.Numbers`. Assumes nothing.
 use Rattle.std.specs.Prelude.{◌≡◌, List, [], ◌∷◌, ℕ, ◌+◌, ◌*◌, ◌≤◌}
 use Rattle.std.proofs.Common.{sym, ap, ◌∙◌, arith}
-use Rattle.texts.specs.document.Numerals.{figures, decimal, Digits, IsCount, one-digit, two_digits, says, Leads, IsNumber}
-use Rattle.texts.specs.Numerals.{same-figures, decimal-counts, count-decimal, marks-figures}
+use Rattle.texts.specs.document.Numerals.{figures, Digits, IsCount, one-digit, two_digits, says, Leads, IsNumber}
+use Rattle.texts.specs.Numerals.{same-figures, marks-figures}
 use Rattle.texts.specs.Spaced.{Marks}
 
 pub one_number : {b : List ℕ} {n m : ℕ} → IsNumber b n → IsNumber b m → n ≡ m
@@ -31,10 +32,3 @@ pub count-number : {b : List ℕ} {n : ℕ} → IsCount b n → IsNumber b n
 unfolding says
 count-number {n = n} (one-digit h e) = record { digits = n ∷ []; leads = tt; small = (h, tt); parts = e; value = omega arith }
 count-number (two_digits d f p q r e s) = record { digits = d ∷ f ∷ []; leads = p; small = (q, (r, tt)); parts = e; value = omega arith }
-
--- up to 99 it is written as a count is
-pub number-decimal : {b : List ℕ} {n : ℕ} → IsNumber b n → n ≤ 99 → b ≡ decimal n
-number-decimal h l = (count-decimal (number-count h l)).0
-
-pub decimal-number : (n : ℕ) → n ≤ 99 → IsNumber (decimal n) n
-decimal-number n l = count-number (decimal-counts n l)

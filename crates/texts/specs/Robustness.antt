@@ -6,7 +6,7 @@ use Rattle.std.proofs.Common.{◌∙◌}
 use mathlib.Core.List.{List, [], ◌∷◌, ◌++◌, map, append_assoc, append-nil}
 use native.Mathlib.Omega.{arith}
 use Rattle.std.proofs.Math.ListN.{length, length-append}
-use Rattle.refusal.specs.document.Table.{Outcome, gives, refuses}
+use Rattle.refusal.specs.document.Table.{Outcome, gives}
 use Rattle.texts.specs.document.Bytes.{Other, Free, Cut}
 use Rattle.texts.specs.document.Text.{Format, text_of, TextAnswers}
 use Rattle.texts.specs.document.Damage.{Among, end, keep, skip, records, refusals}

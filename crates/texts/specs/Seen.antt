@@ -113,6 +113,7 @@ AboveZero (r ∷ rs) = (1 ≤ r.number) × AboveZero rs
 above_zero : (rs : List Row) (k p : ℕ) → AboveZero rs → Applies rs k p → 1 ≤ k
 above_zero (r ∷ rs) k p h (inl a) = omega (arith, a.0, h.0)
 above_zero (r ∷ rs) k p h (inr a) = above_zero rs k p h.1 a
+above_zero [] k p h x'' = elim x'' [ ]
 
 module _ {A F : Type 0} (kind : Kind A F) where
   -- the answers' numbers, and their places

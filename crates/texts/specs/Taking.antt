@@ -5,7 +5,8 @@ use Rattle.std.proofs.Common.{sym, ap₂, ◌∙◌, inl, inr, arith}
 use Rattle.std.proofs.Math.Path.{ap, subst}
 use Rattle.laws.specs.document.Laid.{laid_over}
 use Rattle.refusal.specs.document.Table.{Clear, Outcome, gives, refuses, kept, left}
-use Rattle.refusal.specs.Laws.{one_result, clear_one, first-place, clear_left, clear_both, refusal_back, refusal_before}
+use Rattle.refusal.specs.Laws.{clear_one, clear_left, clear_both}
+use Rattle.refusal.proofs.Laws.{one_result, first-place, refusal_back, refusal_before}
 use Rattle.texts.specs.document.Text.{Format, Shaped, line_rows, LineAnswers}
 use Rattle.texts.specs.document.Lent.{Lent, Has, Short, EachArea, block, counted, line_row15, Hands, ReadsLine}
 use Rattle.texts.specs.Judging.{judged}
@@ -33,6 +34,7 @@ module _ {A : Type 0} where
 pub not_short : (n : ℕ) (olds : List (List ℕ)) → Has n olds → Short n olds → ⊥
 not_short n (old ∷ olds) h (inl s) = omega (arith, h.0)
 not_short n (old ∷ olds) h (inr s) = not_short n olds h.1 s
+not_short n [] h x'' = elim x'' [ ]
 
 pub has_less : (n m : ℕ) → n ≤ m → (olds : List (List ℕ)) → Has m olds → Has n olds
 has_less n m l [] h = tt

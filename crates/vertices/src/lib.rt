@@ -1,6 +1,8 @@
 // Equal vertices: the class of each vertex of a centred code of marks, one for two vertices where a renumbering of the skeleton onto itself that
 // keeps the atoms carries one to the other, numbered by first appearance. A vertex other than the root is told by its parent's class and its subtree
 // code, the root by the two halves of the code.
+#![tactic(auto)]
+
 ghost use Rattle.std.specs.Prelude.{◌≡◌, suc, ◌≤◌, ◌<◌, length, take};
 ghost use Rattle.laws.specs.document.Laid.{Laid};
 ghost use Rattle.laws.specs.Tells.{Tells};

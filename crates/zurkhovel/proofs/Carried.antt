@@ -7,7 +7,8 @@ use native.Mathlib.Omega.{arith}
 use lib.ListN.{length, take}
 use Rattle.refusal.specs.document.Table.{Row, Gives}
 use Rattle.refusal.specs.Giving.{refused-first}
-use Rattle.refusal.specs.Laws.{clear_both, refusal_back}
+use Rattle.refusal.specs.Laws.{clear_both}
+use Rattle.refusal.proofs.Laws.{refusal_back}
 use Rattle.refusal.specs.declared.Answer.TheVariants.{Refused}
 use Rattle.edition.specs.document.Edition.{neighbours_in, in_edition}
 use Rattle.edition.specs.Laws.{an_edition, edition_clear, refused_22}
@@ -19,7 +20,7 @@ use Rattle.bits.specs.Reading.{one_reading}
 use Rattle.bits.specs.Decided.{Decided, gives, refuses, Decision}
 use Rattle.zurkhovel.specs.document.Bits.{Decodes}
 use Rattle.zurkhovel.specs.Rooting.{Readable, EdgesOf}
-use Rattle.refusal.specs.Behind.{behind}
+use Rattle.refusal.proofs.Behind.{behind}
 use Rattle.digit_code.specs.Right.{clear_right}
 
 module _ {rs : List Row} {R : ℕ} {May : List Bool → Type 0} {bs : List Bool} {out : List ℕ} where

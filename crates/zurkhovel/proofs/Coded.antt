@@ -4,7 +4,8 @@ use mathlib.Core.List.{List}
 use Prim.Native.Nat.{ℕ, ◌≤◌, ◌<◌}
 use lib.ListN.{length}
 use Rattle.refusal.specs.document.Table.{Clear, gives, refuses, Writes, Gives}
-use Rattle.refusal.specs.Giving.{refused-short, given}
+use Rattle.refusal.specs.Giving.{given}
+use Rattle.refusal.proofs.Giving.{refused-short}
 use Rattle.limits.specs.document.Limits.{size}
 use Rattle.skeleton.specs.document.Skeleton.{rooted}
 use Rattle.form.specs.Forms.{IsForm, form-size}

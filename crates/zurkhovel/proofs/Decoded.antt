@@ -7,7 +7,8 @@ use lib.ListN.{length}
 use Rattle.laws.specs.document.Laid.{Laid}
 use Rattle.refusal.specs.document.Table.{Clear, gives, refuses}
 use Rattle.refusal.specs.Laws.{clear_left, others}
-use Rattle.refusal.specs.Giving.{refused-short, given-laid}
+use Rattle.refusal.specs.Giving.{given-laid}
+use Rattle.refusal.proofs.Giving.{refused-short}
 use Rattle.limits.specs.document.Limits.{size}
 use Rattle.digit_code.specs.document.Code.{decode}
 use Rattle.digit_code.specs.Ends.{ends_sum}

@@ -7,7 +7,8 @@ use lib.ListN.{length, take}
 use Rattle.laws.specs.document.Laid.{Laid}
 use Rattle.refusal.specs.document.Table.{Clear, gives, refuses, Writes, Gives}
 use Rattle.refusal.specs.Laws.{clear_left, others}
-use Rattle.refusal.specs.Giving.{refused-short, given, written, written_length}
+use Rattle.refusal.specs.Giving.{given, written, written_length}
+use Rattle.refusal.proofs.Giving.{refused-short}
 use Rattle.limits.specs.document.Limits.{size}
 use Rattle.digit_code.specs.document.Code.{code_rows}
 use Rattle.digit_code.specs.Right.{RightCode, clear_right}

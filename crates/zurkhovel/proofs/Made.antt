@@ -7,7 +7,8 @@ use lib.ListN.{length}
 use Rattle.laws.specs.document.Laid.{laid_over}
 use Rattle.refusal.specs.document.Table.{Row, Clear, gives, refuses, Gives}
 use Rattle.refusal.specs.Laws.{clear_left, others}
-use Rattle.refusal.specs.Giving.{refused-short, given-laid}
+use Rattle.refusal.specs.Giving.{given-laid}
+use Rattle.refusal.proofs.Giving.{refused-short}
 use Rattle.limits.specs.document.Limits.{a_size}
 use Rattle.adjacency.specs.document.Adjacency.{a_edges_lem, made_rows}
 use Rattle.adjacency.specs.Accepted.{a_front, a_long}

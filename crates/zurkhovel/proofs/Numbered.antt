@@ -8,7 +8,8 @@ use lib.ListN.{length, take}
 use lib.Seq.{length-take-le}
 use Rattle.laws.specs.document.Laid.{laid_over}
 use Rattle.refusal.specs.document.Table.{Clear, Writes, gives, refuses, Gives, Answered, kept}
-use Rattle.refusal.specs.Giving.{refused-short, given, written, written-room}
+use Rattle.refusal.specs.Giving.{given, written, written-room}
+use Rattle.refusal.proofs.Giving.{refused-short}
 use Rattle.limits.specs.document.Limits.{size}
 use Rattle.digit_code.specs.document.Code.{decode}
 use Rattle.skeleton.specs.document.Skeleton.{IsSkeleton, rooted}

@@ -26,7 +26,7 @@ use Rattle.zurkhovel.specs.document.Reported.{ReportedAtRoot}
 use Rattle.refusal.specs.declared.Reported.{Reported}
 use Rattle.zurkhovel.specs.Rooting.{Rooted}
 use Rattle.zurkhovel.specs.Accepted.{skeleton_of, root_of, rooted-size}
-use Rattle.refusal.specs.Behind.{behind}
+use Rattle.refusal.proofs.Behind.{behind}
 use Rattle.edition.specs.document.Edition.{neighbours_in}
 use Rattle.zurkhovel.specs.document.InEdition.{edge_table}
 

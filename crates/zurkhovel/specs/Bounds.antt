@@ -9,7 +9,8 @@ use Rattle.std.proofs.Math.Decide.{dec_le, ℕ_discrete}
 use Rattle.refusal.specs.document.Table.{Row, Clear, row3}
 use Rattle.refusal.specs.document.Small.{byte_values, Bounded}
 use Rattle.refusal.specs.Laws.{never, others, at_most}
-use Rattle.refusal.specs.Bounded.{bounded_rows, bounded_both, at_0}
+use Rattle.refusal.specs.Bounded.{bounded_rows, at_0}
+use Rattle.refusal.proofs.Bounded.{bounded_both}
 use Rattle.limits.specs.document.Limits.{size, packed_bytes, whole_size, zero_size, a_size}
 use Rattle.digit_code.specs.document.Code.{plain, digit_rows, code_rows}
 use Rattle.digit_code.specs.Within.{larger_within}

@@ -4,7 +4,8 @@ use Rattle.std.specs.Prelude.{refl, [], ◌∷◌, ℕ, length}
 use Rattle.std.proofs.Math.Path.{ap}
 use Rattle.std.proofs.Common.{◌∙◌, arith, rules}
 use Rattle.laws.specs.Laying.{laid-front}
-use Rattle.refusal.specs.Giving.{gave, must_give}
+use Rattle.refusal.specs.Giving.{gave}
+use Rattle.refusal.proofs.Giving.{must_give}
 use Rattle.limits.specs.document.Limits.{size}
 use Rattle.edition.specs.document.Edition.{IsEdition, neighbours_in}
 use Rattle.edition.specs.Laws.{clear_edition}
@@ -13,11 +14,11 @@ use Rattle.form.specs.Forms.{centred-form, form-size}
 use Rattle.texts.specs.document.Demand.{CleanLines, OneCall, TurnsAgree, CleanText, OneByteChanged, AnyDamage, AnswersEachLine, ReachesTheEnd, GetsOn, TurnsEnd}
 use Rattle.texts.specs.Seen.{Told, Legible}
 use Rattle.texts.specs.Demanded.{Writes}
-use Rattle.texts.specs.Demanded as Any
+use Rattle.texts.specs.Demanded as AnyLine
 use Rattle.lines.specs.document.Line.{line, Front}
 use Rattle.lines.specs.document.Judged.{digit_table}
 use Rattle.lines.specs.Plain.{line-short, plain_once, plain_few}
-use Rattle.lines.specs.OfEdition.{edition_sound}
+use Rattle.lines.proofs.OfEdition.{edition_sound}
 use Rattle.zurkhovel.specs.Accepted.{skeleton_of, centred_accepted}
 use Rattle.zurkhovel.specs.document.Demand.{GivesALine, GivesEachLine, plain_kind}
 
@@ -28,6 +29,9 @@ module _ (e : ℕ) where
   told q (old ∷ []) (new ∷ more ∷ news) x = absurd x.1
   told q (old ∷ more ∷ olds) (new ∷ news) x = absurd x.1
   told q (old ∷ []) (new ∷ []) x = laid-front q.digits old new (length q.digits) x.0 refl
+  told q [] news x = elim x [ ]
+  told q (old ∷ []) [] x = elim x [ ]
+  told q (old ∷ (more ∷ olds)) [] x = elim x [ ]
 
   pub legible : Legible (plain_kind e)
   legible =
@@ -54,37 +58,37 @@ module _ (e : ℕ) where
       (c, x, must_give k (line c) (c, x, refl) (λ t (d, y, q). q ∙ ap line (centred-form.one s.tree y x)) (omega (arith, s.few)) g)
 
   pub clean_lines : CleanLines (plain_kind e)
-  clean_lines = Any.clean_lines (plain_kind e) writes
+  clean_lines = AnyLine.clean_lines (plain_kind e) writes
 
   -- ---- what a caller sees
 
   pub one_call : OneCall (plain_kind e)
-  one_call = Any.one_call (plain_kind e)
+  one_call = AnyLine.one_call (plain_kind e)
 
   pub turns_agree : TurnsAgree (plain_kind e)
-  turns_agree = Any.turns_agree (plain_kind e) legible
+  turns_agree = AnyLine.turns_agree (plain_kind e) legible
 
   -- ---- what the clean text is answered, and the two sentences, in an edition that there is
 
   pub clean_text : IsEdition e → CleanText (plain_kind e)
-  clean_text i = Any.clean_text (plain_kind e) legible writes (edition_sound e i)
+  clean_text i = AnyLine.clean_text (plain_kind e) legible writes (edition_sound e i)
 
   pub one-byte_changed : IsEdition e → OneByteChanged (plain_kind e)
-  one-byte_changed i = Any.one-byte_changed (plain_kind e) legible writes (edition_sound e i)
+  one-byte_changed i = AnyLine.one-byte_changed (plain_kind e) legible writes (edition_sound e i)
 
   pub any_damage : IsEdition e → AnyDamage (plain_kind e)
-  any_damage i = Any.any_damage (plain_kind e) legible writes (edition_sound e i)
+  any_damage i = AnyLine.any_damage (plain_kind e) legible writes (edition_sound e i)
 
   -- ---- reaching the end
 
   pub answers-each-line : AnswersEachLine (plain_kind e)
-  answers-each-line = Any.answers-each-line (plain_kind e) legible
+  answers-each-line = AnyLine.answers-each-line (plain_kind e) legible
 
   pub reaches_the_end : ReachesTheEnd (plain_kind e)
-  reaches_the_end = Any.reaches_the_end (plain_kind e)
+  reaches_the_end = AnyLine.reaches_the_end (plain_kind e)
 
   pub gets_on : GetsOn (plain_kind e)
-  gets_on = Any.gets_on (plain_kind e)
+  gets_on = AnyLine.gets_on (plain_kind e)
 
   pub turns-end : TurnsEnd (plain_kind e)
-  turns-end = Any.turns-end (plain_kind e)
+  turns-end = AnyLine.turns-end (plain_kind e)

@@ -5,7 +5,7 @@
 -- and 001's skeleton has 001's own. What a row says is in `document.Figures`. Assumes nothing.
 use Rattle.std.specs.Prelude.{◌≡◌, refl, ℕ, ◌-◌, ◌*◌, ◌^◌, ◌<◌, length}
 use Rattle.std.proofs.Common.{subst, arith}
-use Rattle.std.proofs.Math.Logic.{Dec·and, Dec·not}
+use Rattle.std.proofs.Math.Logic.{Dec.and as dec_and, Dec.not as dec_not}
 use mathlib.Core.List.{List, [], ◌∷◌, ◌++◌, flatten}
 use Rattle.std.proofs.Math.Decide.{ℕ_discrete, dec_lt}
 use Rattle.laws.specs.document.Order.{dec≽, insert, sort}
@@ -27,7 +27,7 @@ use Rattle.adjacency.specs.Entries.{none, more, cam-physical}
 use Rattle.orbits.specs.document.Carried.{ClassesOf}
 use Rattle.orbits.specs.Found.{greatest, class_of, same?}
 use Rattle.orbits.specs.Classes.{testₗ, toldₗ, classesₗ, classes}
-use Rattle.orbits.specs.Theorems.{classes_of}
+use Rattle.orbits.proofs.Theorems.{classes_of}
 use Rattle.zurkhovel.specs.document.Matrix.{ByCode}
 use Rattle.zurkhovel.specs.document.Figures.{Figure, Classed, Numbered}
 
@@ -72,7 +72,7 @@ pub table :
     -- 001's line: 3-methylhexane in 001's numbering
     × Numbered 7 (1 ∷ 2 ∷ 2 ∷ 3 ∷ 2 ∷ 4 ∷ 3 ∷ 5 ∷ 1 ∷ 6 ∷ 6 ∷ 7 ∷ []) (3 ∷ 1 ∷ 1 ∷ 0 ∷ 1 ∷ 0 ∷ 0 ∷ []) (3 ∷ 1 ∷ 1 ∷ 0 ∷ 1 ∷ 0 ∷ 0 ∷ []) 7496
     (1 ∷ 2 ∷ 2 ∷ 3 ∷ 1 ∷ 6 ∷ []) 545 1646688 (1 ∷ 2 ∷ 3 ∷ 1 ∷ 5 ∷ 1 ∷ []) 624
-unfolding classesₗ toldₗ testₗ class_of greatest same? parent codes rooted code_at join children neighbours degree arcs sort insert dec≽ flatten ℕ_discrete dec_lt Dec·and Dec·not dec_in seek sift dec_two peel left larger up_to middle₁ middle₂ largest some_n_tuple word bit bits decode edges_from sum mixed A.from A.lower A.entry A.cam A.entry_edges A.zero_a_lem A.column_sum A.powers A.a_zero_lem
+unfolding classesₗ toldₗ testₗ class_of greatest same? parent codes rooted code_at join children neighbours degree arcs sort insert dec≽ flatten ℕ_discrete dec_lt dec_and dec_not dec_in seek sift dec_two peel left larger up_to middle₁ middle₂ largest some_n_tuple word bit bits decode edges_from sum mixed A.from A.lower A.entry A.cam A.entry_edges A.zero_a_lem A.column_sum A.powers A.a_zero_lem
 table = (
   row (computed size valence 0 refl (omega arith) (omega arith) refl refl) refl (omega arith),
   row (computed size valence 0 refl (omega arith) (omega arith) refl refl) refl (omega arith),

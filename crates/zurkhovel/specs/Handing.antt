@@ -3,8 +3,10 @@ use Rattle.std.specs.Prelude.{◌≡◌, refl, true, false, List, [], ◌∷◌,
 use Rattle.std.proofs.Common.{sym, ◌∙◌, subst, inl, inr, arith}
 use Rattle.refusal.specs.document.Table.{RowOf, Row, Clear, Outcome, gives, refuses, Answered, kept, left, short}
 use Rattle.refusal.specs.document.Lists.{HandsOut}
-use Rattle.refusal.specs.Laws.{clear_one, first-place}
-use Rattle.refusal.specs.Lists.{maps_clear, maps_third}
+use Rattle.refusal.specs.Laws.{clear_one}
+use Rattle.refusal.proofs.Laws.{first-place}
+use Rattle.refusal.specs.Lists.{maps_clear}
+use Rattle.refusal.proofs.WhichList.{maps_third}
 use Rattle.renumber.specs.Parts.{FoundBy, hands, lacks, differs}
 use Rattle.zurkhovel.specs.document.Same.{OneCode}
 use Rattle.zurkhovel.specs.document.Maps.{MapOutcome}

@@ -3,8 +3,8 @@ use Rattle.std.specs.Prelude.{◌≡◌, refl, List, [], ◌∷◌, ℕ, ◌≤�
 use Rattle.std.proofs.Common.{inl, inr, arith}
 use Rattle.refusal.specs.document.Table.{of_list, First}
 use Rattle.refusal.specs.document.Small.{SmallOf, BoundedBy}
-use Rattle.refusal.specs.Laws.{list-told}
-use Rattle.refusal.specs.Lists as Lists
+use Rattle.refusal.proofs.Laws.{list-told}
+use Rattle.refusal.proofs.WhichList as Lists
 use Rattle.edition.specs.document.Edition.{row22}
 use Rattle.zurkhovel.specs.document.Same.{list_rows, both_rows}
 use Rattle.zurkhovel.specs.Bounds.{lists_bounded}

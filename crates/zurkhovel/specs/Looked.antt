@@ -9,7 +9,7 @@ use Rattle.std.proofs.Common.{arith}
 use Rattle.refusal.specs.document.Table.{Clear, OutcomeOf, Outcome, gives, refuses, Answered, Gives}
 use Rattle.refusal.specs.Giving.{gave, gave_value}
 use Rattle.numbering.specs.document.Pairs.{rooted_pairs, log2}
-use Rattle.numbering.specs.Bound.{pairs_bound}
+use Rattle.numbering.proofs.Bound.{pairs_bound}
 use Rattle.form.specs.document.Form.{IsNTuple, IsCentred}
 use Rattle.form_coder.specs.document.Pairs.{CentredPairs, NTuplePairs, CentredRoots, NTupleRoots}
 use Rattle.form_coder.specs.Sums.{centred_bound, n_tuple_bound}

@@ -4,7 +4,7 @@
 -- In order: the centred codes and the N-tuple codes that the calls give; the verdict; the renumbering that is handed out; the one that is judged; the two
 -- together. Assumes nothing.
 use Rattle.std.specs.Prelude.{◌≡◌, ◌↔◌, true, false, List, [], ◌∷◌, ℕ, ◌≤◌, take}
-use Rattle.std.proofs.Math.Logic.{Iff·trans}
+use Rattle.std.proofs.Math.Logic.{Iff.trans as iff_trans}
 use Rattle.std.proofs.Common.{arith}
 use Rattle.refusal.specs.document.Table.{Clear, gives}
 use Rattle.refusal.specs.Giving.{gave}
@@ -63,11 +63,11 @@ module _ (e : ℕ) where
 
     -- "The same" is said of two accepted lists exactly when they are.
     pub same-said : SameSkeleton e N E P F (gives true) ↔ (Clear (edge_table e size N E 1) × Clear (edge_table e size P F 1) × SameUnder N E P F)
-    same-said = Iff·trans (same_means means) accepted
+    same-said = iff_trans (same_means means) accepted
 
     -- "Not the same" is said of two accepted lists exactly when they are not.
     pub not_same_said : SameSkeleton e N E P F (gives false) ↔ (Clear (edge_table e size N E 1) × Clear (edge_table e size P F 1) × (SameUnder N E P F → ⊥))
-    not_same_said = Iff·trans (not_same_means means) accepted
+    not_same_said = iff_trans (not_same_means means) accepted
 
     -- ---- a renumbering handed out, and one judged
 
@@ -77,7 +77,7 @@ module _ (e : ℕ) where
     -- A map is accepted exactly when both lists are, they have equally many vertices, and it is a renumbering of the first onto the second, entry by entry.
     pub accepted_exactly :
         (w : List ℕ) → CheckRenumbering e N E P F w (gives 0) ↔ (Clear (edge_table e size N E 1) × Clear (edge_table e size P F 1) × Renumbers N E P F w)
-    accepted_exactly w = Iff·trans (map_means (exact w)) accepted
+    accepted_exactly w = iff_trans (map_means (exact w)) accepted
 
     -- Where a map is accepted, the verdict is yes.
     pub accepted_same : (w : List ℕ) → CheckRenumbering e N E P F w (gives 0) → SameSkeleton e N E P F (gives true)

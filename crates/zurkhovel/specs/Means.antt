@@ -5,7 +5,7 @@ use Rattle.std.proofs.Common.{sym, ◌∙◌, subst, inl, inr, arith}
 use Rattle.refusal.specs.document.Table.{Row, Clear, Answered, gives, kept, short}
 use Rattle.refusal.specs.document.Lists.{lists_rows, maps_rows, HandsMap, HandsOut}
 use Rattle.refusal.specs.Giving.{written}
-use Rattle.refusal.specs.Laws.{one_result}
+use Rattle.refusal.proofs.Laws.{one_result}
 use Rattle.refusal.specs.Lists.{lists_clear, maps_clear}
 use Rattle.zurkhovel.specs.document.Same.{OneCode}
 use Rattle.zurkhovel.specs.document.Maps.{MapOutcome}

@@ -7,9 +7,9 @@ use Rattle.std.proofs.Common.{sym, ap, ◌∙◌}
 use Rattle.refusal.specs.document.Table.{Row, Answered}
 use Rattle.refusal.specs.document.Outcome.{told}
 use Rattle.refusal.specs.declared.Answer.{Answer}
-use Rattle.refusal.specs.Apart.{told_apart, told-both}
-use Rattle.refusal.specs.Laws.{one_result}
-use Rattle.refusal.specs.Giving.{one-given, one_clear}
+use Rattle.refusal.proofs.Apart.{told_apart, told-both}
+use Rattle.refusal.proofs.Laws.{one_result}
+use Rattle.refusal.proofs.Giving.{one-given, one_clear}
 use Rattle.form.specs.document.Form.{IsNTuple, IsCentred}
 use Rattle.form.specs.Forms.{IsForm, n_tuple-form, centred-form}
 use Rattle.zurkhovel.specs.document.Codes.{CheckCode, DecodeCode, DecodeForm, CheckEdges, RootedCode, FormCode}

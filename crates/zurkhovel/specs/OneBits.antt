@@ -6,9 +6,10 @@ use Rattle.refusal.specs.document.Table.{Row, Outcome, Answered}
 use Rattle.refusal.specs.document.Outcome.{told, numbered}
 use Rattle.refusal.specs.declared.Answer.{Answer}
 use Rattle.refusal.specs.declared.Number.{Number}
-use Rattle.refusal.specs.Apart.{told-both, numbered_apart}
-use Rattle.refusal.specs.Laws.{one_result}
-use Rattle.refusal.specs.Giving.{one-given}
+use Rattle.refusal.specs.Apart.{numbered_apart}
+use Rattle.refusal.proofs.Apart.{told-both}
+use Rattle.refusal.proofs.Laws.{one_result}
+use Rattle.refusal.proofs.Giving.{one-given}
 use Rattle.digit_code.specs.document.Code.{decode}
 use Rattle.bits.specs.Reading.{one_reading}
 use Rattle.bits.specs.Written.{packed_again, number_again}

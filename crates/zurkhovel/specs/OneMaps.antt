@@ -1,8 +1,9 @@
 -- Read from its promise alone, each call on maps has one possible result and one possible state of its lent output, as in `One`. Assumes nothing.
 use Rattle.std.specs.Prelude.{◌≡◌, refl, List, [], ◌∷◌, ℕ}
 use Rattle.std.proofs.Common.{sym, ap, ◌∙◌}
-use Rattle.refusal.specs.Laws.{clear_both, one_result}
-use Rattle.refusal.specs.Lists.{one-handed_out}
+use Rattle.refusal.specs.Laws.{clear_both}
+use Rattle.refusal.proofs.Laws.{one_result}
+use Rattle.refusal.proofs.WhichList.{one-handed_out}
 use Rattle.renumber.specs.Handing.{one-handed}
 use Rattle.edition.specs.document.Edition.{row22}
 use Rattle.zurkhovel.specs.document.Same.{list_rows}

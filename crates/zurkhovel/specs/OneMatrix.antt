@@ -9,9 +9,10 @@ use Rattle.refusal.specs.document.Table.{Answered}
 use Rattle.refusal.specs.document.Outcome.{told, numbered}
 use Rattle.refusal.specs.declared.Answer.{Answer}
 use Rattle.refusal.specs.declared.Number.{Number}
-use Rattle.refusal.specs.Apart.{told-both, numbered_apart}
-use Rattle.refusal.specs.Laws.{one_accepted, one_result}
-use Rattle.refusal.specs.Giving.{one-given, one_clear}
+use Rattle.refusal.specs.Apart.{numbered_apart}
+use Rattle.refusal.proofs.Apart.{told-both}
+use Rattle.refusal.proofs.Laws.{one_accepted, one_result}
+use Rattle.refusal.proofs.Giving.{one-given, one_clear}
 use Rattle.digit_code.specs.document.Code.{decode}
 use Rattle.skeleton.specs.document.Skeleton.{IsTree}
 use Rattle.form.specs.Forms.{centred-form}

@@ -5,8 +5,8 @@ use Rattle.std.proofs.Common.{sym, ap₂, subst, ◌∙◌, arith}
 use Rattle.refusal.specs.document.Table.{Clear}
 use Rattle.refusal.specs.document.Outcome.{told}
 use Rattle.refusal.specs.declared.Answer.{Answer}
-use Rattle.refusal.specs.Apart.{told-both}
-use Rattle.refusal.specs.Giving.{one_clear}
+use Rattle.refusal.proofs.Apart.{told-both}
+use Rattle.refusal.proofs.Giving.{one_clear}
 use Rattle.limits.specs.document.Limits.{size, valence}
 use Rattle.form.specs.document.Form.{IsCentred}
 use Rattle.form.specs.Forms.{centred-form}

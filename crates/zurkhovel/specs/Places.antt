@@ -9,7 +9,8 @@ use Rattle.std.proofs.Common.{ap, arith}
 use Rattle.refusal.specs.document.Table.{Clear, Outcome}
 use Rattle.refusal.specs.document.Small.{Small, SmallOf, SmallAnswer}
 use Rattle.refusal.specs.Laws.{others, clear_left, at_most}
-use Rattle.refusal.specs.Bounded.{small, small-check, small-written}
+use Rattle.refusal.specs.Bounded.{small, small-check}
+use Rattle.refusal.proofs.Bounded.{small-written}
 use Rattle.limits.specs.document.Limits.{size}
 use Rattle.digit_code.specs.document.Code.{decode}
 use Rattle.digit_code.specs.Ends.{Ends}

@@ -6,7 +6,8 @@ use Rattle.std.specs.Prelude.{Bool, List, ℕ, ◌-◌, ◌*◌, ◌≤◌, Floa
 use Rattle.refusal.specs.document.Table.{Clear, Outcome}
 use Rattle.refusal.specs.document.Small.{SmallAnswer, SmallRefusal}
 use Rattle.refusal.specs.Laws.{others, at_most}
-use Rattle.refusal.specs.Bounded.{small-value, small-written}
+use Rattle.refusal.specs.Bounded.{small-value}
+use Rattle.refusal.proofs.Bounded.{small-written}
 use Rattle.limits.specs.document.Limits.{size, packed_bytes}
 use Rattle.digit_code.specs.Ends.{ends_iff, ends_sum}
 use Rattle.skeleton.specs.document.Skeleton.{rooted}

@@ -5,14 +5,16 @@ use Rattle.std.specs.Prelude.{◌≡◌, refl, true, List, [], ◌∷◌, ℕ, �
 use Rattle.std.proofs.Common.{⊎_elim, arith}
 use Rattle.refusal.specs.document.Table.{Row, of_list, Clear, short}
 use Rattle.refusal.specs.document.Small.{byte_values, Small, SmallOf, Bounded, BoundedBy}
-use Rattle.refusal.specs.Bounded.{bounded_rows, bounded_both, at_0, small}
+use Rattle.refusal.specs.Bounded.{bounded_rows, at_0, small}
+use Rattle.refusal.proofs.Bounded.{bounded_both}
 use Rattle.limits.specs.document.Limits.{size}
 use Rattle.renumber.specs.document.Map.{row5_map, row18, row19, map_rows, HandedOut}
 use Rattle.renumber.specs.Exactly.{map_sizes}
 use Rattle.zurkhovel.specs.document.Same.{both_rows}
 use Rattle.zurkhovel.specs.document.Maps.{MapOutcome, three_rows, HandOut, CheckRenumbering}
 use Rattle.zurkhovel.specs.Accepted.{skeleton_of}
-use Rattle.refusal.specs.Lists.{below22, bounded_of}
+use Rattle.refusal.specs.Lists.{below22}
+use Rattle.refusal.proofs.WhichList.{bounded_of}
 use Rattle.zurkhovel.specs.Listed.{bounded_lists}
 use Rattle.zurkhovel.specs.Theorems.{both_clear}
 use Rattle.zurkhovel.specs.Threes.{three_clear, handed_length}

@@ -6,7 +6,8 @@ use Rattle.std.specs.Prelude.{List, [], ◌∷◌, ℕ, length}
 use Rattle.refusal.specs.document.Table.{Outcome}
 use Rattle.refusal.specs.document.Small.{SmallAnswer, SmallRefusal}
 use Rattle.refusal.specs.Laws.{others, clear_left, at_most}
-use Rattle.refusal.specs.Bounded.{small-value, small-written}
+use Rattle.refusal.specs.Bounded.{small-value}
+use Rattle.refusal.proofs.Bounded.{small-written}
 use Rattle.limits.specs.document.Limits.{size, a_size}
 use Rattle.adjacency.specs.document.Adjacency.{row14_physical, zero_cam_lem, a_edges_lem, made_rows}
 use Rattle.adjacency.specs.Made.{made_length, long}

@@ -4,7 +4,8 @@ use Rattle.std.specs.Prelude.{List, ℕ, length}
 use Rattle.refusal.specs.document.Table.{Outcome}
 use Rattle.refusal.specs.document.Small.{SmallAnswer}
 use Rattle.refusal.specs.Laws.{clear_left, others}
-use Rattle.refusal.specs.Bounded.{small, small-written}
+use Rattle.refusal.specs.Bounded.{small}
+use Rattle.refusal.proofs.Bounded.{small-written}
 use Rattle.limits.specs.document.Limits.{size}
 use Rattle.form.specs.document.Form.{IsCentred}
 use Rattle.form.specs.Forms.{centred-form, form-size}

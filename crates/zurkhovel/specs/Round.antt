@@ -8,7 +8,8 @@ use Rattle.std.specs.Prelude.{◌≡◌, refl, List, ℕ, ◌≤◌, length, tak
 use Rattle.std.proofs.Common.{sym, ap, subst, ◌∙◌, arith}
 use Rattle.laws.specs.Laying.{laid-front}
 use Rattle.refusal.specs.document.Table.{Row, Clear, Outcome, gives, Gives}
-use Rattle.refusal.specs.Giving.{gave, must_give}
+use Rattle.refusal.specs.Giving.{gave}
+use Rattle.refusal.proofs.Giving.{must_give}
 use Rattle.refusal.specs.document.Given.{Given}
 use Rattle.limits.specs.document.Limits.{size}
 use Rattle.digit_code.specs.document.Code.{code_rows, decode}

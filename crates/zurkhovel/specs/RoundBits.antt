@@ -9,7 +9,8 @@ use Rattle.std.specs.Float.{binary64}
 use Rattle.std.specs.Float.Ieee.{fits}
 use Rattle.refusal.specs.document.Table.{Row, Clear, Outcome, gives, Gives, row3}
 use Rattle.refusal.specs.Laws.{clear_one, clear_both, never, others, at_most, at_least, size_clear}
-use Rattle.refusal.specs.Giving.{gave, gave_value, must_give, must_answer}
+use Rattle.refusal.specs.Giving.{gave, gave_value}
+use Rattle.refusal.proofs.Giving.{must_give, must_answer}
 use Rattle.refusal.specs.document.Given.{Given}
 use Rattle.limits.specs.document.Limits.{size, packed_bytes, whole_size, fraction_size}
 use Rattle.digit_code.specs.document.Code.{digit_rows, decode}

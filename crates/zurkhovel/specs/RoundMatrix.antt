@@ -9,7 +9,8 @@ use mathlib.Core.List.{List, [], ◌∷◌, Permᴰ}
 use Rattle.std.proofs.Math.Decide.{ℕ_discrete}
 use Rattle.refusal.specs.document.Table.{Row, Clear, Outcome, gives, Gives}
 use Rattle.refusal.specs.Laws.{clear_one, clear_both, clear_left, clear_right, never, others}
-use Rattle.refusal.specs.Giving.{gave, gave_value, must_give, must_answer}
+use Rattle.refusal.specs.Giving.{gave, gave_value}
+use Rattle.refusal.proofs.Giving.{must_give, must_answer}
 use Rattle.refusal.specs.document.Given.{Given}
 use Rattle.limits.specs.document.Limits.{size, zero_size, a_size}
 use Rattle.digit_code.specs.Right.{RightCode}

@@ -7,7 +7,8 @@ use mathlib.Core.List.{List, [], ◌∷◌, ◌++◌, append_assoc}
 use Rattle.laws.specs.Laying.{laid-front}
 use Rattle.refusal.specs.document.Table.{Outcome, gives, kept}
 use Rattle.refusal.specs.Laws.{clear_left, others}
-use Rattle.refusal.specs.Giving.{gave, must_give}
+use Rattle.refusal.specs.Giving.{gave}
+use Rattle.refusal.proofs.Giving.{must_give}
 use Rattle.refusal.specs.document.Given.{Given}
 use Rattle.limits.specs.document.Limits.{size}
 use Rattle.form.specs.document.Form.{IsCentred}
@@ -30,7 +31,7 @@ use Rattle.zurkhovel.specs.document.Round.{Begins}
 use Rattle.zurkhovel.specs.document.InEdition.{edge_table}
 use Rattle.edition.specs.document.Edition.{IsEdition, neighbours_in}
 use Rattle.edition.specs.Laws.{clear_edition}
-use Rattle.lines.specs.OfEdition.{edition_sound}
+use Rattle.lines.proofs.OfEdition.{edition_sound}
 
 module _ (e : ℕ) where
   -- ---- written and read

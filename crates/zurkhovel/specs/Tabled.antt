@@ -2,7 +2,8 @@
 use Rattle.std.specs.Prelude.{refl, List, [], ◌∷◌, ℕ, ◌≤◌}
 use Rattle.std.proofs.Common.{arith}
 use Rattle.refusal.specs.document.Small.{Bounded}
-use Rattle.refusal.specs.Bounded.{bounded_rows, bounded_both}
+use Rattle.refusal.specs.Bounded.{bounded_rows}
+use Rattle.refusal.proofs.Bounded.{bounded_both}
 use Rattle.limits.specs.document.Limits.{size}
 use Rattle.adjacency.specs.document.Adjacency.{row14_physical}
 use Rattle.edition.specs.document.Edition.{neighbours_in}

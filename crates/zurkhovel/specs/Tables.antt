@@ -8,9 +8,10 @@ use Rattle.std.specs.Prelude.{◌≡◌, refl, ◌⊎◌, ◌↔◌, List, [], �
 use Rattle.std.proofs.Common.{inl, inr, ⊎_elim, arith}
 use Rattle.refusal.specs.document.Table.{Row, First, FirstRefusal, short}
 use Rattle.refusal.specs.document.Lists.{OfLists, OfThree}
-use Rattle.refusal.specs.Laws.{first-place, refusal_front, refusal_back, refusal_either}
-use Rattle.refusal.specs.Lists as Lists
-use Rattle.refusal.specs.Lowest.{lowest_number}
+use Rattle.refusal.specs.Laws.{refusal_front}
+use Rattle.refusal.proofs.Laws.{first-place, refusal_back, refusal_either}
+use Rattle.refusal.proofs.WhichList as Lists
+use Rattle.refusal.proofs.Lowest.{lowest_number}
 use Rattle.refusal.specs.document.Lowest.{Lowest, LowestWins}
 use Rattle.limits.specs.document.Limits.{size}
 use Rattle.edition.specs.document.Edition.{IsEdition, neighbours_in, row22, in_edition}

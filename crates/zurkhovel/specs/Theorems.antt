@@ -3,7 +3,8 @@ use Rattle.std.specs.Prelude.{◌≡◌, refl, ◌↔◌, Bool, true, false, Lis
 use Rattle.std.proofs.Common.{sym, ◌∙◌, subst}
 use Rattle.refusal.specs.document.Table.{Clear, FirstRefusal, gives, kept}
 use Rattle.refusal.specs.Laws.{clear_both, clear_left, others}
-use Rattle.refusal.specs.Lists.{lists_clear, lists-none, lists-first, lists-second}
+use Rattle.refusal.specs.Lists.{lists_clear}
+use Rattle.refusal.proofs.WhichList.{lists-none, lists-first, lists-second}
 use Rattle.skeleton.specs.document.Skeleton.{Renumbering}
 use Rattle.form.specs.document.Form.{IsCentred}
 use Rattle.form.specs.Forms.{centred-form, form-size, form-verdict}

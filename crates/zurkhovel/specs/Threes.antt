@@ -5,7 +5,8 @@ use Rattle.std.specs.Prelude.{◌≡◌, ◌↔◌, true, List, [], ◌∷◌, �
 use Rattle.std.proofs.Common.{sym, subst}
 use Rattle.refusal.specs.document.Table.{Row, Clear, FirstRefusal, gives, kept, short}
 use Rattle.refusal.specs.Laws.{clear_both, clear_left, others}
-use Rattle.refusal.specs.Lists.{maps_clear, maps-lists, maps_third}
+use Rattle.refusal.specs.Lists.{maps_clear, maps-lists}
+use Rattle.refusal.proofs.WhichList.{maps_third}
 use Rattle.skeleton.specs.document.Skeleton.{rooted}
 use Rattle.form.specs.document.Form.{IsCentred}
 use Rattle.form.specs.Root.{root-centred}

@@ -41,7 +41,7 @@ fn laid(res: &[u8], out: &mut [u8]) -> Answer
     if out.len() < res.len() {
         return Answer::Refused(15, res.len());
     }
-    Answer::Done(bytes::copy(res, out))
+    Answer::Done(copying::copy(res, out))
 }
 
 // The packed form of the rooted code at a vertex.

@@ -143,7 +143,7 @@ pub fn decode_n_tuple(edition: usize, code: &[u8], out: &mut [u8]) -> Answer
 }
 
 // Of two edge lists.
-#[derive(Drop)]
+#[derive(Clone, Copy)]
 pub enum Verdict {
     // Their centred codes are equal.
     Same,

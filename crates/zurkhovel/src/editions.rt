@@ -4,7 +4,7 @@ ghost use Rattle.refusal.specs.Checks.{Answers, Judges};
 ghost use Rattle.limits.specs.document.Limits.{size};
 ghost use Rattle.edition.specs.document.Edition.{neighbours_in};
 ghost use Rattle.form.specs.document.Form.{IsNTuple, IsCentred};
-ghost use Rattle.bits.specs.document.Bits.{bytes as bits·bytes, word, Fill, Nothing, Zeros};
+ghost use Rattle.bits.specs.document.Bits.{bytes as bit_bytes, word, Fill, Nothing, Zeros};
 ghost use Rattle.bits.specs.Decided.{Decision};
 ghost use Rattle.fraction.specs.document.Fraction.{bits_of};
 ghost use Rattle.zurkhovel.specs.document.InEdition.{code_table, form_table, edge_table, packed_table, whole_table, fraction_table, cam_table, zero_table, a_table};
@@ -111,7 +111,7 @@ pub(crate) fn a_zero(edition: usize, n: usize, value: u64) -> Check
 // The right code in packed bytes.
 pub(crate) fn packed(edition: usize, s: &[u8], out: &mut [u8]) -> Answer
     requires { length out.old ≡ size }
-    ensures { Decision (packed_table edition s.now) (neighbours_in edition) Fill (bits·bytes s.now) out.new result }
+    ensures { Decision (packed_table edition s.now) (neighbours_in edition) Fill (bit_bytes s.now) out.new result }
 {
     let limit = limit_of(edition);
     if limit == 0 {

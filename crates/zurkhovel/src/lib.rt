@@ -1,5 +1,7 @@
 // The front door: every public call of the library, and nothing else. Each takes any input, makes its own checks, and keeps the promise
 // that its `ensures` names; the promises stand in specs/, a file for each module here.
+#![tactic(auto)]
+
 pub mod alike;
 pub mod bit_tuple;
 pub mod codes;

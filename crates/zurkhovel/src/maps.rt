@@ -11,7 +11,7 @@ use super::reported::ReportedMapping;
 use refusal::{Answer, Check, Lists};
 
 // Of two edge lists and a map.
-#[derive(Drop)]
+#[derive(Clone, Copy)]
 pub enum Mapping {
     // Done: so many bytes are written at the start of the lent output (0 where none is lent, or where there is no map to write).
     Done(usize),

@@ -59,7 +59,7 @@ pub fn read_text(
 }
 
 // How many lines were read as records, and how many were refused.
-#[derive(Drop)]
+#[derive(Clone, Copy)]
 pub struct Counts {
     pub read: usize,
     pub refused: usize,

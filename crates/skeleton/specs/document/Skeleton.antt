@@ -3,7 +3,7 @@
 --
 -- Digits alone (where a code ends, decoding) are in the crate `digit_code`. Theorems are in `Theorems`. Assumes nothing.
 use Rattle.std.specs.Prelude.{◌≡◌, ℕ, zero, suc, ◌+◌, ◌*◌, ◌≤◌, length}
-use Rattle.std.proofs.Math.Logic.{Dec·not}
+use Rattle.std.proofs.Math.Logic.{Dec.not as dec_not}
 use mathlib.Core.List.{List, [], ◌∷◌, map, filter, flatten, Memᴰ, Permᴰ}
 use Rattle.std.proofs.Math.Decide.{ℕ_discrete}
 use Rattle.laws.specs.document.Order.{sort}
@@ -49,7 +49,7 @@ pub record IsSkeleton (most R N : ℕ) (E : List ℕ) : Type 0 where
 
 -- the neighbours of v but its parent p
 unfoldable pub children : List Arc → ℕ → ℕ → List ℕ
-children A p v = filter {p = λ w. ¬ (w ≡ p)} (λ w. Dec·not (ℕ_discrete w p)) (neighbours A v)
+children A p v = filter {p = λ w. ¬ (w ≡ p)} (λ w. dec_not (ℕ_discrete w p)) (neighbours A v)
 
 -- "the digit k, then its children's codes, largest first in dictionary order"
 unfoldable pub join : List (List ℕ) → List ℕ

@@ -1,0 +1,46 @@
+-- `bits::word_digits` meets its contract. The loop's invariant: n digits are read, and their code goes on at the bit b. Assumes nothing.
+use mathlib.Core.Path.{sym, ◌∙◌}
+use native.Mathlib.Omega.{arith}
+use Rattle.bits.specs.document.Bits.{word}
+use Rattle.bits.specs.Words.{length_word}
+use Rattle.bits.specs.Digit.{near_exact}
+use Rattle.bits.specs.Found.{Turns, sofar_none, twice, sofar_out}
+use Rattle.bits.proofs.word_digits.Goals as goal
+
+pub loop-b-init : goal.loop-b-init
+loop-b-init c = sofar_none _ _ _ c.requires.len_bound.1
+
+pub digit_in-requires : goal.digit_in-requires
+digit_in-requires c = (omega arith, c.requires.len_bound.0)
+
+pub step-requires : goal.step-requires
+step-requires c = record { le_limit = c.requires.le_limit; stands = record { few = omega arith; within = omega arith; twice = twice c.loop-b.invariant; long = c.loop-b.invariant.long } }
+
+pub shape_of-out-in-Stop : goal.shape_of-out-in-Stop
+shape_of-out-in-Stop c = let turn : let a = c.args in Turns a.limit (word a.len a.x) c.step.new.out c.loop-b.n c.loop-b.b c.step.result = let a = c.args in
+    c.step.ensures (word a.len a.x) (length_word a.len a.x) c.loop-b.invariant (near_exact _ c.digit_in.ensures) in
+    (rw c.in-Stop.is at (turn)).long ∙ sym c.requires.len_bound.1
+
+pub returns-in-Stop : goal.returns-in-Stop
+returns-in-Stop c = let turn : let a = c.args in Turns a.limit (word a.len a.x) c.step.new.out c.loop-b.n c.loop-b.b c.step.result = let a = c.args in
+    c.step.ensures (word a.len a.x) (length_word a.len a.x) c.loop-b.invariant (near_exact _ c.digit_in.ensures) in
+    rw c.in-Stop.is at (turn)
+
+pub overflow_add-n : goal.overflow_add-n
+overflow_add-n c = omega (arith, twice c.loop-b.invariant)
+
+pub loop-b-smaller : goal.loop-b-smaller
+loop-b-smaller c = let turn : let a = c.args in Turns a.limit (word a.len a.x) c.step.new.out c.loop-b.n c.loop-b.b c.step.result = let a = c.args in
+    c.step.ensures (word a.len a.x) (length_word a.len a.x) c.loop-b.invariant (near_exact _ c.digit_in.ensures) in
+    let t = rw c.in-On.is at (turn) in omega (arith, t.0)
+
+pub loop-b-preserved : goal.loop-b-preserved
+loop-b-preserved c = let turn : let a = c.args in Turns a.limit (word a.len a.x) c.step.new.out c.loop-b.n c.loop-b.b c.step.result = let a = c.args in
+    c.step.ensures (word a.len a.x) (length_word a.len a.x) c.loop-b.invariant (near_exact _ c.digit_in.ensures) in
+    (rw c.in-On.is at (turn)).1
+
+pub shape_of-out : goal.shape_of-out
+shape_of-out c = c.loop-b.invariant.long ∙ sym c.requires.len_bound.1
+
+pub returns : goal.returns
+returns c = let a = c.args in sofar_out c.loop-b.invariant (omega (arith, length_word a.len a.x))

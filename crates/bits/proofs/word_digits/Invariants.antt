@@ -1,0 +1,11 @@
+-- `bits::word_digits` meets its contract. The loop's invariant: n digits are read, and their code goes on at the bit b. Assumes nothing.
+use Prim.Native.Nat.{◌-◌}
+use Rattle.bits.specs.document.Bits.{word}
+use Rattle.bits.specs.Found.{Sofar}
+use Rattle.bits.proofs.word_digits.Given as goal
+
+abbrev pub invariant-loop-b : goal.invariant-loop-b
+invariant-loop-b l = Sofar l.limit (word l.len l.x) l.out l.n l.b
+
+abbrev pub decreases-loop-b : goal.decreases-loop-b
+decreases-loop-b l = l.len - l.b

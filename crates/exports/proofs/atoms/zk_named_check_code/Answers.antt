@@ -1,0 +1,7 @@
+-- `exports::atoms::zk_named_check_code` keeps its promise. Assumes nothing.
+use borrow.Author.Rules.{rules}
+use Rattle.named.specs.Places.{places-named-check-code}
+use Rattle.exports.proofs.atoms.zk_named_check_code.Goals as goal
+
+pub answered-requires : goal.answered-requires
+answered-requires c = search (rules, places-named-check-code)

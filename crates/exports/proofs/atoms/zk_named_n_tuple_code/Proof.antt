@@ -1,8 +1,0 @@
--- `exports::atoms::zk_named_n_tuple_code` keeps its promise. Assumes nothing.
-use borrow.Author.Rules.{rules}
-use Rattle.named.specs.Places.{places-named-n_tuple-code}
-use Rattle.exports.proofs.atoms.zk_named_n_tuple_code.Statement.{statement}
-use Rattle.exports.proofs.atoms.zk_named_n_tuple_code.Tie as tie
-
-pub zk-named-n-tuple-code-spec : {M : Type 1} → statement M
-zk-named-n-tuple-code-spec = tie.close (tie.spec (λ c κs. search rules) (λ c κs. search (rules, places-named-n_tuple-code)) (λ c. search rules) (λ c. search rules) (λ c. search rules))

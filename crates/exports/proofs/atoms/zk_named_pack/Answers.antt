@@ -1,0 +1,8 @@
+-- `exports::atoms::zk_named_pack` keeps its promise. Assumes nothing.
+use borrow.Author.Rules.{rules}
+use Rattle.zurkhovel.specs.PlacesBits.{places-pack}
+use Rattle.named.specs.Carbon.{of_carbon}
+use Rattle.exports.proofs.atoms.zk_named_pack.Goals as goal
+
+pub answered-requires : goal.answered-requires
+answered-requires c = let h = places-pack (of_carbon c.args.letters.now) in search (rules, h)

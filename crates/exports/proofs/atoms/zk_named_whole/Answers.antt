@@ -1,0 +1,8 @@
+-- `exports::atoms::zk_named_whole` keeps its promise. Assumes nothing.
+use borrow.Author.Rules.{rules}
+use Rattle.zurkhovel.specs.PlacesBits.{places-whole}
+use Rattle.named.specs.Carbon.{of_carbon}
+use Rattle.exports.proofs.atoms.zk_named_whole.Goals as goal
+
+pub valued-requires : goal.valued-requires
+valued-requires c = let h = places-whole (of_carbon c.args.letters.now) in search (rules, h)

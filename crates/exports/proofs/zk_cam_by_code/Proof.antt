@@ -1,9 +1,0 @@
--- `exports::zk_cam_by_code` keeps its promise. Assumes nothing.
-use borrow.Author.Rules.{rules}
-use Rattle.zurkhovel.specs.PlacesMatrix.{places-cam_by_code}
-use Rattle.zurkhovel.specs.Tabled.{in-edition}
-use Rattle.exports.proofs.zk_cam_by_code.Statement.{statement}
-use Rattle.exports.proofs.zk_cam_by_code.Tie as tie
-
-pub zk-cam-by-code-spec : {M : Type 1} → statement M
-zk-cam-by-code-spec = tie.close (tie.spec (λ c κs. search rules) (λ c κs. let h = places-cam_by_code (in-edition c.before.before.before.before.before.before.args.edition) in search (rules, h)) (λ c. search rules) (λ c. search rules))

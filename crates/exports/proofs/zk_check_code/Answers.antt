@@ -1,0 +1,7 @@
+-- `exports::zk_check_code` keeps its promise. Assumes nothing.
+use borrow.Author.Rules.{rules}
+use Rattle.zurkhovel.specs.Places.{places-check-code}
+use Rattle.exports.proofs.zk_check_code.Goals as goal
+
+pub answered-requires : goal.answered-requires
+answered-requires c = search (rules, places-check-code)

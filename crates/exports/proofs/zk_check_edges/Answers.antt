@@ -1,0 +1,7 @@
+-- `exports::zk_check_edges` keeps its promise. Assumes nothing.
+use borrow.Author.Rules.{rules}
+use Rattle.zurkhovel.specs.Places.{places-check-edges}
+use Rattle.exports.proofs.zk_check_edges.Goals as goal
+
+pub answered-requires : goal.answered-requires
+answered-requires c = search (rules, places-check-edges)

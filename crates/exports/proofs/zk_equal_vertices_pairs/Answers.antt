@@ -1,0 +1,7 @@
+-- `exports::zk_equal_vertices_pairs` keeps its promise. Assumes nothing.
+use borrow.Author.Rules.{rules}
+use Rattle.zurkhovel.specs.PlacesText.{places-equal-vertices}
+use Rattle.exports.proofs.zk_equal_vertices_pairs.Goals as goal
+
+pub answered-requires : goal.answered-requires
+answered-requires c = search (rules, places-equal-vertices)

@@ -1,0 +1,8 @@
+-- `exports::zk_fraction_pairs` keeps its promise. Assumes nothing.
+use borrow.Author.Rules.{rules}
+use Rattle.zurkhovel.specs.PlacesBits.{places-fraction}
+use Rattle.zurkhovel.specs.Tabled.{in-edition}
+use Rattle.exports.proofs.zk_fraction_pairs.Goals as goal
+
+pub exact-requires : goal.exact-requires
+exact-requires c = let h = places-fraction (in-edition c.args.edition) in search (rules, h)

@@ -1,0 +1,7 @@
+-- `exports::zk_renumbering_pairs` keeps its promise. Assumes nothing.
+use borrow.Author.Rules.{rules}
+use Rattle.zurkhovel.specs.PlacesMaps.{places-renumbering}
+use Rattle.exports.proofs.zk_renumbering_pairs.Goals as goal
+
+pub sent-requires : goal.sent-requires
+sent-requires c = search (rules, places-renumbering)

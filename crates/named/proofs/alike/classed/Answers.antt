@@ -1,0 +1,40 @@
+-- `named::alike::classed` meets its contract. Assumes nothing.
+use mathlib.Core.Path.{◌≡◌, refl, sym, ap, ◌∙◌, subst}
+use mathlib.Core.List.{List}
+use Prim.Native.Nat.{ℕ}
+use native.Mathlib.Omega.{arith}
+use lib.ListN.{length, take}
+use Rattle.laws.specs.document.Laid.{Laid}
+use Rattle.laws.specs.Laying.{laid-front}
+use Rattle.refusal.specs.Giving.{given-laid}
+use Rattle.refusal.proofs.Giving.{refused-short}
+use Rattle.skeleton.specs.document.Label.{digits}
+use Rattle.skeleton.specs.document.AtomMarks.{atoms}
+use Rattle.orbits.specs.Classes.{classesₗ}
+use Rattle.texts.specs.Judging.{none}
+use Rattle.named.specs.Accepted.{digits_many}
+use Rattle.named.proofs.alike.classed.Goals as goal
+
+-- the classes by the same digits
+laid_as : (c : List ℕ) {d e old new : List ℕ} {n : ℕ} → d ≡ e → Laid (classesₗ atoms d c) old new n → Laid (classesₗ atoms e c) old new n
+laid_as c {old = old} {new} {n} p h = subst (λ (x : List ℕ). Laid (classesₗ atoms x c) old new n) p h
+
+pub returns-then-out-n : goal.returns-then-out-n
+returns-then-out-n c = refused-short none (λ l e. ap length e ∙ c.requires.fact.count) refl c.if-out-n.true refl
+
+pub write_digits-requires : goal.write_digits-requires
+write_digits-requires c = c.requires.marks_len_bound.0
+
+pub slice_bounds-write_classes-end : goal.slice_bounds-write_classes-end
+slice_bounds-write_classes-end c = let Told : Type 0 = take (length c.args.marks.now) c.write_digits.new.out ≡ digits atoms c.args.marks.now in
+    let are-told : Told = laid-front _ _ _ _ c.write_digits.ensures (digits_many c.args.marks.now) in
+    sym (ap length (are-told) ∙ digits_many c.args.marks.now)
+
+pub write_classes-requires : goal.write_classes-requires
+write_classes-requires c = let Told : Type 0 = take (length c.args.marks.now) c.write_digits.new.out ≡ digits atoms c.args.marks.now in
+    let are-told : Told = laid-front _ _ _ _ c.write_digits.ensures (digits_many c.args.marks.now) in record { ds_value = are-told; fact = c.requires.marks_len_bound.1; code_len_bound = c.requires.marks_len_bound.0; code_in_bounds = c.if-out-n.false }
+
+pub returns : goal.returns
+returns c = let Told : Type 0 = take (length c.args.marks.now) c.write_digits.new.out ≡ digits atoms c.args.marks.now in
+    let are-told : Told = laid-front _ _ _ _ c.write_digits.ensures (digits_many c.args.marks.now) in
+    given-laid none (omega (arith, c.requires.fact.count, c.if-out-n.false)) (laid_as c.args.marks.now (are-told) c.write_classes.ensures)

@@ -1,0 +1,6 @@
+-- `named::codes::check_edges` keeps its promise. Assumes nothing.
+use Rattle.refusal.specs.Laws.{check-answered}
+use Rattle.named.proofs.codes.check_edges.Goals as goal
+
+pub returns : goal.returns
+returns c = check-answered c.check_letters.ensures c.handed.ensures

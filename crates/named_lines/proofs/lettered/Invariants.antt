@@ -1,0 +1,12 @@
+-- `named_lines::lettered` meets its contract: the loop keeps that each byte passed is a letter. Assumes nothing.
+use Prim.Native.Nat.{◌-◌}
+use lib.ListN.{length}
+use Rattle.laws.specs.Each.{Passed}
+use Rattle.skeleton.specs.document.Atom.{Letter}
+use Rattle.named_lines.proofs.lettered.Given as goal
+
+abbrev pub invariant-loop-i : goal.invariant-loop-i
+invariant-loop-i l = Passed Letter l.t l.i
+
+abbrev pub decreases-loop-i : goal.decreases-loop-i
+decreases-loop-i l = length l.t - l.i

@@ -1,0 +1,14 @@
+-- `renumber::same` meets its contract. Assumes nothing.
+use mathlib.Core.Path.{ap, ap₂, sym}
+use Prim.Native.Nat.{ℕ}
+use native.Mathlib.Omega.{arith}
+use borrow.Author.Tests.{eqb-true, eqb-false}
+use Rattle.laws.specs.Tells.{denies, tells}
+use Rattle.skeleton.specs.document.Skeleton.{Arc}
+use Rattle.renumber.proofs.same.Goals as goal
+
+pub returns-then-u-a : goal.returns-then-u-a
+returns-then-u-a c = denies (λ e. c.if-u-a.true (sym (ap (λ (x : Arc). x.0) e)))
+
+pub returns : goal.returns
+returns c = tells _ (λ e. ap₂ (λ (x y : ℕ). (x, y)) (omega arith) (sym (eqb-true _ _ e))) (λ e q. eqb-false _ _ e (sym (ap (λ (x : Arc). x.1) q)))

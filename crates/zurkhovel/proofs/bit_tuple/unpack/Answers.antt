@@ -1,0 +1,9 @@
+-- `zurkhovel::bit_tuple::unpack` keeps its promise. Assumes nothing.
+use Rattle.zurkhovel.proofs.Carried.{form_readable, form-edges}
+use Rattle.zurkhovel.proofs.bit_tuple.unpack.Goals as goal
+
+pub edges_of-requires : goal.edges_of-requires
+edges_of-requires c = form_readable c.packed-read.ensures
+
+pub returns : goal.returns
+returns c = form-edges _ c.packed-read.ensures c.edges_of.ensures

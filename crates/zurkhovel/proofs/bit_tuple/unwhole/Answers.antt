@@ -1,0 +1,9 @@
+-- `zurkhovel::bit_tuple::unwhole` keeps its promise. Assumes nothing.
+use Rattle.zurkhovel.proofs.Carried.{form_readable, form-edges}
+use Rattle.zurkhovel.proofs.bit_tuple.unwhole.Goals as goal
+
+pub edges_of-requires : goal.edges_of-requires
+edges_of-requires c = form_readable c.whole-read.ensures
+
+pub returns : goal.returns
+returns c = form-edges _ c.whole-read.ensures c.edges_of.ensures
