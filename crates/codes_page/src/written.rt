@@ -1,8 +1,9 @@
 // Digits, bytes and lines as the page writes them.
 use shown::{number, text};
+use std::io;
 
 // How a byte is written.
-#[derive(Drop)]
+#[derive(Clone, Copy)]
 enum Form {
     Digit,
     Byte,
@@ -10,81 +11,73 @@ enum Form {
 }
 
 // Four bits as a hexadecimal digit.
-fn half(b: u8) {
+fn half(rt: &impl Print, b: u8) -> io::Result<()> {
     if b < 10 {
-        number(b as u64);
-        return;
+        return number(rt, b as u64);
     }
     match b {
-        10 => text(b"A"),
-        11 => text(b"B"),
-        12 => text(b"C"),
-        13 => text(b"D"),
-        14 => text(b"E"),
-        _ => text(b"F"),
+        10 => text(rt, b"A"),
+        11 => text(rt, b"B"),
+        12 => text(rt, b"C"),
+        13 => text(rt, b"D"),
+        14 => text(rt, b"E"),
+        _ => text(rt, b"F"),
     }
 }
 
-fn hexadecimal(b: u8) {
-    half(b / 16);
-    half(b % 16);
+fn hexadecimal(rt: &impl Print, b: u8) -> io::Result<()> {
+    half(rt, b / 16)?;
+    half(rt, b % 16)
 }
 
 // A byte of a line, as printf takes it: one that prints is itself.
-fn mark(b: u8) {
+fn mark(rt: &impl Print, b: u8) -> io::Result<()> {
     if b == 10 {
-        text(b"\\n");
-        return;
+        return text(rt, b"\\n");
     }
     if b == 13 {
-        text(b"\\r");
-        return;
+        return text(rt, b"\\r");
     }
     if 32 <= b {
         if b < 127 {
             let one = [b; 1];
-            text(&one);
-            return;
+            return text(rt, &one);
         }
     }
-    text(b"\\x");
-    hexadecimal(b);
+    text(rt, b"\\x")?;
+    hexadecimal(rt, b)
 }
 
-fn one(b: u8, form: Form) {
+fn one(rt: &impl Print, b: u8, form: Form) -> io::Result<()> {
     match form {
-        Form::Digit => number(b as u64),
+        Form::Digit => number(rt, b as u64),
         Form::Byte => {
-            text(b" ");
-            hexadecimal(b);
+            text(rt, b" ")?;
+            hexadecimal(rt, b)
         }
-        Form::Mark => mark(b),
+        Form::Mark => mark(rt, b),
     }
 }
 
 // The first n bytes.
-fn each(s: &[u8], n: usize, form: Form) {
-    let mut i = 0;
-    while i < s.len() {
-        if n <= i {
-            return;
-        }
-        one(s[i], form);
-        i += 1;
+fn each(rt: &impl Print, s: &[u8], n: usize, form: Form) -> io::Result<()> {
+    for b in s.iter().take(n) {
+        one(rt, *b, form)?;
     }
+    Ok(())
 }
 
 // The digits of a code, one behind the other.
-pub(crate) fn digits(code: &[u8], n: usize) {
-    each(code, n, Form::Digit);
+pub(crate) fn digits(rt: &impl Print, code: &[u8], n: usize) -> io::Result<()> {
+    each(rt, code, n, Form::Digit)
 }
 
 // Bytes in hexadecimal, each with a space before it.
-pub(crate) fn bytes(s: &[u8], n: usize) {
-    each(s, n, Form::Byte);
+pub(crate) fn bytes(rt: &impl Print, s: &[u8], n: usize) -> io::Result<()> {
+    each(rt, s, n, Form::Byte)
 }
 
 // A line with all its marks.
-pub(crate) fn line(s: &[u8]) {
-    each(s, s.len(), Form::Mark);
+pub(crate) fn line(rt: &impl Print, s: &[u8]) -> io::Result<()> {
+    each(rt, s, s.len(), Form::Mark)
 }

@@ -1,169 +1,189 @@
 // One worked example for each public call in edition 1, as docs/CALLS.md shows it.
 use shown::report::{asked, exact, map_told, mapped, piece, progress, told, verdict};
 use shown::{answer, given, number, numbered, sized, text, value};
+use std::io;
 
 // A call with N, an edge list and a root.
-fn rooted(name: &[u8], n: usize, edges: &[u8], root: usize) {
-    sized(name, n, edges);
-    text(b", ");
-    number(root as u64);
+fn rooted(rt: &impl Print, name: &[u8], n: usize, edges: &[u8], root: usize) -> io::Result<()> {
+    sized(rt, name, n, edges)?;
+    text(rt, b", ")?;
+    number(rt, root as u64)
 }
 
-fn digit_codes() {
+fn digit_codes(rt: &impl Print) -> io::Result<()> {
     let mut out = [0u8; 126];
-    given(b"check_code", &[2, 0, 1, 0]);
-    answer(zurkhovel::codes::check_code(1, &[2, 0, 1, 0]), &[]);
-    given(b"decode_code", &[1, 2, 0, 0]);
+    given(rt, b"check_code", &[2, 0, 1, 0])?;
+    answer(rt, zurkhovel::codes::check_code(1, &[2, 0, 1, 0]), &[])?;
+    given(rt, b"decode_code", &[1, 2, 0, 0])?;
     let a = zurkhovel::codes::decode_code(1, &[1, 2, 0, 0], &mut out);
-    answer(a, &out);
-    given(b"decode_n_tuple", &[3, 1, 1, 0, 0, 0]);
+    answer(rt, a, &out)?;
+    given(rt, b"decode_n_tuple", &[3, 1, 1, 0, 0, 0])?;
     let b = zurkhovel::codes::decode_n_tuple(1, &[3, 1, 1, 0, 0, 0], &mut out);
-    answer(b, &out);
-    given(b"decode_centred", &[2, 2, 0, 0, 1, 0]);
+    answer(rt, b, &out)?;
+    given(rt, b"decode_centred", &[2, 2, 0, 0, 1, 0])?;
     let c = zurkhovel::codes::decode_centred(1, &[2, 2, 0, 0, 1, 0], &mut out);
-    answer(c, &out);
-    given(b"decode_centred", &[3, 1, 1, 0, 0, 0]);
+    answer(rt, c, &out)?;
+    given(rt, b"decode_centred", &[3, 1, 1, 0, 0, 0])?;
     let d = zurkhovel::codes::decode_centred(1, &[3, 1, 1, 0, 0, 0], &mut out);
-    answer(d, &out);
+    answer(rt, d, &out)
 }
 
 // Of 2-methylpentane; the classes also of butane and of neopentane.
-fn edge_codes(edges: &[u8]) {
+fn edge_codes(rt: &impl Print, edges: &[u8]) -> io::Result<()> {
     let mut out = [0u8; 64];
-    rooted(b"check_edges", 3, &[1, 2, 1, 2], 1);
-    answer(zurkhovel::codes::check_edges(1, 3, &[1, 2, 1, 2], 1), &[]);
-    rooted(b"rooted_code", 6, edges, 1);
+    rooted(rt, b"check_edges", 3, &[1, 2, 1, 2], 1)?;
+    answer(
+        rt,
+        zurkhovel::codes::check_edges(1, 3, &[1, 2, 1, 2], 1),
+        &[],
+    )?;
+    rooted(rt, b"rooted_code", 6, edges, 1)?;
     let a = zurkhovel::codes::rooted_code(1, 6, edges, 1, &mut out);
-    told(b"rooted_code", a, &out);
-    sized(b"n_tuple_code", 6, edges);
+    told(rt, b"rooted_code", a, &out)?;
+    sized(rt, b"n_tuple_code", 6, edges)?;
     let b = zurkhovel::codes::n_tuple_code(1, 6, edges, &mut out);
-    told(b"n_tuple_code", b, &out);
-    sized(b"centred_code", 6, edges);
+    told(rt, b"n_tuple_code", b, &out)?;
+    sized(rt, b"centred_code", 6, edges)?;
     let c = zurkhovel::codes::centred_code(1, 6, edges, &mut out);
-    told(b"centred_code", c, &out);
-    sized(b"equal_vertices", 6, edges);
+    told(rt, b"centred_code", c, &out)?;
+    sized(rt, b"equal_vertices", 6, edges)?;
     let d = zurkhovel::alike::equal_vertices(1, 6, edges, &mut out);
-    told(b"equal_vertices", d, &out);
-    sized(b"equal_vertices", 4, &[1, 2, 2, 3, 3, 4]);
+    told(rt, b"equal_vertices", d, &out)?;
+    sized(rt, b"equal_vertices", 4, &[1, 2, 2, 3, 3, 4])?;
     let e = zurkhovel::alike::equal_vertices(1, 4, &[1, 2, 2, 3, 3, 4], &mut out);
-    told(b"equal_vertices", e, &out);
-    sized(b"equal_vertices", 5, &[1, 2, 2, 3, 2, 4, 2, 5]);
+    told(rt, b"equal_vertices", e, &out)?;
+    sized(rt, b"equal_vertices", 5, &[1, 2, 2, 3, 2, 4, 2, 5])?;
     let f = zurkhovel::alike::equal_vertices(1, 5, &[1, 2, 2, 3, 2, 4, 2, 5], &mut out);
-    told(b"equal_vertices", f, &out);
+    told(rt, b"equal_vertices", f, &out)
 }
 
-pub(crate) fn same_in(edition: usize, n1: usize, edges1: &[u8], n2: usize, edges2: &[u8]) {
-    sized(b"same_skeleton", n1, edges1);
-    sized(b",", n2, edges2);
+pub(crate) fn same_in(
+    rt: &impl Print,
+    edition: usize,
+    n1: usize,
+    edges1: &[u8],
+    n2: usize,
+    edges2: &[u8],
+) -> io::Result<()> {
+    sized(rt, b"same_skeleton", n1, edges1)?;
+    sized(rt, b",", n2, edges2)?;
     verdict(
+        rt,
         b"same_skeleton",
         zurkhovel::codes::same_skeleton(edition, n1, edges1, n2, edges2),
-    );
+    )
 }
 
-fn handed(edges1: &[u8], edges2: &[u8]) {
+fn handed(rt: &impl Print, edges1: &[u8], edges2: &[u8]) -> io::Result<()> {
     let mut out = [0u8; 64];
-    sized(b"renumbering", 4, edges1);
-    sized(b",", 4, edges2);
+    sized(rt, b"renumbering", 4, edges1)?;
+    sized(rt, b",", 4, edges2)?;
     let r = zurkhovel::maps::renumbering(1, 4, edges1, 4, edges2, &mut out);
-    map_told(b"renumbering", r, &out);
+    map_told(rt, b"renumbering", r, &out)
 }
 
-fn judged(edges1: &[u8], edges2: &[u8], map: &[u8]) {
-    sized(b"check_renumbering", 4, edges1);
-    sized(b",", 4, edges2);
-    given(b",", map);
+fn judged(rt: &impl Print, edges1: &[u8], edges2: &[u8], map: &[u8]) -> io::Result<()> {
+    sized(rt, b"check_renumbering", 4, edges1)?;
+    sized(rt, b",", 4, edges2)?;
+    given(rt, b",", map)?;
     mapped(
+        rt,
         zurkhovel::maps::check_renumbering(1, 4, edges1, 4, edges2, map),
         &[],
-    );
+    )
 }
 
 // Butane twice, and isobutane.
-fn maps(edges1: &[u8], edges2: &[u8]) {
-    handed(edges1, edges2);
-    handed(edges1, &[1, 2, 1, 3, 1, 4]);
-    judged(edges1, edges2, &[3, 1, 4, 2]);
-    judged(edges1, edges2, &[3, 1, 4, 3]);
-    judged(edges1, edges2, &[1, 3, 4, 2]);
+fn maps(rt: &impl Print, edges1: &[u8], edges2: &[u8]) -> io::Result<()> {
+    handed(rt, edges1, edges2)?;
+    handed(rt, edges1, &[1, 2, 1, 3, 1, 4])?;
+    judged(rt, edges1, edges2, &[3, 1, 4, 2])?;
+    judged(rt, edges1, edges2, &[3, 1, 4, 3])?;
+    judged(rt, edges1, edges2, &[1, 3, 4, 2])
 }
 
 // Of 002's example.
-fn bits_of(edges: &[u8]) {
+fn bits_of(rt: &impl Print, edges: &[u8]) -> io::Result<()> {
     let mut out = [0u8; 16];
-    rooted(b"pack", 8, edges, 1);
+    rooted(rt, b"pack", 8, edges, 1)?;
     let a = zurkhovel::bit_tuple::pack(1, 8, edges, 1, &mut out);
-    told(b"pack", a, &out);
-    rooted(b"whole", 8, edges, 1);
-    asked(b"whole", zurkhovel::bit_tuple::whole(1, 8, edges, 1));
-    rooted(b"fraction", 8, edges, 1);
-    exact(b"fraction", zurkhovel::bit_tuple::fraction(1, 8, edges, 1));
+    told(rt, b"pack", a, &out)?;
+    rooted(rt, b"whole", 8, edges, 1)?;
+    asked(rt, b"whole", zurkhovel::bit_tuple::whole(1, 8, edges, 1))?;
+    rooted(rt, b"fraction", 8, edges, 1)?;
+    exact(
+        rt,
+        b"fraction",
+        zurkhovel::bit_tuple::fraction(1, 8, edges, 1),
+    )
 }
 
-fn bits_read() {
+fn bits_read(rt: &impl Print) -> io::Result<()> {
     let mut out = [0u8; 126];
-    given(b"unpack", &[237, 16]);
+    given(rt, b"unpack", &[237, 16])?;
     let a = zurkhovel::bit_tuple::unpack(1, &[237, 16], &mut out);
-    answer(a, &out);
-    numbered(b"unwhole", 8, 30344);
+    answer(rt, a, &out)?;
+    numbered(rt, b"unwhole", 8, 30344)?;
     let b = zurkhovel::bit_tuple::unwhole(1, 8, 30344, &mut out);
-    answer(b, &out);
-    text(b"unfraction 0.5");
+    answer(rt, b, &out)?;
+    text(rt, b"unfraction 0.5")?;
     let c = zurkhovel::bit_tuple::unfraction(1, 0.5, &mut out);
-    answer(c, &out);
+    answer(rt, c, &out)
 }
 
 // Of 001's example.
-fn matrices(edges: &[u8]) {
+fn matrices(rt: &impl Print, edges: &[u8]) -> io::Result<()> {
     let mut out = [0u8; 63];
-    sized(b"cam", 7, edges);
+    sized(rt, b"cam", 7, edges)?;
     let a = zurkhovel::matrix::cam(1, 7, edges, &mut out);
-    answer(a, &out);
-    sized(b"zero_a", 7, edges);
-    value(zurkhovel::matrix::zero_a(1, 7, edges));
-    sized(b"a_zero", 7, edges);
-    value(zurkhovel::matrix::a_zero(1, 7, edges));
-    sized(b"cam_by_code", 7, edges);
+    answer(rt, a, &out)?;
+    sized(rt, b"zero_a", 7, edges)?;
+    value(rt, zurkhovel::matrix::zero_a(1, 7, edges))?;
+    sized(rt, b"a_zero", 7, edges)?;
+    value(rt, zurkhovel::matrix::a_zero(1, 7, edges))?;
+    sized(rt, b"cam_by_code", 7, edges)?;
     let b = zurkhovel::matrix::cam_by_code(1, 7, edges, &mut out);
-    told(b"cam_by_code", b, &out);
-    sized(b"zero_a_by_code", 7, edges);
+    told(rt, b"cam_by_code", b, &out)?;
+    sized(rt, b"zero_a_by_code", 7, edges)?;
     asked(
+        rt,
         b"zero_a_by_code",
         zurkhovel::matrix::zero_a_by_code(1, 7, edges),
-    );
-    sized(b"a_zero_by_code", 7, edges);
+    )?;
+    sized(rt, b"a_zero_by_code", 7, edges)?;
     asked(
+        rt,
         b"a_zero_by_code",
         zurkhovel::matrix::a_zero_by_code(1, 7, edges),
-    );
+    )
 }
 
-fn matrices_read() {
+fn matrices_read(rt: &impl Print) -> io::Result<()> {
     let mut out = [0u8; 126];
-    sized(b"decode_cam", 7, &[1, 2, 2, 3, 1, 6]);
+    sized(rt, b"decode_cam", 7, &[1, 2, 2, 3, 1, 6])?;
     let a = zurkhovel::matrix::decode_cam(1, 7, &[1, 2, 2, 3, 1, 6], &mut out);
-    answer(a, &out);
-    numbered(b"decode_zero_a", 7, 545);
+    answer(rt, a, &out)?;
+    numbered(rt, b"decode_zero_a", 7, 545)?;
     let b = zurkhovel::matrix::decode_zero_a(1, 7, 545, &mut out);
-    answer(b, &out);
-    numbered(b"decode_a_zero", 7, 1646688);
+    answer(rt, b, &out)?;
+    numbered(rt, b"decode_a_zero", 7, 1646688)?;
     let c = zurkhovel::matrix::decode_a_zero(1, 7, 1646688, &mut out);
-    answer(c, &out);
+    answer(rt, c, &out)
 }
 
 // Of 2-methylpentane.
-fn line(edges: &[u8]) {
+fn line(rt: &impl Print, edges: &[u8]) -> io::Result<()> {
     let mut out = [0u8; 68];
-    sized(b"write_line", 6, edges);
+    sized(rt, b"write_line", 6, edges)?;
     let a = zurkhovel::text::write_line(1, 6, edges, &mut out);
-    told(b"write_line", a, &out);
-    given(b"read_line", b"6 220010\n");
+    told(rt, b"write_line", a, &out)?;
+    given(rt, b"read_line", b"6 220010\n")?;
     let b = zurkhovel::text::read_line(1, b"6 220010\n", &mut out);
-    answer(b, &out);
+    answer(rt, b, &out)
 }
 
 // Three lines, the second of which is no centred code.
-fn lines() {
+fn lines(rt: &impl Print) -> io::Result<()> {
     let mut records = [0u8; 192];
     let mut numbers = [0u8; 3];
     let mut places = [0usize; 3];
@@ -174,44 +194,47 @@ fn lines() {
         &mut numbers,
         &mut places,
     );
-    text(b"read_text of the lines '6 220010', '6 311000' and '1 0'");
-    progress(p, &numbers, &places);
-    text(b"\n");
+    text(
+        rt,
+        b"read_text of the lines '6 220010', '6 311000' and '1 0'",
+    )?;
+    progress(rt, p, &numbers, &places)?;
+    text(rt, b"\n")?;
     let t = zurkhovel::text::count(&numbers);
-    given(b"count", &numbers);
-    text(b" = read ");
-    number(t.read as u64);
-    text(b", refused ");
-    number(t.refused as u64);
-    text(b"\n");
+    given(rt, b"count", &numbers)?;
+    text(rt, b" = read ")?;
+    number(rt, t.read as u64)?;
+    text(rt, b", refused ")?;
+    number(rt, t.refused as u64)?;
+    text(rt, b"\n")
 }
 
 // The listing of the same three lines, from a byte on.
-fn listing(from: usize, out: &mut [u8]) {
+fn listing(rt: &impl Print, from: usize, out: &mut [u8]) -> io::Result<()> {
     let n = zurkhovel::text::list(b"6 220010\n6 311000\n1 0\n", from, out);
-    text(b"list of the lines '6 220010', '6 311000' and '1 0'");
-    piece(from, out, n);
+    text(rt, b"list of the lines '6 220010', '6 311000' and '1 0'")?;
+    piece(rt, from, out, n)
 }
 
-fn listings() {
+fn listings(rt: &impl Print) -> io::Result<()> {
     let mut whole = [0u8; 64];
     let mut piece = [0u8; 8];
-    listing(0, &mut whole);
-    listing(19, &mut piece);
+    listing(rt, 0, &mut whole)?;
+    listing(rt, 19, &mut piece)
 }
 
-pub(crate) fn examples() {
-    digit_codes();
-    edge_codes(&[1, 2, 2, 3, 3, 4, 4, 5, 2, 6]);
-    same_in(1, 4, &[1, 2, 2, 3, 3, 4], 4, &[1, 4, 4, 2, 2, 3]);
-    same_in(1, 4, &[1, 2, 2, 3, 3, 4], 3, &[1, 2, 1, 2]);
-    same_in(1, 4, &[1, 2, 2, 3, 3, 4], 3, &[1, 2, 2, 3]);
-    maps(&[1, 2, 2, 3, 3, 4], &[3, 1, 1, 4, 4, 2]);
-    bits_of(&[1, 2, 2, 3, 3, 4, 2, 5, 1, 6, 6, 7, 1, 8]);
-    bits_read();
-    matrices(&[1, 2, 2, 3, 2, 4, 3, 5, 1, 6, 6, 7]);
-    matrices_read();
-    line(&[1, 2, 2, 3, 3, 4, 4, 5, 2, 6]);
-    lines();
-    listings();
+pub(crate) fn examples(rt: &impl Print) -> io::Result<()> {
+    digit_codes(rt)?;
+    edge_codes(rt, &[1, 2, 2, 3, 3, 4, 4, 5, 2, 6])?;
+    same_in(rt, 1, 4, &[1, 2, 2, 3, 3, 4], 4, &[1, 4, 4, 2, 2, 3])?;
+    same_in(rt, 1, 4, &[1, 2, 2, 3, 3, 4], 3, &[1, 2, 1, 2])?;
+    same_in(rt, 1, 4, &[1, 2, 2, 3, 3, 4], 3, &[1, 2, 2, 3])?;
+    maps(rt, &[1, 2, 2, 3, 3, 4], &[3, 1, 1, 4, 4, 2])?;
+    bits_of(rt, &[1, 2, 2, 3, 3, 4, 2, 5, 1, 6, 6, 7, 1, 8])?;
+    bits_read(rt)?;
+    matrices(rt, &[1, 2, 2, 3, 2, 4, 3, 5, 1, 6, 6, 7])?;
+    matrices_read(rt)?;
+    line(rt, &[1, 2, 2, 3, 3, 4, 4, 5, 2, 6])?;
+    lines(rt)?;
+    listings(rt)
 }

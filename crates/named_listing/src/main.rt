@@ -1,6 +1,9 @@
 // The listing of named lines.
-use listing_text::Kind;
+#![tactic(auto)]
 
-fn main() {
-    listings::run(Kind::Named);
+use listing_text::Kind;
+use std::io;
+
+fn main(rt: HostRuntime) -> io::Result<()> {
+    listings::run(Kind::Named, &mut rt.stdin(), &mut rt.stdout())
 }

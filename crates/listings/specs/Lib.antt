@@ -1,0 +1,2 @@
+-- What the program that lists promises.
+pub mod Answered
