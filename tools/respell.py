@@ -180,7 +180,13 @@ def turn(p, new):
         u = "\n".join(turn_line(l, new, "--") for l in t.split("\n"))
     elif p.endswith(".rt"):
         # src/ keeps its names: only clauses, ghost items and comments are turned
-        u = "\n".join(turn_line(l, new, "//") if CLAUSE.match(l) else ticks_of(l, new) for l in t.split("\n"))
+        lines, clause = [], False
+        for l in t.split("\n"):
+            # a clause may go over several lines, up to its closing brace
+            clause = clause or bool(CLAUSE.match(l))
+            lines.append(turn_line(l, new, "//") if clause else ticks_of(l, new))
+            clause = clause and not re.search(r"[};]\s*$", l)
+        u = "\n".join(lines)
     elif p.endswith(".edit"):
         lines, proof = [], False
         for l in t.split("\n"):
