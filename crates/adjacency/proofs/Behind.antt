@@ -7,9 +7,8 @@ use native.Mathlib.Omega.{arith}
 use lib.ListN.{length, take, drop, replicate, length-append, length-replicate}
 use lib.Seq.{length-take-le, take_at}
 use Rattle.laws.specs.document.Laid.{laid_over}
-use Rattle.refusal.specs.declared.Check.{Check}
 use Rattle.refusal.specs.document.Table.{Row, Clear}
-use Rattle.refusal.specs.Checks.{Answers, passes, fails}
+use Rattle.refusal.specs.Checks.{Check, Answers, passes, fails}
 use Rattle.refusal.specs.Laws.{clear_right}
 use Rattle.refusal.proofs.Laws.{refusal_behind}
 use Rattle.adjacency.proofs.Writing.{laid-all}
@@ -31,6 +30,6 @@ front-laid w n l c h e f = f ∙ laid-all c (take n (replicate {A = ℕ} w 0)) (
 
 -- ---- the answer
 
-pub behind : (xs ys : List Row) {a : Check} → Clear xs → Answers (xs ++ ys) a → Answers ys a
-behind xs ys c (passes k) = passes (clear_right xs ys k)
-behind xs ys c (fails l) = fails (refusal_behind xs ys c l)
+pub only-behind : (xs ys : List Row) {a : Check} → Clear xs → Answers (xs ++ ys) a → Answers ys a
+only-behind xs ys c (passes k) = passes (clear_right xs ys k)
+only-behind xs ys c (fails l) = fails (refusal_behind xs ys c l)

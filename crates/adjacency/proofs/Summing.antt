@@ -3,6 +3,7 @@ use mathlib.Core.Path.{◌≡◌, refl, ap, sym, ◌∙◌}
 use mathlib.Core.List.{List, [], ◌∷◌, ◌++◌, append-nil, map}
 use Prim.Native.Nat.{ℕ, suc, ◌+◌, ◌-◌, ◌*◌, ◌/◌, ◌%◌, ◌^◌, ◌≤◌, ◌<◌}
 use native.Mathlib.Nat.{mul-le-mul, lt_of_lt_of_le, mod-eq_of_lt, one-mul}
+use Rattle.std.proofs.Common.{None, Some}
 use native.Mathlib.Omega.{arith}
 use native.Mathlib.Numerals.{add-one}
 use lib.Pow.{pow_mono, pow-lt}
@@ -18,7 +19,7 @@ use Rattle.adjacency.specs.Lower.{lower-none, lower-all}
 use Rattle.adjacency.specs.Power.{pows}
 use Rattle.adjacency.specs.Taken.{columns-below, a_range}
 use Rattle.adjacency.specs.Parts.{Gives}
-use Rattle.adjacency.proofs.Search.{found_some, lower-next}
+use Rattle.adjacency.proofs.Search.{lower-next}
 
 -- ---- the machine's 2^k
 
@@ -42,34 +43,24 @@ bits_none = refl
 
 -- b is what the edges before p give
 pub record Summed (E : List ℕ) (v p b : ℕ) : Type 0 where
-  pub low : 1 ≤ p
-  pub high : p ≤ length E / 2 + 1
   pub is : b ≡ column_sum (lower (before E p) v)
   pub small : b + 1024 ≤ 1024 * p
 
 pub summed_none : (E : List ℕ) (v : ℕ) → Summed E v 1 0
-summed_none E v = record { low = omega arith; high = omega arith; is = rw (lower-none E v) (sym bits_none); small = omega arith }
+summed_none E v = record { is = rw (lower-none E v) (sym bits_none); small = omega arith }
 
 pub power_small : {u : ℕ} → u ≤ a_size → 2 ^ (u - 1) ≤ 1024
 power_small {u} h = pow_mono (let k : u - 1 ≤ 10 = omega arith in k)
 
-module _ {E : List ℕ} {v p b : ℕ} (s : Summed E v p b) (h : Edge E p) {u : ℕ} (d : Gives (first_end E p) (second_end E p) v u) where
-  pub summed_miss : u ≡ 0 → Summed E v (p + 1) b
-  summed_miss z =
-      record {
-        low = omega arith;
-        high = omega (arith, h.1);
-        is = s.is ∙ sym (ap column_sum (lower-next E p h d ∙ rw (z, append-nil)));
-        small = omega (arith, s.small);
-      }
+module _ {E : List ℕ} {v p b : ℕ} (s : Summed E v p b) (h : Edge E p) where
+  pub summed_miss : Gives (first_end E p) (second_end E p) v None → Summed E v (p + 1) b
+  summed_miss d = record { is = s.is ∙ sym (ap column_sum (lower-next E p v h d ∙ rw append-nil)); small = omega (arith, s.small) }
 
-  pub summed_hit : 1 ≤ u → v ≤ a_size → Summed E v (p + 1) (b + 2 ^ (u - 1))
-  summed_hit k l =
+  pub summed_hit : {u : ℕ} → Gives (first_end E p) (second_end E p) v (Some u) → v ≤ a_size → Summed E v (p + 1) (b + 2 ^ (u - 1))
+  summed_hit {u} d l =
       record {
-        low = omega arith;
-        high = omega (arith, h.1);
-        is = rw (lower-next E p h d, found_some k, bits-append, bits-one u, ← s.is);
-        small = omega (arith, s.small, power_small (let j : u ≤ a_size = omega (arith, d.small) in j));
+        is = rw (lower-next E p v h d.0, bits-append, bits-one u, ← s.is);
+        small = omega (arith, s.small, power_small (let j : u ≤ a_size = omega (arith, d.2) in j));
       }
 
 pub summed_all : {E : List ℕ} {v p b : ℕ} → Summed E v p b → length E / 2 < p → b ≡ column_sum (lower E v)

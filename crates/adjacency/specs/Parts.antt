@@ -1,5 +1,5 @@
 -- What the parts of the code promise each other. No call that a partner makes cites this file. Assumes nothing.
-use Rattle.std.specs.Prelude.{◌≡◌, List, [], ◌∷◌, ℕ, zero, suc, ◌≤◌, length}
+use Rattle.std.specs.Prelude.{◌≡◌, List, [], ◌∷◌, ℕ, suc, ◌≤◌, length, Option, None, Some}
 use Rattle.laws.specs.document.Laid.{laid_over}
 use Rattle.edge_list.specs.document.Edges.{Edge, first_end, second_end}
 use Rattle.adjacency.specs.document.Adjacency.{lower, OneLower, rows, tied}
@@ -8,21 +8,15 @@ use Rattle.adjacency.specs.document.Adjacency.{lower, OneLower, rows, tied}
 pub record Numbered (E : List ℕ) : Type 0 where
   pub ends : (p : ℕ) → Edge E p → (1 ≤ first_end E p) × (1 ≤ second_end E p)
 
--- a vertex, or none where w is 0
-abbrev pub found : ℕ → List ℕ
-found zero = []
-found (suc w) = suc w ∷ []
+-- w is the lower neighbour that the edge from a to b gives to v, if it gives one
+abbrev pub Gives : (a b v : ℕ) → Option ℕ → Type 0
+Gives a b v None = lower (a ∷ b ∷ []) v ≡ []
+Gives a b v (Some w) = (lower (a ∷ b ∷ []) v ≡ w ∷ []) × (1 ≤ w) × (w ≤ v)
 
--- w is the lower neighbour that the edge from a to b gives to v, or 0
-pub record Gives (a b v w : ℕ) : Type 0 where
-  pub is : lower (a ∷ b ∷ []) v ≡ found w
-  pub small : w ≤ v
-
--- w is the only lower neighbour of v; where w is 0, there is not exactly one
-pub record Only (E : List ℕ) (v w : ℕ) : Type 0 where
-  pub is : 1 ≤ w → lower E v ≡ w ∷ []
-  pub none : w ≡ 0 → OneLower E v → ⊥
-  pub small : w ≤ v
+-- w is the only lower neighbour of v, if there is exactly one
+abbrev pub Only : (E : List ℕ) (v : ℕ) → Option ℕ → Type 0
+Only E v None = OneLower E v → ⊥
+Only E v (Some w) = (lower E v ≡ w ∷ []) × (w ≤ v)
 
 -- the edges of column i are written from the start, and n is their number of bytes
 pub record Column (i b : ℕ) (old : List ℕ) (n : ℕ) (new : List ℕ) : Type 0 where

@@ -4,7 +4,7 @@
 #![tactic(auto)]
 
 use limits::{A_ZERO, ENDS, SIZE, ZERO_A};
-use refusal::Check;
+use refusal::Refusal;
 
 // The entries of a CAM that has a 0A, and the bytes of an edge list that has an A0.
 pub const ENTRIES: usize = ZERO_A - 1;
@@ -24,67 +24,56 @@ ghost use Rattle.adjacency.specs.Entries.{Entries};
 ghost use Rattle.adjacency.specs.Made.{cam_front};
 ghost use Rattle.adjacency.specs.Parts.{Numbered, Gives, Only, Column};
 
-// The lower neighbour that the edge from a to b gives to v, or 0.
-fn down(a: usize, b: usize, v: usize) -> usize
+// The lower neighbour that the edge from a to b gives to v.
+fn down(a: usize, b: usize, v: usize) -> Option<usize>
     requires { (1 ≤ a) × (1 ≤ b) }
     ensures { Gives a b v result }
 {
-    if a == v {
-        if b < v {
-            return b;
-        }
-        return 0;
+    if a == v && b < v {
+        return Some(b);
     }
-    if b == v {
-        if a < v {
-            return a;
-        }
+    if b == v && a < v {
+        return Some(a);
     }
-    0
+    None
 }
 
-// The lower neighbour that edge p gives to v, or 0.
-fn lower_at(edges: &[u8], p: usize, v: usize) -> usize
+// The lower neighbour that edge p gives to v.
+fn lower_at(edges: &[u8], p: usize, v: usize) -> Option<usize>
     requires { Numbered edges.now × Edge edges.now p }
     ensures { Gives (first_end edges.now p) (second_end edges.now p) v result }
 {
     down(edge_list::one(edges, p), edge_list::other(edges, p), v)
 }
 
-// The only lower neighbour of v, or 0.
-fn only(edges: &[u8], v: usize) -> usize
+// The lower neighbour of v, where it has just one.
+fn only(edges: &[u8], v: usize) -> Option<usize>
     requires { Numbered edges.now }
     ensures { Only edges.now v result }
 {
-    let m = edges.len() / 2;
-    let mut w: usize = 0;
-    let mut p: usize = 1;
-    while p <= m {
-        let u = lower_at(edges, p, v);
-        p += 1;
-        if u != 0 {
-            if w != 0 {
-                return 0;
+    let mut one: Option<usize> = None;
+    for p in 1..=edges.len() / 2 {
+        if let Some(u) = lower_at(edges, p, v) {
+            if one.is_some() {
+                return None;
             }
-            w = u;
+            one = Some(u);
         }
     }
-    w
+    one
 }
 
 // 14: the numbering is physical.
-pub fn physical(n: usize, edges: &[u8]) -> Check
+pub fn physical(n: usize, edges: &[u8]) -> Result<(), Refusal>
     requires { Numbered edges.now × (n ≤ size) }
     ensures { Answers (row14_physical n edges.now ∷ []) result }
 {
-    let mut v: usize = 2;
-    while v <= n {
-        if only(edges, v) == 0 {
-            return Check::Refuse(14, v);
+    for v in 2..=n {
+        if only(edges, v).is_none() {
+            return Err(Refusal { row: 14, place: v });
         }
-        v += 1;
     }
-    Check::Passed
+    Ok(())
 }
 
 // The CAM of a physical numbering.
@@ -93,42 +82,35 @@ pub fn write_cam(n: usize, edges: &[u8], out: &mut [u8])
     requires n_le_size { (n ≤ size) × (n ≤ length out.old + 1) }
     ensures { out.new ≡ laid_over (cam n edges.now) out.old }
 {
-    let mut i: usize = 1;
-    while i < n {
-        out[i - 1] = only(edges, i + 1) as u8;
-        i += 1;
+    for i in 1..n {
+        out[i - 1] = only(edges, i + 1).unwrap() as u8;
     }
 }
 
 // 3 and 5 of a CAM.
-fn cam_sizes(n: usize, cam: &[u8]) -> Check
+fn cam_sizes(n: usize, cam: &[u8]) -> Result<(), Refusal>
     ensures { Answers (row3 size n ∷ row5_cam n cam.now ∷ []) result }
 {
-    if let Check::Refuse(k, p) = refusal::sized(n, SIZE) {
-        return Check::Refuse(k, p);
-    }
+    refusal::sized(n, SIZE)?;
     if cam.len() != n - 1 {
-        return Check::Refuse(5, 0);
+        return Err(Refusal { row: 5, place: 0 });
     }
-    Check::Passed
+    Ok(())
 }
 
 // 6 of a CAM.
-fn cam_entries(cam: &[u8]) -> Check
+fn cam_entries(cam: &[u8]) -> Result<(), Refusal>
     ensures { Answers (row6-cam cam.now ∷ []) result }
 {
-    let mut i: usize = 1;
-    while i <= cam.len() {
-        let x = cam[i - 1] as usize;
-        if x == 0 {
-            return Check::Refuse(6, i);
+    for (i, x) in cam.iter().enumerate() {
+        if *x == 0 || i + 1 < *x as usize {
+            return Err(Refusal {
+                row: 6,
+                place: i + 1,
+            });
         }
-        if i < x {
-            return Check::Refuse(6, i);
-        }
-        i += 1;
     }
-    Check::Passed
+    Ok(())
 }
 
 // The edges that a CAM makes.
@@ -136,16 +118,14 @@ pub fn cam_edges(cam: &[u8], out: &mut [u8])
     requires { (length cam.now < size) × (2 * length cam.now ≤ length out.old) }
     ensures { out.new ≡ laid_over (cam_edges_lem cam.now) out.old }
 {
-    let mut i: usize = 0;
-    while i < cam.len() {
-        out[2 * i] = cam[i];
+    for (i, x) in cam.iter().enumerate() {
+        out[2 * i] = *x;
         out[2 * i + 1] = (i + 2) as u8;
-        i += 1;
     }
 }
 
 // 7, 8 and 9 of the edges that a CAM makes, behind its 3, 5 and 6.
-fn made(limit: u8, n: usize, cam: &[u8]) -> Check
+fn made(limit: u8, n: usize, cam: &[u8]) -> Result<(), Refusal>
     requires limit_le_width { limit ≤ width }
     requires clear { Clear (cam_front size n cam.now) }
     ensures { Answers (made_rows limit (cam_edges_lem cam.now)) result }
@@ -157,16 +137,12 @@ fn made(limit: u8, n: usize, cam: &[u8]) -> Check
 }
 
 // Every refusal of a CAM.
-pub fn cam_check(limit: u8, n: usize, cam: &[u8]) -> Check
+pub fn cam_check(limit: u8, n: usize, cam: &[u8]) -> Result<(), Refusal>
     requires { limit ≤ width }
     ensures { Answers (cam_rows size limit n cam.now) result }
 {
-    if let Check::Refuse(k, p) = cam_sizes(n, cam) {
-        return Check::Refuse(k, p);
-    }
-    if let Check::Refuse(k, p) = cam_entries(cam) {
-        return Check::Refuse(k, p);
-    }
+    cam_sizes(n, cam)?;
+    cam_entries(cam)?;
     made(limit, n, cam)
 }
 
@@ -175,12 +151,9 @@ pub fn zero_a(cam: &[u8]) -> u64
     requires { Entries 1 cam.now × (length cam.now < zero_size) }
     ensures { result ≡ zero_a_lem cam.now }
 {
-    let m = cam.len();
     let mut x: u64 = 0;
-    let mut i: usize = 1;
-    while i < m {
+    for i in 1..cam.len() {
         x = x * (i as u64 + 1) + (cam[i] as u64 - 1);
-        i += 1;
     }
     x
 }
@@ -190,10 +163,8 @@ fn factorial(k: usize) -> u64
     ensures { result ≡ factorial k }
 {
     let mut f: u64 = 1;
-    let mut i: usize = 0;
-    while i < k {
-        i += 1;
-        f = i as u64 * f;
+    for i in 1..=k {
+        f *= i as u64;
     }
     f
 }
@@ -204,9 +175,7 @@ pub fn zero_cam(n: usize, x: u64, out: &mut [u8])
     ensures { out.new ≡ laid_over (zero_cam_lem n x) out.old }
 {
     let mut v = x;
-    let mut i: usize = n;
-    while 1 < i {
-        i -= 1;
+    for i in (1..n).rev() {
         let b = i as u64;
         out[i - 1] = (v % b) as u8 + 1;
         v /= b;
@@ -214,26 +183,22 @@ pub fn zero_cam(n: usize, x: u64, out: &mut [u8])
 }
 
 // 3 and 4 of a 0A.
-fn zero_sizes(n: usize, x: u64) -> Check
+fn zero_sizes(n: usize, x: u64) -> Result<(), Refusal>
     ensures { Answers (row3 zero_size n ∷ row4_number (factorial (n - 1)) x ∷ []) result }
 {
-    if let Check::Refuse(k, p) = refusal::sized(n, ZERO_A) {
-        return Check::Refuse(k, p);
-    }
+    refusal::sized(n, ZERO_A)?;
     if factorial(n - 1) <= x {
-        return Check::Refuse(4, 0);
+        return Err(Refusal { row: 4, place: 0 });
     }
-    Check::Passed
+    Ok(())
 }
 
 // Every refusal of a 0A.
-pub fn zero_check(limit: u8, n: usize, x: u64) -> Check
+pub fn zero_check(limit: u8, n: usize, x: u64) -> Result<(), Refusal>
     requires { limit ≤ width }
     ensures { Answers (zero_rows zero_size limit n x) result }
 {
-    if let Check::Refuse(k, p) = zero_sizes(n, x) {
-        return Check::Refuse(k, p);
-    }
+    zero_sizes(n, x)?;
     let mut cam = [0u8; ENTRIES];
     zero_cam(n, x, &mut cam[..n - 1]);
     made(limit, n, &cam[..n - 1])
@@ -244,13 +209,9 @@ fn bin(edges: &[u8], v: usize) -> u64
     requires { Numbered edges.now × (v ≤ a_size) × (length edges.now < 2 * a_size) }
     ensures { result ≡ column_sum (lower edges.now v) }
 {
-    let m = edges.len() / 2;
     let mut b: u64 = 0;
-    let mut p: usize = 1;
-    while p <= m {
-        let u = lower_at(edges, p, v);
-        p += 1;
-        if u != 0 {
+    for p in 1..=edges.len() / 2 {
+        if let Some(u) = lower_at(edges, p, v) {
             b += 1u64 << (u - 1);
         }
     }
@@ -263,10 +224,8 @@ pub fn a_zero(n: usize, edges: &[u8]) -> u64
     ensures { result ≡ a_zero_lem n edges.now }
 {
     let mut x: u64 = 0;
-    let mut i: usize = 1;
-    while i < n {
+    for i in 1..n {
         x = (x << i) + bin(edges, i + 1);
-        i += 1;
     }
     x
 }
@@ -277,13 +236,10 @@ fn column(i: usize, b: u64, out: &mut [u8]) -> usize
     ensures { Column i b out.old result out.new }
 {
     let mut k: usize = 0;
-    let mut r: usize = 1;
-    while r <= i {
+    for r in 1..=i {
         let bit = (b >> (r - 1)) % 2;
-        let row = r;
-        r += 1;
         if bit == 1 {
-            out[k] = row as u8;
+            out[k] = r as u8;
             out[k + 1] = (i + 1) as u8;
             k += 2;
         }
@@ -298,39 +254,33 @@ pub fn a_edges(n: usize, x: u64, out: &mut [u8])
 {
     let mut s = n * (n - 1) / 2;
     let mut k: usize = 0;
-    let mut i: usize = 1;
-    while i < n {
+    for i in 1..n {
         s -= i;
         let b = (x >> s) % (1u64 << i);
         k += column(i, b, &mut out[k..]);
-        i += 1;
     }
 }
 
 // 3, 4 and 5 of an A0.
-fn a_sizes(n: usize, x: u64) -> Check
+fn a_sizes(n: usize, x: u64) -> Result<(), Refusal>
     ensures { Answers (row3 a_size n ∷ row4_number (2 ^ (n * (n - 1) / 2)) x ∷ row5_ones n x ∷ []) result }
 {
-    if let Check::Refuse(k, p) = refusal::sized(n, A_ZERO) {
-        return Check::Refuse(k, p);
-    }
+    refusal::sized(n, A_ZERO)?;
     if (1u64 << (n * (n - 1) / 2)) <= x {
-        return Check::Refuse(4, 0);
+        return Err(Refusal { row: 4, place: 0 });
     }
     if u64::count_ones(x) as usize != n - 1 {
-        return Check::Refuse(5, 0);
+        return Err(Refusal { row: 5, place: 0 });
     }
-    Check::Passed
+    Ok(())
 }
 
 // Every refusal of an A0.
-pub fn a_check(limit: u8, n: usize, x: u64) -> Check
+pub fn a_check(limit: u8, n: usize, x: u64) -> Result<(), Refusal>
     requires { limit ≤ width }
     ensures { Answers (a_rows a_size limit n x) result }
 {
-    if let Check::Refuse(k, p) = a_sizes(n, x) {
-        return Check::Refuse(k, p);
-    }
+    a_sizes(n, x)?;
     let mut edges = [0u8; A_ENDS];
     a_edges(n, x, &mut edges[..2 * (n - 1)]);
     edge_list::check(A_ZERO, limit, n, &edges[..2 * (n - 1)], 1)

@@ -18,33 +18,14 @@ ghost use Rattle.refusal.specs.Checks.{Answers};
 ghost use Rattle.bits.specs.Decided.{Ended, Ordered, Decision};
 
 use limits::{PACKED, WHOLE};
-use refusal::{Answer, Check};
-
-// What a reader of digits came to.
-#[derive(Clone, Copy)]
-pub enum Found {
-    // The digit of this number is above its cap.
-    Over(usize),
-    // The bits give out behind so many whole digits.
-    Short(usize),
-    // The code ends with the digit of this number.
-    Ended(usize),
-}
-
-// What one turn of a reader came to.
-#[derive(Clone, Copy)]
-enum Turn {
-    // One digit more is read, and the next begins at this bit.
-    On(usize),
-    // The reader has come to its end.
-    Stop(Found),
-}
+use refusal::Refusal;
+use std::ops::ControlFlow;
 
 // The byte i of s, 0 past its end.
 fn byte(s: &[u8], i: usize) -> u8
     ensures { result ≡ get_or s.now i 0 }
 {
-    if i < s.len() { s[i] } else { 0 }
+    s.get(i).copied().unwrap_or(0)
 }
 
 // The ones from a bit of packed bytes on: the leading zeros of the inverted word that begins there. More bits are looked at than a row is wide.
@@ -69,28 +50,39 @@ fn digit_in(x: u64, len: usize, bit: usize) -> usize
 }
 
 // One turn of a reader of m bits: the digit at the bit b has k ones and stands behind n others. The bits read are the digits and their
-// sum, so the code has ended as soon as they are fewer than two for each digit.
-fn step(limit: u8, k: usize, m: usize, n: usize, b: usize, out: &mut [u8]) -> Turn
+// sum, so the code has ended as soon as they are fewer than two for each digit. The result is the bit at which the next digit begins,
+// or what the reader has found.
+fn step(
+    limit: u8,
+    k: usize,
+    m: usize,
+    n: usize,
+    b: usize,
+    out: &mut [u8],
+) -> ControlFlow<Result<usize, Refusal>, usize>
     requires le_limit { 1 ≤ limit }
     requires stands { Stands m n b out.old }
     ensures { Turned limit m k n b out.old out.new result }
 {
     if (digit_code::top(limit, n + 1) as usize) < k {
-        return Turn::Stop(Found::Over(n + 1));
+        return ControlFlow::Break(Err(Refusal {
+            row: 10,
+            place: n + 1,
+        }));
     }
     if m <= b + k {
-        return Turn::Stop(Found::Short(n));
+        return ControlFlow::Break(Err(Refusal { row: 12, place: n }));
     }
     out[n] = k as u8;
     let e = b + (k + 1);
     if e < 2 * (n + 1) {
-        return Turn::Stop(Found::Ended(n + 1));
+        return ControlFlow::Break(Ok(n + 1));
     }
-    Turn::On(e)
+    ControlFlow::Continue(e)
 }
 
-// The digits of a packed code, up to its end. No digit may be more than the bits tell that are looked at.
-pub fn digits(limit: u8, s: &[u8], out: &mut [u8]) -> Found
+// The digits of a packed code, up to its end, with rows 10 and 12. No digit may be more than the bits tell that are looked at.
+pub fn digits(limit: u8, s: &[u8], out: &mut [u8]) -> Result<usize, Refusal>
     requires le_limit { (1 ≤ limit) × (limit ≤ width) }
     requires s_len_bound { (length s.now ≤ packed_bytes) × (length out.old ≡ size) }
     ensures { Scanned limit (bytes s.now) out.new result }
@@ -100,16 +92,16 @@ pub fn digits(limit: u8, s: &[u8], out: &mut [u8]) -> Found
     let mut b: usize = 0;
     while b < m {
         match step(limit, digit_at(s, b), m, n, b, out) {
-            Turn::Stop(found) => return found,
-            Turn::On(e) => b = e,
+            ControlFlow::Break(found) => return found,
+            ControlFlow::Continue(e) => b = e,
         }
         n += 1;
     }
-    Found::Short(n)
+    Err(Refusal { row: 12, place: n })
 }
 
-// The digits of the len lowest bits of x, up to the code's end.
-pub fn word_digits(limit: u8, x: u64, len: usize, out: &mut [u8]) -> Found
+// The digits of the len lowest bits of x, up to the code's end, with rows 10 and 12.
+pub fn word_digits(limit: u8, x: u64, len: usize, out: &mut [u8]) -> Result<usize, Refusal>
     requires le_limit { 1 ≤ limit }
     requires len_bound { (len ≤ 64) × (length out.old ≡ size) }
     ensures { Scanned limit (word len x) out.new result }
@@ -118,77 +110,64 @@ pub fn word_digits(limit: u8, x: u64, len: usize, out: &mut [u8]) -> Found
     let mut b: usize = 0;
     while b < len {
         match step(limit, digit_in(x, len, b), len, n, b, out) {
-            Turn::Stop(found) => return found,
-            Turn::On(e) => b = e,
+            ControlFlow::Break(found) => return found,
+            ControlFlow::Continue(e) => b = e,
         }
         n += 1;
     }
-    Found::Short(n)
+    Err(Refusal { row: 12, place: n })
 }
 
 // The digits of a packed code, with rows 10 to 12.
-pub fn packed(limit: u8, s: &[u8], out: &mut [u8]) -> Answer
+pub fn packed(limit: u8, s: &[u8], out: &mut [u8]) -> Result<usize, Refusal>
     requires le_limit { (1 ≤ limit) × (limit ≤ width) }
     requires s_len_bound { (length s.now ≤ packed_bytes) × (length out.old ≡ size) }
     ensures { Reading limit Fill (bytes s.now) out.new result }
 {
-    match digits(limit, s, out) {
-        Found::Over(p) => Answer::Refused(10, p),
-        Found::Short(n) => Answer::Refused(12, n),
-        Found::Ended(n) => {
-            if 2 * n + 7 <= 8 * s.len() {
-                return Answer::Refused(11, n + 1);
-            }
-            let last = s[s.len() - 1];
-            if last << ((2 * n - 1) % 8) == 0 {
-                return Answer::Done(n);
-            }
-            Answer::Refused(11, n + 1)
-        }
+    let n = digits(limit, s, out)?;
+    if 2 * n + 7 <= 8 * s.len() || s[s.len() - 1] << ((2 * n - 1) % 8) != 0 {
+        return Err(Refusal {
+            row: 11,
+            place: n + 1,
+        });
     }
+    Ok(n)
 }
 
 // The digits of a whole number with N = n beside it, with rows 10 to 12.
-pub fn number(limit: u8, n: usize, x: u64, out: &mut [u8]) -> Answer
+pub fn number(limit: u8, n: usize, x: u64, out: &mut [u8]) -> Result<usize, Refusal>
     requires le_limit { 1 ≤ limit }
     requires le_n { (1 ≤ n) × ((n ≤ whole_size) × (length out.old ≡ size)) }
     ensures { Reading limit Nothing (word (2 * n - 1) x) out.new result }
 {
-    match word_digits(limit, x, 2 * n - 1, out) {
-        Found::Over(p) => Answer::Refused(10, p),
-        Found::Short(e) => Answer::Refused(12, e),
-        Found::Ended(e) => {
-            if e < n {
-                return Answer::Refused(11, e + 1);
-            }
-            Answer::Done(e)
-        }
+    let e = word_digits(limit, x, 2 * n - 1, out)?;
+    if e < n {
+        return Err(Refusal {
+            row: 11,
+            place: e + 1,
+        });
     }
+    Ok(e)
 }
 
 // The digits of the len lowest bits of x, behind which only zeros may follow, with rows 10 to 12.
-fn zeros_behind(limit: u8, x: u64, len: usize, out: &mut [u8]) -> Answer
+fn zeros_behind(limit: u8, x: u64, len: usize, out: &mut [u8]) -> Result<usize, Refusal>
     requires le_limit { 1 ≤ limit }
     requires len_bound { (len ≤ 64) × (length out.old ≡ size) }
     ensures { Reading limit Zeros (word len x) out.new result }
 {
-    match word_digits(limit, x, len, out) {
-        Found::Over(p) => Answer::Refused(10, p),
-        Found::Short(n) => Answer::Refused(12, n),
-        Found::Ended(n) => {
-            if len < 2 * n {
-                return Answer::Done(n);
-            }
-            if x << (64 - len + (2 * n - 1)) == 0 {
-                return Answer::Done(n);
-            }
-            Answer::Refused(11, n + 1)
-        }
+    let n = word_digits(limit, x, len, out)?;
+    if len < 2 * n || x << (64 - len + (2 * n - 1)) == 0 {
+        return Ok(n);
     }
+    Err(Refusal {
+        row: 11,
+        place: n + 1,
+    })
 }
 
 // The digits of the 53 bits of a fraction, with rows 10 to 12; `rest`: there is a rest other than zero behind them.
-pub fn fraction(limit: u8, x: u64, rest: bool, out: &mut [u8]) -> Answer
+pub fn fraction(limit: u8, x: u64, rest: bool, out: &mut [u8]) -> Result<usize, Refusal>
     requires le_limit { 1 ≤ limit }
     requires x_bound { (x < 2 ^ 53) × (length out.old ≡ size) }
     ensures { Reading limit Zeros (fraction_bits x rest) out.new result }
@@ -200,58 +179,46 @@ pub fn fraction(limit: u8, x: u64, rest: bool, out: &mut [u8]) -> Answer
 }
 
 // Behind rows 10 to 12: a refusal stays, and of a code that was read 13 is judged.
-pub fn siblings(read: Answer, digits: &[u8]) -> Answer
+pub fn siblings(read: Result<usize, Refusal>, digits: &[u8]) -> Result<usize, Refusal>
     requires ended { Ended digits.now read }
     requires digits_len { length digits.now ≡ size }
     ensures { Ordered digits.now read result }
 {
-    match read {
-        Answer::Refused(k, p) => Answer::Refused(k, p),
-        Answer::Done(n) => match digit_code::ordered(&digits[..n]) {
-            Check::Passed => Answer::Done(n),
-            Check::Refuse(k, p) => Answer::Refused(k, p),
-        },
-    }
+    let n = read?;
+    digit_code::ordered(&digits[..n])?;
+    Ok(n)
 }
 
 // The right code in a packed code: rows 3 and 10 to 13.
-pub fn packed_code(limit: u8, s: &[u8], out: &mut [u8]) -> Answer
+pub fn packed_code(limit: u8, s: &[u8], out: &mut [u8]) -> Result<usize, Refusal>
     requires le_limit { (1 ≤ limit) × (limit ≤ width) }
     requires out_len { length out.old ≡ size }
     ensures { Decision (packed_rows packed_bytes limit s.now) limit Fill (bytes s.now) out.new result }
 {
-    if let Check::Refuse(k, p) = refusal::sized(s.len(), PACKED) {
-        return Answer::Refused(k, p);
-    }
-    let read = packed(limit, s, out);
-    siblings(read, out)
+    refusal::sized(s.len(), PACKED)?;
+    siblings(packed(limit, s, out), out)
 }
 
 // 4: x is outside the range of whole numbers with N = n.
-fn ranged(n: usize, x: u64) -> Check
+fn ranged(n: usize, x: u64) -> Result<(), Refusal>
     requires { (1 ≤ n) × (n ≤ whole_size) }
     ensures { Answers (row4_whole n x ∷ []) result }
 {
     if (1u64 << (2 * n - 1)) <= x {
-        return Check::Refuse(4, 0);
+        return Err(Refusal { row: 4, place: 0 });
     }
-    Check::Passed
+    Ok(())
 }
 
 // The right code in a whole number with N = n beside it: rows 3, 4 and 10 to 13.
-pub fn number_code(limit: u8, n: usize, x: u64, out: &mut [u8]) -> Answer
+pub fn number_code(limit: u8, n: usize, x: u64, out: &mut [u8]) -> Result<usize, Refusal>
     requires le_limit { 1 ≤ limit }
     requires out_len { length out.old ≡ size }
     ensures { Decision (whole_rows whole_size limit n x) limit Nothing (word (2 * n - 1) x) out.new result }
 {
-    if let Check::Refuse(k, p) = refusal::sized(n, WHOLE) {
-        return Answer::Refused(k, p);
-    }
-    if let Check::Refuse(k, p) = ranged(n, x) {
-        return Answer::Refused(k, p);
-    }
-    let read = number(limit, n, x, out);
-    siblings(read, out)
+    refusal::sized(n, WHOLE)?;
+    ranged(n, x)?;
+    siblings(number(limit, n, x, out), out)
 }
 
 // x with the digit k, k ones and a zero, behind its bits.
@@ -262,24 +229,14 @@ fn append(x: u64, k: u64) -> u64
     (x << (k + 1)) + ((1u64 << (k + 1)) - 2)
 }
 
-// The digit i of a code.
-fn digit(code: &[u8], i: usize) -> u64
-    requires { i < length code.now }
-    ensures { result ≡ get_or code.now i 0 }
-{
-    code[i] as u64
-}
-
 // The whole number of a code.
 pub fn number_of(code: &[u8]) -> u64
     requires { Coded width whole_size code.now }
     ensures { Numbers code.now result }
 {
     let mut x: u64 = 0;
-    let mut i: usize = 0;
-    while i < code.len() {
-        x = append(x, digit(code, i));
-        i += 1;
+    for k in code {
+        x = append(x, u64::from(*k));
     }
     x
 }
@@ -309,12 +266,10 @@ pub fn pack(code: &[u8], out: &mut [u8]) -> usize
     let mut a: u64 = 0;
     let mut c: u64 = 0;
     let mut m: usize = 0;
-    let mut i: usize = 0;
-    while i < code.len() {
-        let k = digit(code, i);
+    for digit in code {
+        let k = u64::from(*digit);
         a = append(a % 256, k);
         c += k + 1;
-        i += 1;
         m = put_out(a, c, m, out);
         c %= 8;
     }

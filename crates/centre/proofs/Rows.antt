@@ -12,7 +12,7 @@ use Rattle.skeleton.specs.Arcs.{near_arc, arc_near}
 use Rattle.edge_list.specs.Table.{IsTable, Held, deg}
 
 -- the neighbours of v in a table
-abbrev row : List (List ℕ) → List ℕ → ℕ → List ℕ
+abbrev pub row : List (List ℕ) → List ℕ → ℕ → List ℕ
 row t d v = take (deg d v) (get_or t (v - 1) [])
 
 pub few : {N : ℕ} {t : List (List ℕ)} {d : List ℕ} → Held N t d → (v : ℕ) → 1 ≤ v → v ≤ N → deg d v ≤ width

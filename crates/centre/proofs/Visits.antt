@@ -6,7 +6,7 @@ use mathlib.Core.List.{List, ◌∷◌, [], Memᴰ}
 use Prim.Native.Nat.{ℕ, suc, ◌≤◌, ◌<◌}
 use native.Mathlib.Omega.{arith}
 use lib.ListN.{length, get_or, take, set}
-use lib.Seq.{get_or-take, get_or-set_other, take-suc, length-take-le}
+use lib.Seq.{get_or-set_other, take-suc, take-length}
 use Rattle.limits.specs.document.Limits.{size}
 use Rattle.laws.specs.Places.{at_in}
 use Rattle.skeleton.specs.document.Skeleton.{arcs}
@@ -21,16 +21,16 @@ pub record Part {N s : ℕ} {E : List ℕ} (g : Ground N E s) (row o up : List �
   pub is : v ≡ get_or o h 0
   pub got : (w : ℕ) → Memᴰ w (take j row) → Memᴰ w (take b o)
 
-module _ {N s : ℕ} {E : List ℕ} (g : Ground N E s) {row o₀ up₀ : List ℕ} {m v h e : ℕ} (n : Next g row m o₀ up₀ v h e) where
+module _ {N s : ℕ} {E : List ℕ} (g : Ground N E s) {row o₀ up₀ : List ℕ} {v h e : ℕ} (n : Next g row o₀ up₀ v h e) where
   pub part_none : Part g row o₀ up₀ v h e 0
   part_none = record { spread = n.spread; waits = n.waits; is = n.is; got = λ w k. absurd (Memᴰ.not-nil k) }
 
-  pub part-all : {o up : List ℕ} {b : ℕ} → Part g row o up v h b m → Spread g o up (suc h) b
-  part-all p = done g p.spread p.waits (λ w k. p.got w (n.all w (rw (← p.is) at k)))
+  pub part-all : {o up : List ℕ} {b : ℕ} → Part g row o up v h b (length row) → Spread g o up (suc h) b
+  part-all p = done g p.spread p.waits (λ w k. p.got w (rw (take-length row) (n.all w (rw (← p.is) at k))))
 
-  module _ (j : ℕ) (l : j < m) (few : m ≤ length row) {o up : List ℕ} {b : ℕ} (p : Part g row o up v h b j) where
+  module _ (j : ℕ) (l : j < length row) {o up : List ℕ} {b : ℕ} (p : Part g row o up v h b j) where
     part_arc : Memᴰ (v, get_or row j 0) (arcs E)
-    part_arc = n.arc (get_or row j 0) (rw (get_or-take m row j 0 l) at (at_in (take m row) j 0 (omega (arith, length-take-le m row few))))
+    part_arc = n.arc (get_or row j 0) (at_in row j 0 l)
 
     pub part_inside : (1 ≤ get_or row j 0) × (get_or row j 0 ≤ size)
     part_inside = omega (arith, g.tree.inside (get_or row j 0) (arc_end E part_arc), g.small)

@@ -24,7 +24,7 @@ use Rattle.longest_path.specs.Paths.{path_one}
 use Rattle.longest_path.specs.Ways.{Way, way}
 use Rattle.longest_path.specs.Farthest.{one_way}
 use Rattle.centre.specs.Walking.{Starts, Ground, Spread, Next, Visit, Reached}
-use Rattle.centre.proofs.Rows.{few, row_arc, arc_row}
+use Rattle.centre.proofs.Rows.{row, few, row_arc, arc_row}
 use Rattle.centre.proofs.Found.{inside, at}
 
 -- ---- how far each vertex is
@@ -126,7 +126,7 @@ module _ {N s : ℕ} {E : List ℕ} (g : Ground N E s) {o up : List ℕ} {h e : 
     in_v : (1 ≤ v) × (v ≤ N)
     in_v = rw is (inside g a (get_or o h 0) (at g a h wait))
 
-    pub next_one : Next g (get_or t (v - 1) []) (deg d v) o up v h e
+    pub next_one : Next g (row t d v) o up v h e
     next_one = record {
       spread = a;
       waits = wait;
@@ -190,5 +190,5 @@ module _ {n s h e : ℕ} {t : List (List ℕ)} {d o up up₀ : List ℕ} (k : He
     pub next_few : deg d (get_or o h 0) ≤ width
     next_few = few k (get_or o h 0) next_in.0 next_in.1
 
-    pub in_some : Visit (get_or t (get_or o h 0 - 1) []) (deg d (get_or o h 0)) o up (get_or o h 0) e
+    pub in_some : Visit (row t d (get_or o h 0)) o up (get_or o h 0) e
     in_some = record { most = n; from = s; at = h; edges = k.edges; ground = own; next = next_one own mine k.table (get_or o h 0) refl one_waits next_few }

@@ -57,22 +57,22 @@ pub record Spread {N s : ℕ} {E : List ℕ} (g : Ground N E s) (o up : List ℕ
 
 -- ---- its step
 
--- v is the next to look at, and its neighbours are the first m of a row
-pub record Next {N s : ℕ} {E : List ℕ} (g : Ground N E s) (row : List ℕ) (m : ℕ) (o up : List ℕ) (v h e : ℕ) : Type 0 where
+-- v is the next to look at, and its neighbours are those of a row
+pub record Next {N s : ℕ} {E : List ℕ} (g : Ground N E s) (row o up : List ℕ) (v h e : ℕ) : Type 0 where
   pub spread : Spread g o up h e
   pub waits : h < e
   pub is : v ≡ get_or o h 0
-  pub arc : (w : ℕ) → Memᴰ w (take m row) → Memᴰ (v, w) (arcs E)
-  pub all : (w : ℕ) → Memᴰ (v, w) (arcs E) → Memᴰ w (take m row)
+  pub arc : (w : ℕ) → Memᴰ w row → Memᴰ (v, w) (arcs E)
+  pub all : (w : ℕ) → Memᴰ (v, w) (arcs E) → Memᴰ w row
 
 -- so it is in the walk of some tree
-pub record Visit (row : List ℕ) (m : ℕ) (o up : List ℕ) (v e : ℕ) : Type 0 where
+pub record Visit (row o up : List ℕ) (v e : ℕ) : Type 0 where
   pub most : ℕ
   pub from : ℕ
   pub at : ℕ
   pub edges : List ℕ
   pub ground : Ground most edges from
-  pub next : Next ground row m o up v at e
+  pub next : Next ground row o up v at e
 
 -- ---- what a walk leaves
 

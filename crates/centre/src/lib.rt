@@ -7,14 +7,13 @@
 #![tactic(auto)]
 
 ghost use Rattle.std.specs.Prelude.{◌≡◌, List, ◌∷◌, ℕ, suc, ◌≤◌, ◌<◌};
-ghost use Rattle.limits.specs.Width.{width};
 ghost use Rattle.skeleton.specs.document.Skeleton.{IsTree};
 ghost use Rattle.longest_path.specs.document.Path.{middle₁, middle₂, IsCentre};
 ghost use Rattle.edge_list.specs.Table.{IsTable, Held};
 ghost use Rattle.centre.specs.Walking.{Starts, Ground, Spread, Next, Visit, Reached, Trail, Trailed};
 
-use edge_list::wide;
-use limits::{SIZE, WIDTH};
+use edge_list::{Table, wide};
+use limits::SIZE;
 
 // Places for the notes of a walk, from 0 to the last vertex.
 const NOTES: usize = SIZE + 1;
@@ -26,28 +25,17 @@ pub struct Middles {
     pub second: usize,
 }
 
-// The neighbours of v, the first m of its row, are found from v where they are not found yet; how many are found then.
-fn visit(
-    row: [u8; WIDTH],
-    m: usize,
-    v: u8,
-    o: &mut [u8; SIZE],
-    up: &mut [u8; NOTES],
-    e: usize,
-) -> usize
-    requires m_le_width { m ≤ width }
-    requires visit { Visit row m o.old up.old v e }
-    ensures { (N s h : ℕ) (E : List ℕ) (g : Ground N E s) → Next g row m o.old up.old v h e → Spread g o.new up.new (suc h) result }
+// The neighbours of v, its row, are found from v where they are not found yet; how many are found then.
+fn visit(row: &[u8], v: u8, o: &mut [u8; SIZE], up: &mut [u8; NOTES], e: usize) -> usize
+    requires { Visit row.now o.old up.old v e }
+    ensures { (N s h : ℕ) (E : List ℕ) (g : Ground N E s) → Next g row.now o.old up.old v h e → Spread g o.new up.new (suc h) result }
 {
     let mut b = e;
-    let mut j: usize = 0;
-    while j < m {
-        let w = row[j];
-        let x = wide(w);
-        j += 1;
+    for w in row {
+        let x = wide(*w);
         if up[x] == 0 {
             up[x] = v;
-            o[b] = w;
+            o[b] = *w;
             b += 1;
         }
     }
@@ -55,10 +43,10 @@ fn visit(
 }
 
 // A vertex that is farthest from s; the notes lead from it to s.
-fn walk(rows: &[[u8; WIDTH]; SIZE], degs: &[u8; SIZE], n: usize, s: u8, up: &mut [u8; NOTES]) -> u8
-    requires held { Held n rows.now degs.now }
+fn walk(table: &Table, n: usize, s: u8, up: &mut [u8; NOTES]) -> u8
+    requires held { Held n table.now.rows table.now.degs }
     requires starts { Starts n s up.old }
-    ensures { (E : List ℕ) → IsTree n E → IsTable n E rows.now degs.now → Reached n E s up.new result }
+    ensures { (E : List ℕ) → IsTree n E → IsTable n E table.now.rows table.now.degs → Reached n E s up.new result }
 {
     let mut o = [0u8; SIZE];
     o[0] = s;
@@ -67,9 +55,7 @@ fn walk(rows: &[[u8; WIDTH]; SIZE], degs: &[u8; SIZE], n: usize, s: u8, up: &mut
     let mut h: usize = 0;
     while e < n {
         let v = o[h];
-        let i = wide(v) - 1;
-        let m = wide(degs[i]);
-        e = visit(rows[i], m, v, &mut o, up, e);
+        e = visit(table.neighbours(wide(v)), v, &mut o, up, e);
         h += 1;
     }
     o[e - 1]
@@ -104,13 +90,13 @@ fn middle(up: &[u8; NOTES], v: u8) -> Middles
 }
 
 // The centre of the skeleton whose table this is.
-pub fn centre(rows: &[[u8; WIDTH]; SIZE], degs: &[u8; SIZE], n: usize) -> Middles
-    requires { Held n rows.now degs.now }
-    ensures { (E : List ℕ) → IsTree n E → IsTable n E rows.now degs.now → IsCentre n E result.first result.second }
+pub fn centre(table: &Table, n: usize) -> Middles
+    requires { Held n table.now.rows table.now.degs }
+    ensures { (E : List ℕ) → IsTree n E → IsTable n E table.now.rows table.now.degs → IsCentre n E result.first result.second }
 {
     let mut up = [0u8; NOTES];
-    let u = walk(rows, degs, n, 1, &mut up);
+    let u = walk(table, n, 1, &mut up);
     up = [0u8; NOTES];
-    let v = walk(rows, degs, n, u, &mut up);
+    let v = walk(table, n, u, &mut up);
     middle(&up, v)
 }

@@ -1,11 +1,10 @@
 -- Row 14 for the centred code by the test on the digits: what the call answers. Assumes nothing.
+use Rattle.std.specs.Prelude.{Ok, Err}
 use Rattle.std.specs.Prelude.{◌≡◌, refl, ◌↔◌, Bool, true, false, List, [], ◌∷◌, ℕ}
 use Rattle.std.proofs.Common.{arith}
-use Rattle.refusal.specs.Checks.{Answers, passes, fails}
+use Rattle.refusal.specs.Checks.{Check, Answers, passes, fails}
 use Rattle.refusal.specs.Laws.{clear_one, clear_both, refusal_front}
 use Rattle.refusal.proofs.Laws.{first-place, refusal_back}
-use Rattle.refusal.specs.declared.Check.{Check}
-use Rattle.refusal.specs.declared.Check.TheVariants.{Passed, Refuse}
 use Rattle.digit_code.specs.document.Code.{code_rows}
 use Rattle.digit_code.specs.Digits as CodeSaid
 use Rattle.digit_code.specs.Ends.{Ends}
@@ -26,10 +25,10 @@ module _ (M : Marks) {c : List ℕ} (e : Ends 1 (CodeSaid.digits M.arity c)) (o 
   unfolding digits
   by_test = rooted-centredₗ M c e o
 
-  pub when_so : {r : Bool} → Tells (Middle M c) r → r ≡ true → Answers (row14ₗ M (IsCentredₗ M) c ∷ []) Passed
+  pub when_so : {r : Bool} → Tells (Middle M c) r → r ≡ true → Answers (row14ₗ M (IsCentredₗ M) c ∷ []) (Ok tt)
   when_so t h = passes (clear_one {r = row14ₗ M (IsCentredₗ M) c} (λ p a. a.1 (by_test.0 (was_held t h))))
 
-  pub when_not : {r : Bool} → Tells (Middle M c) r → r ≡ false → Answers (row14ₗ M (IsCentredₗ M) c ∷ []) (Refuse 14 0)
+  pub when_not : {r : Bool} → Tells (Middle M c) r → r ≡ false → Answers (row14ₗ M (IsCentredₗ M) c ∷ []) (Err (record { row = 14; place = 0 }))
   when_not t h = fails (first-place {r = row14ₗ M (IsCentredₗ M) c} (refl, λ m. was_denied t h (by_test.1 m)) (λ q l a. let z : ⊥ = omega arith in z))
 
 -- for a plain code

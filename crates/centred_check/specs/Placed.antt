@@ -1,6 +1,6 @@
 -- The trees that marks make, each by the place of its first mark, on a stack that lies at the end of a list; then the children of a mark
 -- compared one with the next, and the tallest of them found, from the last on. Assumes nothing.
-use Rattle.std.specs.Prelude.{◌≡◌, refl, ℕ, zero, suc, max, ◌+◌, ◌-◌, ◌≤◌, ◌<◌, length, set, take, drop}
+use Rattle.std.specs.Prelude.{◌≡◌, refl, Option, MatchOption, ℕ, zero, suc, max, ◌+◌, ◌-◌, ◌≤◌, ◌<◌, length, set, take, drop}
 use Rattle.std.proofs.Common.{sym, ◌∙◌, subst, subst₂, add-one, length-drop, length-set, drop-cons, drop-drop, get_or-set_same, get_or-set_other, get_or-take, length-take-le}
 use Rattle.std.proofs.Math.Path.{ap}
 use mathlib.Core.List.{List, [], ◌∷◌, flatten, head-eq_of_cons-eq}
@@ -126,10 +126,14 @@ module _ {arity : ℕ → ℕ} {c st : List ℕ} {i at : ℕ} (l : Placed arity 
       starts = begin;
     }
 
--- what is found of the trees from `at` to `end`, children of one mark: r is how tall it is then, 0 where one is larger than the one before
-pub record Joins (arity : ℕ → ℕ) (c hs : List ℕ) (i at end r : ℕ) : Type 0 where
-  pub good : 0 < r → (r ≡ suc (top (part at end hs))) × Falling (take (end - at) (codes arity (drop i c)))
-  pub bad : r ≡ 0 → Falling (take (end - at) (codes arity (drop i c))) → ⊥
+-- the trees from `at` to `end` are children of one mark, and r is how tall it is then
+pub record Joined (arity : ℕ → ℕ) (c hs : List ℕ) (i at end r : ℕ) : Type 0 where
+  pub tall : r ≡ suc (top (part at end hs))
+  pub fall : Falling (take (end - at) (codes arity (drop i c)))
+
+-- how tall it is, or none where one of them is larger than the one before
+abbrev pub Joins : (ℕ → ℕ) → List ℕ → List ℕ → ℕ → ℕ → ℕ → Option ℕ → Type 0
+Joins arity c hs i at end o = MatchOption o (Falling (take (end - at) (codes arity (drop i c))) → ⊥) (λ r. Joined arity c hs i at end r)
 
 -- from place j on
 pub record Joining (arity : ℕ → ℕ) (c hs : List ℕ) (i at end j best : ℕ) : Type 0 where
@@ -137,14 +141,11 @@ pub record Joining (arity : ℕ → ℕ) (c hs : List ℕ) (i at end j best : �
   pub some : j < end
   pub falls : (m : ℕ) → j ≤ m → m + 1 < end → get_or (codes arity (drop i c)) (m - at) [] ≽ get_or (codes arity (drop i c)) (m + 1 - at) []
 
-pub join-none : (arity : ℕ → ℕ) (c hs : List ℕ) (i at : ℕ) → Joins arity c hs i at at 1
+pub join-none : (arity : ℕ → ℕ) (c hs : List ℕ) (i at : ℕ) → Joined arity c hs i at at 1
 unfolding top
 join-none arity c hs i at =
     let n : at - at ≡ 0 = omega arith in
-    record {
-      good = λ h. (ap (λ (l : List ℕ). suc (top l)) (sym (part_none at hs)), rw n tt);
-      bad = λ e. let z : ⊥ = omega arith in absurd z;
-    }
+    record { tall = ap (λ (l : List ℕ). suc (top l)) (sym (part_none at hs)); fall = rw n tt }
 
 pub join_start : {arity : ℕ → ℕ} {c hs : List ℕ} {i at end : ℕ} → at < end → end ≤ length hs → Joining arity c hs i at end (end - 1) (get_or hs (end - 1) 0)
 unfolding top
@@ -169,10 +170,10 @@ module _ {arity : ℕ → ℕ} {c st hs : List ℕ} {i at end j best : ℕ} (l :
       subst₂ (λ (a b : List ℕ). a ≽ b) (get_or-take (end - at) X m [] (omega arith)) (get_or-take (end - at) X (suc m) [] h)
       ((falling_iff (take (end - at) X)).0 f m (omega (arith, children-count)))
 
-  pub join_last : j ≤ at → Joins arity c hs i at end (best + 1)
+  pub join_last : j ≤ at → Joined arity c hs i at end (best + 1)
   join_last h = record {
-    good = λ g. (add-one best ∙ ap suc (top-last t.topped h), (falling_iff (take (end - at) (codes arity (drop i c)))).1 each);
-    bad = λ e. let z : ⊥ = omega arith in absurd z;
+    tall = add-one best ∙ ap suc (top-last t.topped h);
+    fall = (falling_iff (take (end - at) (codes arity (drop i c)))).1 each;
   }
     where
       each : (m : ℕ) → suc m < length (take (end - at) (codes arity (drop i c))) → get_or (take (end - at) (codes arity (drop i c))) m [] ≽ get_or (take (end - at) (codes arity (drop i c))) (suc m) []
@@ -216,11 +217,8 @@ module _ {arity : ℕ → ℕ} {c st hs : List ℕ} {i at end j best : ℕ} (l :
         look m a b (no n) = t.falls m (omega arith) b
 
     -- or it does not
-    pub join_stop : (part (get_or st (j - 1) 0) (get_or st j 0) c ≽ part (get_or st j 0) (get_or st (j + 1) 0) c → ⊥) → Joins arity c hs i at end 0
-    join_stop n = record {
-      good = λ g. let z : ⊥ = omega arith in absurd z;
-      bad = λ e f.
-          let s = t.some in
-          let q : suc (j - 1 - at) ≡ j - at = omega arith in
-          n (subst₂ (λ (a b : List ℕ). a ≽ b) first (ap (λ (a : ℕ). get_or (codes arity (drop i c)) a []) q ∙ second) (falling_places f (j - 1 - at) (omega arith)));
-    }
+    pub join_stop : (part (get_or st (j - 1) 0) (get_or st j 0) c ≽ part (get_or st j 0) (get_or st (j + 1) 0) c → ⊥) → Falling (take (end - at) (codes arity (drop i c))) → ⊥
+    join_stop n f =
+        let s = t.some in
+        let q : suc (j - 1 - at) ≡ j - at = omega arith in
+        n (subst₂ (λ (a b : List ℕ). a ≽ b) first (ap (λ (a : ℕ). get_or (codes arity (drop i c)) a []) q ∙ second) (falling_places f (j - 1 - at) (omega arith)))

@@ -1,6 +1,6 @@
 -- One pass over the marks from the last to the first: the trees behind a mark with their heights, and that nothing is wrong so far. At the
 -- root it tells whether the marks are a right rooted code. Assumes nothing.
-use Rattle.std.specs.Prelude.{◌≡◌, refl, true, false, List, ◌∷◌, ℕ, zero, suc, ◌+◌, ◌-◌, ◌≤◌, ◌<◌, length, get_or, set, take, drop}
+use Rattle.std.specs.Prelude.{◌≡◌, refl, true, false, Option, MatchOption, List, ◌∷◌, ℕ, zero, suc, ◌+◌, ◌-◌, ◌≤◌, ◌<◌, length, get_or, set, take, drop}
 use Rattle.std.proofs.Common.{sym, ap, ◌∙◌, subst, arith, drop-cons}
 use Rattle.std.proofs.Math.Decide.{ℕ_discrete}
 use Rattle.std.proofs.Math.Seq.{drop-length}
@@ -15,7 +15,7 @@ use Rattle.digit_code.specs.Right.{Rightₗ}
 use Rattle.skeleton.specs.document.Label.{Marks}
 use Rattle.centred_check.specs.Skip.{root-codes}
 use Rattle.centred_check.specs.Stack.{Stacked, Branches, stack_start, stack-room, stack-next}
-use Rattle.centred_check.specs.Placed.{Placed, Joins, placed_start, placed_first, placed_next}
+use Rattle.centred_check.specs.Placed.{Placed, Joined, placed_start, placed_first, placed_next}
 use Rattle.laws.specs.Tells.{Tells, holds, denies}
 
 -- mark i and those behind it are read
@@ -26,16 +26,9 @@ pub record Scan (M : Marks) (limit : ℕ → ℕ) (c hs st : List ℕ) (i at : �
   pub ordered : Ordered M.arity (drop i c)
   pub small : (j : ℕ) → i ≤ j → j < length c → M.arity (get_or c j 0) + 1 ≤ limit (get_or c j 0)
 
--- r is where the heights of the root's branches stand; above `size` where the marks are no right code
-pub record Scanned (M : Marks) (limit : ℕ → ℕ) (c hs : List ℕ) (r : ℕ) : Type 0 where
-  pub good : r ≤ size → Rightₗ M.arity limit size c × Branches M c hs r
-  pub bad : size < r → Rightₗ M.arity limit size c → ⊥
-
-pub no_code : {M : Marks} {limit : ℕ → ℕ} (c hs : List ℕ) → (Rightₗ M.arity limit size c → ⊥) → Scanned M limit c hs (size + 1)
-no_code c hs n = record { good = λ h. let z : ⊥ = omega arith in absurd z; bad = λ h. n }
-
-pub is_code : {M : Marks} {limit : ℕ → ℕ} {c hs : List ℕ} {r : ℕ} → r ≤ size → Rightₗ M.arity limit size c → Branches M c hs r → Scanned M limit c hs r
-is_code h k b = record { good = λ g. (k, b); bad = λ g. let z : ⊥ = omega arith in absurd z }
+-- where the heights of the root's branches stand; none where the marks are no right code
+abbrev pub Scanned : Marks → (ℕ → ℕ) → List ℕ → List ℕ → Option ℕ → Type 0
+Scanned M limit c hs o = MatchOption o (Rightₗ M.arity limit size c → ⊥) (λ r. Rightₗ M.arity limit size c × Branches M c hs r)
 
 pub scan_start : (M : Marks) (limit : ℕ → ℕ) (c hs st : List ℕ) → 1 ≤ length c → length hs ≡ size → length st ≡ suc size → Scan M limit c hs (set st size (length c)) (length c) size
 scan_start M limit c hs st h k l = record {
@@ -57,8 +50,11 @@ module _ {M : Marks} {limit : ℕ → ℕ} {c hs st : List ℕ} {i at : ℕ} (s 
   pub from_first : Placed M.arity c st (get_or st at 0) at
   from_first = subst (λ (a : ℕ). Placed M.arity c st a at) (sym (placed_first s.laid)) s.laid
 
-  pub to_first : {end r : ℕ} → Joins M.arity c hs (get_or st at 0) at end r → Joins M.arity c hs i at end r
-  to_first {end} {r} = subst (λ (a : ℕ). Joins M.arity c hs a at end r) (placed_first s.laid)
+  pub to_first : {end r : ℕ} → Joined M.arity c hs (get_or st at 0) at end r → Joined M.arity c hs i at end r
+  to_first {end} {r} = subst (λ (a : ℕ). Joined M.arity c hs a at end r) (placed_first s.laid)
+
+  pub to_none : (end : ℕ) → (Falling (take (end - at) (codes M.arity (drop (get_or st at 0) c))) → ⊥) → Falling (take (end - at) (codes M.arity (drop i c))) → ⊥
+  to_none end = subst (λ (a : ℕ). Falling (take (end - at) (codes M.arity (drop a c))) → ⊥) (placed_first s.laid)
 
 module _ {M : Marks} {limit : ℕ → ℕ} {c hs st : List ℕ} {i at : ℕ} (s : Scan M limit c hs st i at) (few : length c ≤ size) (l : 1 < i) where
   abbrev k : ℕ
@@ -79,18 +75,17 @@ module _ {M : Marks} {limit : ℕ → ℕ} {c hs st : List ℕ} {i at : ℕ} (s 
   children : (end : ℕ) → end ≡ at + k → take (end - at) (codes M.arity (drop i c)) ≡ take k (codes M.arity (drop i c))
   children end e = let n : end - at ≡ k = omega arith in ap (λ (a : ℕ). take a (codes M.arity (drop i c))) n
 
-  next_here : {h : ℕ} → M.arity (get_or c (i - 1) 0) < limit (get_or c (i - 1) 0) → at + M.arity (get_or c (i - 1) 0) ≤ size → Joins M.arity c hs i at (at + M.arity (get_or c (i - 1) 0)) h → 0 < h
+  next_here : {h : ℕ} → M.arity (get_or c (i - 1) 0) < limit (get_or c (i - 1) 0) → at + M.arity (get_or c (i - 1) 0) ≤ size → Joined M.arity c hs i at (at + M.arity (get_or c (i - 1) 0)) h
       → Scan M limit c (set hs (at + M.arity (get_or c (i - 1) 0) - 1) h) (set st (at + M.arity (get_or c (i - 1) 0) - 1) (i - 1)) (i - 1) (at + M.arity (get_or c (i - 1) 0) - 1)
-  next_here {h} low fit j g =
-      let (e, f) = j.good g in
+  next_here {h} low fit j =
       let n : size - (at + k - 1) ≡ suc (size - (at + k)) = omega (arith, scan-room) in
       let m : size - at ≡ k + (size - (at + k)) = omega arith in
       let o : Ends (k + (size - (at + k))) (digits M.arity (drop i c)) = subst (λ (a : ℕ). Ends a (digits M.arity (drop i c))) m s.ends in
       record {
-        stacked = stack-next s.stacked few l fit e;
+        stacked = stack-next s.stacked few l fit j.tall;
         laid = placed_next s.laid (omega arith) inside scan-room fit;
         ends = rw (n, first) o;
-        ordered = rw first (subst Falling (children (at + k) refl) f, s.ordered);
+        ordered = rw first (subst Falling (children (at + k) refl) j.fall, s.ordered);
         small = λ j a b. look j a b (ℕ_discrete (i - 1) j);
       }
     where
@@ -99,10 +94,10 @@ module _ {M : Marks} {limit : ℕ → ℕ} {c hs st : List ℕ} {i at : ℕ} (s 
       look j a b (no n) = s.small j (omega arith) b
 
   -- one mark more, of n children
-  pub scan-next : {h n : ℕ} → n ≡ M.arity (get_or c (i - 1) 0) → n < limit (get_or c (i - 1) 0) → at + n ≤ size → Joins M.arity c hs i at (at + n) h → 0 < h
+  pub scan-next : {h n : ℕ} → n ≡ M.arity (get_or c (i - 1) 0) → n < limit (get_or c (i - 1) 0) → at + n ≤ size → Joined M.arity c hs i at (at + n) h
       → Scan M limit c (set hs (at + n - 1) h) (set st (at + n - 1) (i - 1)) (i - 1) (at + n - 1)
   scan-next {h} {n} e =
-      subst (λ (n : ℕ). n < limit (get_or c (i - 1) 0) → at + n ≤ size → Joins M.arity c hs i at (at + n) h → 0 < h → Scan M limit c (set hs (at + n - 1) h) (set st (at + n - 1) (i - 1)) (i - 1) (at + n - 1))
+      subst (λ (n : ℕ). n < limit (get_or c (i - 1) 0) → at + n ≤ size → Joined M.arity c hs i at (at + n) h → Scan M limit c (set hs (at + n - 1) h) (set st (at + n - 1) (i - 1)) (i - 1) (at + n - 1))
       (sym e) next_here
 
   -- or the marks are no right code
@@ -115,11 +110,11 @@ module _ {M : Marks} {limit : ℕ → ℕ} {c hs st : List ℕ} {i at : ℕ} (s 
   pub not_served : size < at + M.arity (get_or c (i - 1) 0) → Rightₗ M.arity limit size c → ⊥
   not_served h r = let z : ⊥ = omega (arith, served r, s.laid.count, s.laid.inside) in z
 
-  pub not_falling : {h n : ℕ} → n ≡ M.arity (get_or c (i - 1) 0) → Joins M.arity c hs i at (at + n) h → h ≡ 0 → Rightₗ M.arity limit size c → ⊥
-  not_falling {h} q l e r =
-      let j = subst (λ (n : ℕ). Joins M.arity c hs i at (at + n) h) q l in
+  pub not_falling : {n : ℕ} → n ≡ M.arity (get_or c (i - 1) 0) → (Falling (take (at + n - at) (codes M.arity (drop i c))) → ⊥) → Rightₗ M.arity limit size c → ⊥
+  not_falling q l r =
+      let j = subst (λ (n : ℕ). Falling (take (at + n - at) (codes M.arity (drop i c))) → ⊥) q l in
       let f : Falling (take k (codes M.arity (drop (suc (i - 1)) c))) = (by_places M.arity c).0 r.ordered (i - 1) (omega (arith, inside)) in
-      j.bad e (subst Falling (sym (children (at + k) refl)) (subst (λ (a : ℕ). Falling (take k (codes M.arity (drop a c)))) back f))
+      j (subst Falling (sym (children (at + k) refl)) (subst (λ (a : ℕ). Falling (take k (codes M.arity (drop a c)))) back f))
 
 -- the root
 module _ {M : Marks} {limit : ℕ → ℕ} {c hs st : List ℕ} {at : ℕ} (s : Scan M limit c hs st 1 at) (few : length c ≤ size) where
@@ -138,19 +133,18 @@ module _ {M : Marks} {limit : ℕ → ℕ} {c hs st : List ℕ} {at : ℕ} (s : 
   pub root_open : (at + M.arity (get_or c 0 0) ≡ size → ⊥) → Tells (Rightₗ M.arity limit size c) false
   root_open n = denies (λ r. n (omega (arith, filled r, s.laid.count, s.laid.inside)))
 
-  module _ {h : ℕ} (full : at + M.arity (get_or c 0 0) ≡ size) (j : Joins M.arity c hs 1 at size h) where
+  module _ (full : at + M.arity (get_or c 0 0) ≡ size) where
     children-root : take (size - at) (codes M.arity (drop 1 c)) ≡ take root (codes M.arity (drop 1 c))
     children-root = let n : size - at ≡ root = omega arith in ap (λ (a : ℕ). take a (codes M.arity (drop 1 c))) n
 
-    pub root_rising : h ≡ 0 → Tells (Rightₗ M.arity limit size c) false
-    root_rising e = denies (λ r. j.bad e (subst Falling (sym children-root) ((by_places M.arity c).0 r.ordered 0 s.stacked.within)))
+    pub root_rising : (Falling (take (size - at) (codes M.arity (drop 1 c))) → ⊥) → Tells (Rightₗ M.arity limit size c) false
+    root_rising n = denies (λ r. n (subst Falling (sym children-root) ((by_places M.arity c).0 r.ordered 0 s.stacked.within)))
 
-    pub root_right : M.arity (get_or c 0 0) ≤ limit (get_or c 0 0) → 0 < h → Tells (Rightₗ M.arity limit size c) true
-    root_right low g =
-        let (e, f) = j.good g in
+    pub root_right : {h : ℕ} → Joined M.arity c hs 1 at size h → M.arity (get_or c 0 0) ≤ limit (get_or c 0 0) → Tells (Rightₗ M.arity limit size c) true
+    root_right j low =
         let n : size - at ≡ root + 0 = omega arith in
         let o : Ends 1 (digits M.arity (get_or c 0 0 ∷ drop 1 c)) = subst (λ (a : ℕ). Ends a (digits M.arity (drop 1 c))) n s.ends in
-        let p : Ordered M.arity (get_or c 0 0 ∷ drop 1 c) = (subst Falling children-root f, s.ordered) in
+        let p : Ordered M.arity (get_or c 0 0 ∷ drop 1 c) = (subst Falling children-root j.fall, s.ordered) in
         holds (record {
           some = s.stacked.within;
           few = few;

@@ -29,9 +29,9 @@ ghost use Rattle.centred_check.specs.Spot.{Spot};
 
 use digit_code::{Order, compare};
 use limits::{ATOMS, SIZE};
-use refusal::Check;
+use refusal::Refusal;
 
-// Places for where the trees on the stack begin, one for each, and one more for where the digits end. No place of the stack has this number.
+// Places for where the trees on the stack begin, one for each, and one more for where the digits end.
 pub const STARTS: usize = SIZE + 1;
 
 // How far the mark of a vertex with one child more is from a mark.
@@ -66,17 +66,14 @@ fn falls_at(code: &[u8], a: usize, b: usize, e: usize) -> bool
 {
     let x = code[a];
     let y = code[b];
-    if y < x {
-        return true;
-    }
-    if x < y {
-        return false;
+    if x != y {
+        return y < x;
     }
     digit_code::falls(&code[a + 1..b], &code[b + 1..e])
 }
 
-// How tall a mark's tree is whose children are the trees from `at` to `end`; 0 where one of them is larger than the one before it.
-fn joined(named: bool, code: &[u8], hs: &[u8], starts: &[u8], at: usize, end: usize) -> u8
+// How tall a mark's tree is whose children are the trees from `at` to `end`; none where one of them is larger than the one before it.
+fn joined(named: bool, code: &[u8], hs: &[u8], starts: &[u8], at: usize, end: usize) -> Option<u8>
     requires placed { Placed (kinds named).arity code.now starts.now (get_or starts.now at 0) at }
     requires at_le_end { at ≤ end }
     requires end_le_size { end ≤ size }
@@ -85,24 +82,19 @@ fn joined(named: bool, code: &[u8], hs: &[u8], starts: &[u8], at: usize, end: us
     ensures { Joins (kinds named).arity code.now hs.now (get_or starts.now at 0) at end result }
 {
     if end <= at {
-        return 1;
+        return Some(1);
     }
-    let mut j = end - 1;
-    let mut best = hs[j];
-    while at < j {
-        let e = starts[j + 1] as usize;
-        let b = starts[j] as usize;
-        j -= 1;
+    let mut best = hs[end - 1];
+    for j in (at..end - 1).rev() {
         let a = starts[j] as usize;
+        let b = starts[j + 1] as usize;
+        let e = starts[j + 2] as usize;
         if !falls_at(code, a, b, e) {
-            return 0;
+            return None;
         }
-        let h = hs[j];
-        if best < h {
-            best = h;
-        }
+        best = best.max(hs[j]);
     }
-    best + 1
+    Some(best + 1)
 }
 
 // Whether the marks are a right code, where all but the root's are read.
@@ -121,20 +113,11 @@ fn rooted(
     ensures { Tells (Rightₗ (kinds named).arity (λ m. limit) size code.now) result }
 {
     let k = ds[0];
-    if limit < k {
-        return false;
-    }
-    if at + k as usize != SIZE {
-        return false;
-    }
-    if joined(named, code, hs, starts, at, SIZE) == 0 {
-        return false;
-    }
-    true
+    k <= limit && at + k as usize == SIZE && joined(named, code, hs, starts, at, SIZE).is_some()
 }
 
 // Reads the marks from the last to the first. The trees behind a mark stand on a stack that grows down from the end of `hs` and `starts`:
-// how tall each is, and where it begins. The result is where the root's branches stand, above SIZE where the marks are no right code.
+// how tall each is, and where it begins. The result is where the root's branches stand; none where the marks are no right code.
 pub fn scan(
     named: bool,
     limit: u8,
@@ -142,7 +125,7 @@ pub fn scan(
     code: &[u8],
     hs: &mut [u8],
     starts: &mut [u8],
-) -> usize
+) -> Option<usize>
     requires ds_value { ds.now ≡ digits (kinds named).arity code.now }
     requires le_limit { 1 ≤ limit }
     requires hs_len { length hs.old ≡ size }
@@ -150,37 +133,29 @@ pub fn scan(
     ensures { Scanned (kinds named) (λ m. limit) code.now hs.new result }
 {
     let n = code.len();
-    if n == 0 {
-        return STARTS;
-    }
-    if SIZE < n {
-        return STARTS;
+    if n == 0 || SIZE < n {
+        return None;
     }
     starts[SIZE] = n as u8;
-    let mut i = n;
     let mut at = SIZE;
-    while 1 < i {
-        i -= 1;
+    for i in (1..n).rev() {
         let k = ds[i];
         if limit <= k {
-            return STARTS;
+            return None;
         }
         let end = at + k as usize;
         if SIZE < end {
-            return STARTS;
+            return None;
         }
-        let h = joined(named, code, hs, starts, at, end);
-        if h == 0 {
-            return STARTS;
-        }
+        let h = joined(named, code, hs, starts, at, end)?;
         at = end - 1;
         hs[at] = h;
         starts[at] = i as u8;
     }
     if !rooted(named, limit, ds, code, hs, starts, at) {
-        return STARTS;
+        return None;
     }
-    at
+    Some(at)
 }
 
 // The same answer, n pairs later.
@@ -204,9 +179,8 @@ fn compare_two(u: &[u8], a: &[u8], b: &[u8]) -> Order
         return compare(u, a);
     }
     match compare(&u[..n], a) {
-        Order::Less(k) => Order::Less(k),
         Order::Equal(k) => later(k, compare(&u[n..], b)),
-        Order::Greater(k) => Order::Greater(k),
+        o => o,
     }
 }
 
@@ -219,9 +193,8 @@ fn compare_three(u: &[u8], a: &[u8], b: &[u8], d: &[u8]) -> Order
         return compare(u, a);
     }
     match compare(&u[..n], a) {
-        Order::Less(k) => Order::Less(k),
         Order::Equal(k) => later(k, compare_two(&u[n..], b, d)),
-        Order::Greater(k) => Order::Greater(k),
+        o => o,
     }
 }
 
@@ -237,17 +210,13 @@ fn covers(named: bool, code: &[u8], x: usize, e: usize, y: usize, z: usize) -> b
 {
     let left = code[0] - step(named);
     let child = code[y];
-    if left < child {
-        return false;
+    if left != child {
+        return child < left;
     }
-    if child < left {
-        return true;
-    }
-    match compare_two(&code[y + 1..z], &code[1..x], &code[e..]) {
-        Order::Less(_) => true,
-        Order::Equal(_) => true,
-        Order::Greater(_) => false,
-    }
+    !matches!(
+        compare_two(&code[y + 1..z], &code[1..x], &code[e..]),
+        Order::Greater(_)
+    )
 }
 
 // Where what is left is put among the children of x: before the first that it stands at or after.
@@ -260,16 +229,13 @@ fn spot(named: bool, ds: &[u8], code: &[u8], x: usize, e: usize) -> usize
     requires bound { 1 ≤ (kinds named).arity (get_or code.now 0 0) }
     ensures { Spot (kinds named) code.now x e result }
 {
-    let k = ds[x];
     let mut y = x + 1;
-    let mut m = 0;
-    while m < k {
+    for m in 0..ds[x] {
         let z = skip(ds, y, 1);
         if covers(named, code, x, e, y, z) {
             return y;
         }
         y = z;
-        m += 1;
     }
     y
 }
@@ -285,17 +251,13 @@ fn over_rest(named: bool, code: &[u8], x: usize, y: usize, e: usize) -> bool
 {
     let left = code[0] - step(named);
     let here = code[y - x];
-    if here < left {
-        return false;
+    if here != left {
+        return left < here;
     }
-    if left < here {
-        return true;
-    }
-    match compare_three(&code[y - x + 1..], &code[1..x], &code[e..], &code[y..e]) {
-        Order::Less(_) => false,
-        Order::Equal(_) => true,
-        Order::Greater(_) => true,
-    }
+    !matches!(
+        compare_three(&code[y - x + 1..], &code[1..x], &code[e..], &code[y..e]),
+        Order::Less(_)
+    )
 }
 
 // Whether the marks behind the root stand at or after those behind x in the code at x.
@@ -324,11 +286,8 @@ fn above(named: bool, ds: &[u8], code: &[u8], p: usize) -> bool
     let x = skip(ds, 1, p);
     let left = code[0] - step(named);
     let there = code[x];
-    if left < there {
-        return false;
-    }
-    if there < left {
-        return true;
+    if left != there {
+        return there < left;
     }
     let e = skip(ds, x, 1);
     let y = spot(named, ds, code, x, e);
@@ -343,33 +302,23 @@ fn middle(named: bool, ds: &[u8], code: &[u8], hs: &[u8], from: usize) -> bool
     ensures { Tells (Middle (kinds named) code.now) result }
 {
     let mut first = 0;
-    let mut next = 0;
+    let mut next: u8 = 0;
     let mut at = hs.len();
-    let mut j = hs.len();
-    while from < j {
-        j -= 1;
+    for j in (from..hs.len()).rev() {
         let h = hs[j];
         if h < first {
-            if next < h {
-                next = h;
-            }
+            next = next.max(h);
         } else {
             next = first;
             first = h;
             at = j;
         }
     }
-    if first == next {
-        return true;
-    }
-    if first - 1 != next {
-        return false;
-    }
-    above(named, ds, code, at - from)
+    first == next || (first - 1 == next && above(named, ds, code, at - from))
 }
 
 // 14: a right code, whose branches' heights stand from `from` on, that is not the centred one.
-pub fn judged(named: bool, ds: &[u8], code: &[u8], hs: &[u8], from: usize) -> Check
+pub fn judged(named: bool, ds: &[u8], code: &[u8], hs: &[u8], from: usize) -> Result<(), Refusal>
     requires ds_value { ds.now ≡ digits (kinds named).arity code.now }
     requires ends { Ends 1 ds.now }
     requires ordered { Ordered (kinds named).arity code.now }
@@ -377,21 +326,20 @@ pub fn judged(named: bool, ds: &[u8], code: &[u8], hs: &[u8], from: usize) -> Ch
     ensures { Answers (row14ₗ (kinds named) (IsCentredₗ (kinds named)) code.now ∷ []) result }
 {
     if middle(named, ds, code, hs, from) {
-        return Check::Passed;
+        return Ok(());
     }
-    Check::Refuse(14, 0)
+    Err(Refusal { row: 14, place: 0 })
 }
 
 // Digits lent by themselves that are to be a centred code: 3, 10 to 13, and 14. Which of 3 to 13 a wrong code has is looked for again.
-pub fn check(limit: u8, code: &[u8]) -> Check
+pub fn check(limit: u8, code: &[u8]) -> Result<(), Refusal>
     requires { 1 ≤ limit }
     ensures { Answers (form_rows IsCentred size limit code.now) result }
 {
     let mut hs = [0u8; SIZE];
     let mut starts = [0u8; STARTS];
-    let from = scan(false, limit, code, code, &mut hs, &mut starts);
-    if SIZE < from {
+    let Some(from) = scan(false, limit, code, code, &mut hs, &mut starts) else {
         return digit_code::check(limit, code);
-    }
+    };
     judged(false, code, code, &hs, from)
 }

@@ -1,6 +1,6 @@
 // Every alkane of up to seven carbons, by its edge list. Vertices are numbered along the chain that the name is made from, and then along each side chain.
-use super::written::{bytes, digits};
-use refusal::Answer;
+use super::written;
+use refusal::{Refusal, Reported};
 use shown::text;
 use std::io;
 
@@ -49,19 +49,11 @@ fn sides(rt: &impl Print, edges: &[u8], v: u8, chain: u8) -> io::Result<()> {
     Ok(())
 }
 
-// A vertex with its side chains, where it is one of the chain.
-fn link(rt: &impl Print, edges: &[u8], v: u8, chain: u8) -> io::Result<()> {
-    if chain < v {
-        return Ok(());
-    }
-    carbon(rt, edges, v)?;
-    sides(rt, edges, v, chain)
-}
-
 // The condensed formula.
 fn formula(rt: &impl Print, edges: &[u8], chain: u8) -> io::Result<()> {
-    for v in 1..8 {
-        link(rt, edges, v, chain)?;
+    for v in 1..=chain {
+        carbon(rt, edges, v)?;
+        sides(rt, edges, v, chain)?;
     }
     Ok(())
 }
@@ -69,13 +61,9 @@ fn formula(rt: &impl Print, edges: &[u8], chain: u8) -> io::Result<()> {
 // The packed form at vertex 1 of the edge list in the first k bytes.
 fn packed(rt: &impl Print, n: usize, edges: &[u8], k: usize) -> io::Result<()> {
     let mut out = [0u8; 2];
-    if edges.len() < k {
-        return Ok(());
-    }
-    let r = zurkhovel::bit_tuple::pack(1, n, &edges[..k], 1, &mut out);
-    let a = r.answer;
-    if let Answer::Done(j) = a {
-        bytes(rt, &out, j)?;
+    let first = edges.get(..k).unwrap_or(&[]);
+    if let Ok(r) = zurkhovel::bit_tuple::pack(1, n, first, 1, &mut out) {
+        written::bytes(rt, &out, r.value)?;
     }
     Ok(())
 }
@@ -83,11 +71,17 @@ fn packed(rt: &impl Print, n: usize, edges: &[u8], k: usize) -> io::Result<()> {
 // The packed form of the centred code in the first n bytes.
 fn packed_code(rt: &impl Print, code: &[u8], n: usize) -> io::Result<()> {
     let mut edges = [0u8; 12];
-    if code.len() < n {
-        return Ok(());
-    }
-    if let Answer::Done(k) = zurkhovel::codes::decode_centred(1, &code[..n], &mut edges) {
+    let first = code.get(..n).unwrap_or(&[]);
+    if let Ok(k) = zurkhovel::codes::decode_centred(1, first, &mut edges) {
         packed(rt, n, &edges, k)?;
+    }
+    Ok(())
+}
+
+// The digits of a code that is given.
+fn code(rt: &impl Print, given: Result<Reported<usize>, Refusal>, digits: &[u8]) -> io::Result<()> {
+    if let Ok(r) = given {
+        written::digits(rt, digits, r.value)?;
     }
     Ok(())
 }
@@ -96,16 +90,16 @@ fn packed_code(rt: &impl Print, code: &[u8], n: usize) -> io::Result<()> {
 fn row(rt: &impl Print, name: &[u8], n: usize, edges: &[u8], chain: u8) -> io::Result<()> {
     let mut centred = [0u8; 7];
     let mut tuple = [0u8; 7];
-    zurkhovel::codes::centred_code(1, n, edges, &mut centred);
-    zurkhovel::codes::n_tuple_code(1, n, edges, &mut tuple);
+    let by_centre = zurkhovel::codes::centred_code(1, n, edges, &mut centred);
+    let widest = zurkhovel::codes::n_tuple_code(1, n, edges, &mut tuple);
     text(rt, b"| ")?;
     text(rt, name)?;
     text(rt, b" | ")?;
     formula(rt, edges, chain)?;
     text(rt, b" | ")?;
-    digits(rt, &centred, n)?;
+    code(rt, by_centre, &centred)?;
     text(rt, b" | ")?;
-    digits(rt, &tuple, n)?;
+    code(rt, widest, &tuple)?;
     text(rt, b" |")?;
     packed_code(rt, &centred, n)?;
     text(rt, b" |\n")

@@ -1,8 +1,7 @@
 // Skeletons with named atoms: methanol, a chain of six with a nitrogen, ethanol and dimethyl ether; and a named line for each refusal number.
-use super::carried::verdict;
 use super::refusals::read;
 use super::written::line;
-use shown::{answer, both, both_reported, given, lettered, number, reported, text};
+use shown::{answer, both, given, lettered, text};
 use std::io;
 
 fn centred(rt: &impl Print, n: usize, edges: &[u8], letters: &[u8]) -> io::Result<()> {
@@ -10,7 +9,7 @@ fn centred(rt: &impl Print, n: usize, edges: &[u8], letters: &[u8]) -> io::Resul
     let mut spelling = [0u8; 6];
     lettered(rt, b"centred_code", n, edges, letters)?;
     let a = named::codes::centred_code(n, edges, letters, &mut out, &mut spelling);
-    both_reported(rt, a, &out, &spelling, n)
+    both(rt, a, &out, &spelling, n)
 }
 
 // Of a chain of six, at a vertex.
@@ -18,10 +17,9 @@ fn rooted(rt: &impl Print, edges: &[u8], letters: &[u8], v: usize) -> io::Result
     let mut out = [0u8; 6];
     let mut spelling = [0u8; 6];
     lettered(rt, b"rooted_code", 6, edges, letters)?;
-    text(rt, b", ")?;
-    number(rt, v as u64)?;
+    print!(rt; ", {v}")?;
     let a = named::codes::rooted_code(6, edges, letters, v, &mut out, &mut spelling);
-    both_reported(rt, a, &out, &spelling, 6)
+    both(rt, a, &out, &spelling, 6)
 }
 
 // At the two middles of the chain; and what its digits are by themselves.
@@ -40,14 +38,14 @@ fn same(rt: &impl Print, letters1: &[u8], edges2: &[u8], letters2: &[u8]) -> io:
     text(rt, b", ")?;
     text(rt, letters2)?;
     let r = named::codes::same_skeleton(3, &[1, 2, 2, 3], letters1, 3, edges2, letters2);
-    verdict(rt, r)
+    answer(rt, r, &[])
 }
 
 fn classes(rt: &impl Print, letters: &[u8]) -> io::Result<()> {
     let mut out = [0u8; 3];
     lettered(rt, b"equal_vertices", 3, &[1, 2, 2, 3], letters)?;
     let a = named::alike::equal_vertices(3, &[1, 2, 2, 3], letters, &mut out);
-    reported(rt, a, &out)
+    answer(rt, a, &out)
 }
 
 // The packed form at vertex 1, and the named line, of two vertices.
@@ -56,10 +54,10 @@ fn two(rt: &impl Print, letters: &[u8]) -> io::Result<()> {
     lettered(rt, b"pack", 2, &[1, 2], letters)?;
     text(rt, b", 1")?;
     let a = named::carbon::pack(2, &[1, 2], letters, 1, &mut out);
-    reported(rt, a, &out)?;
+    answer(rt, a, &out)?;
     lettered(rt, b"write_line", 2, &[1, 2], letters)?;
     let b = named::text::write_line(2, &[1, 2], letters, &mut out);
-    reported(rt, b, &out)
+    answer(rt, b, &out)
 }
 
 // The first line of a text, and as many letters as it has digits.

@@ -1,6 +1,6 @@
 // A line, or a call, for each refusal number.
 use super::written::line;
-use shown::{answer, numbered, reported, sized, text};
+use shown::{answer, numbered, rooted, sized, text};
 use std::io;
 
 // The first line of a text, with room for 64 digits.
@@ -40,8 +40,7 @@ fn no_centred_code(rt: &impl Print) -> io::Result<()> {
 
 // An edge list, with vertex 1 for a root.
 fn edges(rt: &impl Print, n: usize, list: &[u8]) -> io::Result<()> {
-    sized(rt, b"check_edges", n, list)?;
-    text(rt, b", 1")?;
+    rooted(rt, b"check_edges", n, list, 1)?;
     answer(rt, zurkhovel::codes::check_edges(1, n, list, 1), &[])
 }
 
@@ -64,7 +63,7 @@ fn numbers(rt: &impl Print) -> io::Result<()> {
     sized(rt, b"centred_code", 3, &[1, 2, 2, 3])?;
     text(rt, b" into 2 bytes")?;
     let c = zurkhovel::codes::centred_code(1, 3, &[1, 2, 2, 3], &mut out);
-    reported(rt, c, &out)
+    answer(rt, c, &out)
 }
 
 pub(crate) fn answers(rt: &impl Print) -> io::Result<()> {

@@ -1,7 +1,11 @@
 -- The lowest place of row 13 over all marks, kept while the marks are gone through. Assumes nothing.
+use Rattle.std.specs.Prelude.{Ok, Err}
 use mathlib.Core.Path.{◌≡◌, sym, ap, ◌∙◌, subst}
 use mathlib.Core.List.{List, [], ◌∷◌}
 use Prim.Native.Nat.{ℕ, suc, ◌+◌, ◌-◌, ◌≤◌, ◌<◌}
+use Rattle.std.proofs.Common.{Option, None, Some, min}
+use Rattle.std.proofs.Math.Nat.{min-le_left, min-le_right, min-eq_left, min-eq_right}
+use Rattle.std.specs.Option.{unwrap_or}
 use native.Mathlib.Decide.{dec_lt, ℕ_discrete}
 use native.Mathlib.Omega.{arith}
 use lib.ListN.{length, get_or, take, drop}
@@ -9,64 +13,49 @@ use lib.Seq.{take-nil}
 use Rattle.refusal.specs.Checks.{Answers, passes, fails}
 use Rattle.refusal.specs.Laws.{clear_one}
 use Rattle.refusal.proofs.Laws.{first-place}
-use Rattle.refusal.specs.declared.Check.TheVariants.{Passed, Refuse}
 use Rattle.digit_code.specs.document.Code.{codes, child_codes, LargerOf, Larger, row13}
 use Rattle.digit_code.specs.Parts.{codes_past}
-use Rattle.digit_code.specs.Search.{FirstOf, Lower}
+use Rattle.digit_code.specs.Search.{FirstOf}
 
--- best is the lowest place of a larger child of the first i marks, 0 where there is none
-pub record Best (arity : ℕ → ℕ) (c : List ℕ) (i best : ℕ) : Type 0 where
-  pub none : best ≡ 0 → (v p : ℕ) → 1 ≤ v → v ≤ i → LargerOf arity c v p → ⊥
-  pub some : 0 < best → Larger arity c best
-  pub first : (v p : ℕ) → 1 ≤ v → v ≤ i → LargerOf arity c v p → best ≤ p
+-- best is the lowest place of a larger child of the first i marks, if there is one
+abbrev pub Best : (arity : ℕ → ℕ) (c : List ℕ) (i : ℕ) → Option ℕ → Type 0
+Best arity c i None = (v p : ℕ) → 1 ≤ v → v ≤ i → LargerOf arity c v p → ⊥
+Best arity c i (Some b) = Larger arity c b × ((v p : ℕ) → 1 ≤ v → v ≤ i → LargerOf arity c v p → b ≤ p)
 
-pub best_none : {arity : ℕ → ℕ} (c : List ℕ) → Best arity c 0 0
-best_none c =
-    record {
-      none = λ e v p h k. absurd (let z : ⊥ = omega arith in z);
-      some = λ h. absurd (let z : ⊥ = omega arith in z);
-      first = λ v p h k. absurd (let z : ⊥ = omega arith in z);
-    }
+pub best_none : {arity : ℕ → ℕ} (c : List ℕ) → Best arity c 0 None
+best_none c v p h k g = absurd (let z : ⊥ = omega arith in z)
 
-module _ {arity : ℕ → ℕ} {c : List ℕ} {i best r next : ℕ} (b : Best arity c i best) (f : FirstOf arity c (suc i) r) (l : Lower best r next) where
-  -- the marks passed, and the next one
-  either : (P : ℕ → Type 0) → ((v : ℕ) → 1 ≤ v → v ≤ i → P v) → P (suc i) → (v : ℕ) → 1 ≤ v → v ≤ i + 1 → P v
-  either P old new v h k = split (ℕ_discrete (suc i) v)
+-- the marks passed, and the next one
+either : {i : ℕ} (P : ℕ → Type 0) → ((v : ℕ) → 1 ≤ v → v ≤ i → P v) → P (suc i) → (v : ℕ) → 1 ≤ v → v ≤ i + 1 → P v
+either {i} P old new v h k = split (ℕ_discrete (suc i) v)
+  where
+    split : Dec (suc i ≡ v) → P v
+    split (yes e) = subst P e new
+    split (no n) = old v h (omega arith)
+
+module _ {arity : ℕ → ℕ} {c : List ℕ} {i : ℕ} where
+  -- the next mark has no larger child
+  pub best_same : (best : Option ℕ) → Best arity c i best → FirstOf arity c (suc i) None → Best arity c (i + 1) best
+  best_same None b f = λ v p h k g. either (λ w. LargerOf arity c w p → ⊥) (λ w m n. b w p m n) (f p) v h k g
+  best_same (Some q) (l, b) f = (l, λ v p h k g. either (λ w. LargerOf arity c w p → q ≤ p) (λ w m n. b w p m n) (λ x. absurd (f p x)) v h k g)
+
+  -- it has one at r
+  pub best_lower : (best : Option ℕ) {r : ℕ} → Best arity c i best → FirstOf arity c (suc i) (Some r) → Best arity c (i + 1) (Some (min (unwrap_or best r) r))
+  best_lower None {r} b (l, f) =
+      let e : r ≡ min r r = sym (min-eq_left (omega arith)) in (
+        subst (Larger arity c) e (record { parent = suc i; some = omega arith; child = l }),
+        λ v p h k g. either (λ w. LargerOf arity c w p → min r r ≤ p) (λ w m n x. absurd (b w p m n x)) (λ x. omega (arith, e, f p x)) v h k g,
+      )
+  best_lower (Some q) {r} (l, b) (m, f) = (
+    split (dec_lt q r),
+    λ v p h k g. either (λ w. LargerOf arity c w p → min q r ≤ p)
+        (λ w a o x. omega (arith, min-le_left q r, b w p a o x))
+        (λ x. omega (arith, min-le_right q r, f p x)) v h k g,
+  )
     where
-      split : Dec (suc i ≡ v) → P v
-      split (yes e) = subst P e new
-      split (no n) = old v h (omega arith)
-
-  lower-left : (v p : ℕ) → 1 ≤ v → v ≤ i → LargerOf arity c v p → next ≤ p
-  lower-left v p h k g = split (dec_lt 0 best)
-    where
-      split : Dec (0 < best) → next ≤ p
-      split (yes s) = omega (arith, l.left s, b.first v p h k g)
-      split (no n) = absurd (b.none (omega arith) v p h k g)
-
-  lower_right : (p : ℕ) → LargerOf arity c (suc i) p → next ≤ p
-  lower_right p g = split (dec_lt 0 r)
-    where
-      split : Dec (0 < r) → next ≤ p
-      split (yes s) = omega (arith, l.right s, f.first p g)
-      split (no n) = absurd (f.none (omega arith) p g)
-
-  one_of : 0 < next → Larger arity c next
-  one_of h = split (ℕ_discrete best next)
-    where
-      split : Dec (best ≡ next) → Larger arity c next
-      split (yes e) = subst (Larger arity c) e (b.some (omega arith))
-      split (no n) =
-          let e : r ≡ next = sym (l.either (λ q. n (sym q))) in
-          record { parent = suc i; some = omega arith; child = subst (LargerOf arity c (suc i)) e (f.some (omega arith)) }
-
-  pub best_next : Best arity c (i + 1) next
-  best_next =
-      record {
-        none = λ e. let z = l.none e in λ v p h k g. either (λ w. LargerOf arity c w p → ⊥) (λ w m n. b.none z.0 w p m n) (f.none z.1 p) v h k g;
-        some = one_of;
-        first = λ v p h k g. either (λ w. LargerOf arity c w p → next ≤ p) (λ w m n. lower-left w p m n) (lower_right p) v h k g;
-      }
+      split : Dec (q < r) → Larger arity c (min q r)
+      split (yes s) = subst (Larger arity c) (sym (min-eq_left (omega arith))) l
+      split (no n) = subst (Larger arity c) (sym (min-eq_right (omega arith))) (record { parent = suc i; some = omega arith; child = m })
 
 -- a mark that has children is one of the code's
 parent_inside : {arity : ℕ → ℕ} {c : List ℕ} {v p : ℕ} → LargerOf arity c v p → 1 ≤ v → v ≤ length c
@@ -80,15 +69,12 @@ parent_inside {arity} {c} {v} g h = split (dec_lt (length c) v)
         absurd (let z : ⊥ = omega (arith, g.siblings) in z)
     split (no n) = omega arith
 
-module _ {arity : ℕ → ℕ} {c : List ℕ} {i best : ℕ} (b : Best arity c i best) (all : length c ≤ i) where
+module _ {arity : ℕ → ℕ} {c : List ℕ} {i : ℕ} (all : length c ≤ i) where
   -- no place, or the lowest
-  pub all_fall : best ≡ 0 → Answers (row13 arity c ∷ []) Passed
-  all_fall e =
-      passes (clear_one {r = row13 arity c} (λ p g. b.none e g.parent p g.some (omega (arith, parent_inside g.child g.some)) g.child))
+  pub all_fall : Best arity c i None → Answers (row13 arity c ∷ []) (Ok tt)
+  all_fall b = passes (clear_one {r = row13 arity c} (λ p g. b g.parent p g.some (omega (arith, parent_inside g.child g.some)) g.child))
 
-  pub one-rises : (best ≡ 0 → ⊥) → Answers (row13 arity c ∷ []) (Refuse 13 best)
-  one-rises n =
+  pub one-rises : {best : ℕ} → Best arity c i (Some best) → Answers (row13 arity c ∷ []) (Err (record { row = 13; place = best }))
+  one-rises (l, b) =
       fails
-      (first-place {r = row13 arity c}
-      (b.some (omega arith))
-      (λ q l g. let z : ⊥ = omega (arith, b.first g.parent q g.some (omega (arith, parent_inside g.child g.some)) g.child) in z))
+      (first-place {r = row13 arity c} l (λ q h g. let z : ⊥ = omega (arith, b g.parent q g.some (omega (arith, parent_inside g.child g.some)) g.child) in z))

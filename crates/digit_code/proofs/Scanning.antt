@@ -9,6 +9,7 @@ use native.Mathlib.Decide.{ℕ_discrete}
 use native.Mathlib.Omega.{arith}
 use lib.ListN.{length, get_or, set, length-set}
 use lib.Seq.{get_or-set_same, get_or-set_other}
+use Rattle.std.proofs.Common.{None, Some}
 use Rattle.laws.specs.document.Order.{◌≽◌}
 use Rattle.laws.specs.Part.{part}
 use Rattle.limits.specs.document.Limits.{size}
@@ -86,10 +87,8 @@ line_first h = record { some = omega arith; last_one = begin h; falls = λ j l. 
 
 module _ {arity : ℕ → ℕ} {c ends : List ℕ} {i m a : ℕ} (known : Known arity c ends 0) (inside : i < length c) (l : Line arity c i m a) where
   -- behind the last child none is larger
-  pub line-last : arity (get_or c i 0) ≤ m → FirstOf arity c (suc i) 0
-  line-last h =
-      let n = none-larger arity c known.whole i inside (λ j s. l.falls j (omega arith)) in
-      record { none = λ e. n; some = λ s. absurd (let z : ⊥ = omega arith in z); first = λ p g. absurd (n p g) }
+  pub line-last : arity (get_or c i 0) ≤ m → FirstOf arity c (suc i) None
+  line-last h = none-larger arity c known.whole i inside (λ j s. l.falls j (omega arith))
 
   module _ (h : m < arity (get_or c i 0)) where
     one : Ending arity c a (get_or ends a 0)
@@ -131,12 +130,8 @@ module _ {arity : ℕ → ℕ} {c ends : List ℕ} {i m a : ℕ} (known : Known 
         }
 
     pub line_stops :
-        (part a (get_or ends a 0) c ≽ part (get_or ends a 0) (get_or ends (get_or ends a 0) 0) c → ⊥) → FirstOf arity c (suc i) (get_or ends a 0 + 1)
+        (part a (get_or ends a 0) c ≽ part (get_or ends a 0) (get_or ends (get_or ends a 0) 0) c → ⊥) → FirstOf arity c (suc i) (Some (get_or ends a 0 + 1))
     line_stops n =
         let f : Fall arity c i (suc (m - 1)) = rw counted l.falls in
         let s : suc (m - 1) < arity (get_or c i 0) = rw counted h in
-        record {
-          none = λ e. absurd (let z : ⊥ = omega arith in z);
-          some = λ p. larger_here arity c known.whole i inside f s l.last_one one two n;
-          first = no_earlier arity c known.whole i inside f s l.last_one one two;
-        }
+        (larger_here arity c known.whole i inside f s l.last_one one two n, no_earlier arity c known.whole i inside f s l.last_one one two)

@@ -13,13 +13,13 @@ ghost use Rattle.digit_code.specs.Ends.{Ends};
 ghost use Rattle.digit_code.specs.Parts.{Ending};
 ghost use Rattle.digit_code.specs.Stack.{Pushed};
 ghost use Rattle.digit_code.specs.Compare.{lex};
-ghost use Rattle.digit_code.specs.Search.{Known, FirstOf, Lower};
+ghost use Rattle.digit_code.specs.Search.{Known, FirstOf};
 ghost use Rattle.digit_code.specs.Two.{arity_of};
 
 use limits::SIZE;
-use refusal::Check;
+use refusal::Refusal;
 
-// How one code stands to another in the dictionary, and how many pairs of digits were looked at to tell.
+// How one code stands to another in the dictionary, and how many pairs of digits were looked at to tell. std's `Ordering` has no place for that number.
 #[derive(Clone, Copy)]
 pub enum Order {
     Less(usize),
@@ -31,25 +31,22 @@ pub enum Order {
 pub fn compare(a: &[u8], b: &[u8]) -> Order
     ensures { result ≡ lex a.now b.now }
 {
-    let mut i = 0;
-    while i < a.len() {
+    for (i, x) in a.iter().enumerate() {
         if b.len() <= i {
             return Order::Greater(i);
         }
-        let x = a[i];
         let y = b[i];
-        if x < y {
+        if *x < y {
             return Order::Less(i + 1);
         }
-        if y < x {
+        if y < *x {
             return Order::Greater(i + 1);
         }
-        i += 1;
     }
-    if i < b.len() {
-        return Order::Less(i);
+    if a.len() < b.len() {
+        return Order::Less(a.len());
     }
-    Order::Equal(i)
+    Order::Equal(a.len())
 }
 
 // Whether a stands at or after b in the dictionary.
@@ -72,38 +69,43 @@ pub fn top(limit: u8, p: usize) -> u8
 }
 
 // 10: a digit above its cap, those behind the code's end too.
-pub fn capped(limit: u8, code: &[u8]) -> Check
+pub fn capped(limit: u8, code: &[u8]) -> Result<(), Refusal>
     requires { 1 ≤ limit }
     ensures { Answers (row10 limit code.now ∷ []) result }
 {
-    let mut p = 1;
-    while p <= code.len() {
-        if top(limit, p) < code[p - 1] {
-            return Check::Refuse(10, p);
+    for (i, k) in code.iter().enumerate() {
+        if top(limit, i + 1) < *k {
+            return Err(Refusal {
+                row: 10,
+                place: i + 1,
+            });
         }
-        p += 1;
     }
-    Check::Passed
+    Ok(())
 }
 
 // 11 and 12: the code ends before the digits do, or not at all. `open` counts the places that are still to be filled.
-pub fn ended(code: &[u8]) -> Check
+pub fn ended(code: &[u8]) -> Result<(), Refusal>
     requires { length code.now ≤ size }
     ensures { Answers (row11 code.now ∷ row12 code.now ∷ []) result }
 {
     let mut open: usize = 1;
-    let mut i = 0;
-    while i < code.len() {
-        open = open - 1 + code[i] as usize;
-        i += 1;
+    for (i, k) in code.iter().enumerate() {
+        open = open - 1 + *k as usize;
         if open == 0 {
-            if i < code.len() {
-                return Check::Refuse(11, i + 1);
+            if i + 1 < code.len() {
+                return Err(Refusal {
+                    row: 11,
+                    place: i + 2,
+                });
             }
-            return Check::Passed;
+            return Ok(());
         }
     }
-    Check::Refuse(12, i)
+    Err(Refusal {
+        row: 12,
+        place: code.len(),
+    })
 }
 
 // Where the part that begins at digit i ends, from where those behind it do.
@@ -112,12 +114,9 @@ fn end_of(code: &[u8], ends: &[u8], i: usize) -> usize
     requires i_in_bounds { i < length code.now }
     ensures { Ending plain code.now i result }
 {
-    let k = code[i];
     let mut e = i + 1;
-    let mut m = 0;
-    while m < k {
+    for _ in 0..code[i] {
         e = ends[e] as usize;
-        m += 1;
     }
     e
 }
@@ -129,51 +128,32 @@ pub fn ends_of(code: &[u8], ends: &mut [u8])
     requires ends_len { length ends.old ≡ size }
     ensures { Known plain code.now ends.new 0 }
 {
-    let mut i = code.len();
-    while 0 < i {
-        i -= 1;
-        let e = end_of(code, ends, i);
-        ends[i] = e as u8;
+    for i in (0..code.len()).rev() {
+        ends[i] = end_of(code, ends, i) as u8;
     }
 }
 
-// The first mark of the first child of mark i that is larger than the sibling before it, by the mark's number; 0 where none is.
-fn larger_of(named: bool, ds: &[u8], ms: &[u8], ends: &[u8], i: usize) -> usize
+// The first mark of the first child of mark i that is larger than the sibling before it, by the mark's number.
+fn larger_of(named: bool, ds: &[u8], ms: &[u8], ends: &[u8], i: usize) -> Option<usize>
     requires ds_value { ds.now ≡ digits (arity_of named) ms.now }
     requires known { Known (arity_of named) ms.now ends.now 0 }
     requires i_in_bounds { i < length ms.now }
     ensures { FirstOf (arity_of named) ms.now (suc i) result }
 {
-    let k = ds[i];
     let mut a = i + 1;
-    let mut m = 1;
-    while m < k {
+    for _ in 1..ds[i] {
         let b = ends[a] as usize;
         let e = ends[b] as usize;
         if !falls(&ms[a..b], &ms[b..e]) {
-            return b + 1;
+            return Some(b + 1);
         }
         a = b;
-        m += 1;
     }
-    0
-}
-
-// The lower of two places, where 0 is none.
-fn lower(a: usize, b: usize) -> usize
-    ensures { Lower a b result }
-{
-    if a == 0 {
-        return b;
-    }
-    if b == 0 {
-        return a;
-    }
-    if a < b { a } else { b }
+    None
 }
 
 // 13: a child's code larger than that of the sibling before it, where the digits `ds` tell the parts and the marks `ms` are compared.
-pub fn ordered_marks(named: bool, ds: &[u8], ms: &[u8]) -> Check
+pub fn ordered_marks(named: bool, ds: &[u8], ms: &[u8]) -> Result<(), Refusal>
     requires ds_value { ds.now ≡ digits (arity_of named) ms.now }
     requires ends { Ends 1 ds.now }
     requires ds_len_bound { length ds.now ≤ size }
@@ -181,21 +161,20 @@ pub fn ordered_marks(named: bool, ds: &[u8], ms: &[u8]) -> Check
 {
     let mut ends = [0u8; SIZE];
     ends_of(ds, &mut ends);
-    let mut best = 0;
-    let mut i = 0;
-    while i < ms.len() {
-        let p = larger_of(named, ds, ms, &ends, i);
-        best = lower(best, p);
-        i += 1;
+    let mut best: Option<usize> = None;
+    for i in 0..ms.len() {
+        if let Some(p) = larger_of(named, ds, ms, &ends, i) {
+            best = Some(best.unwrap_or(p).min(p));
+        }
     }
-    if best == 0 {
-        return Check::Passed;
+    match best {
+        Some(p) => Err(Refusal { row: 13, place: p }),
+        None => Ok(()),
     }
-    Check::Refuse(13, best)
 }
 
 // The same of a plain code, whose marks are its digits.
-pub fn ordered(code: &[u8]) -> Check
+pub fn ordered(code: &[u8]) -> Result<(), Refusal>
     requires ends { Ends 1 code.now }
     requires code_len_bound { length code.now ≤ size }
     ensures { Answers (row13 plain code.now ∷ []) result }
@@ -204,19 +183,13 @@ pub fn ordered(code: &[u8]) -> Check
 }
 
 // A digit code lent by itself: 3, 10, 11, 12 and 13.
-pub fn check(limit: u8, code: &[u8]) -> Check
+pub fn check(limit: u8, code: &[u8]) -> Result<(), Refusal>
     requires { 1 ≤ limit }
     ensures { Answers (code_rows size limit code.now) result }
 {
-    if let Check::Refuse(k, p) = refusal::sized(code.len(), SIZE) {
-        return Check::Refuse(k, p);
-    }
-    if let Check::Refuse(k, p) = capped(limit, code) {
-        return Check::Refuse(k, p);
-    }
-    if let Check::Refuse(k, p) = ended(code) {
-        return Check::Refuse(k, p);
-    }
+    refusal::sized(code.len(), SIZE)?;
+    capped(limit, code)?;
+    ended(code)?;
     ordered(code)
 }
 
@@ -225,12 +198,9 @@ pub fn push(places: &mut [u8], t: usize, v: u8, k: u8) -> usize
     requires { t + k ≤ length places.old }
     ensures { Pushed places.old places.new t v k result }
 {
-    let mut i = 0;
-    let mut r = t;
-    while i < k {
-        places[r] = v;
-        r += 1;
-        i += 1;
+    let r = t + k as usize;
+    for i in t..r {
+        places[i] = v;
     }
     r
 }
@@ -245,8 +215,7 @@ pub fn write_edges(code: &[u8], out: &mut [u8]) -> usize
     let mut places = [0u8; SIZE];
     let mut t = push(&mut places, 0, 1, code[0]);
     let mut at = 0;
-    let mut i = 1;
-    while i < code.len() {
+    for i in 1..code.len() {
         t -= 1;
         let p = places[t];
         let v = (i + 1) as u8;
@@ -254,7 +223,6 @@ pub fn write_edges(code: &[u8], out: &mut [u8]) -> usize
         out[at + 1] = v;
         t = push(&mut places, t, v, code[i]);
         at += 2;
-        i += 1;
     }
     at
 }

@@ -3,7 +3,7 @@
 // An edge list is flat, one byte for each end. Edges count from 1, as the places of the refusals do.
 #![tactic(auto)]
 
-ghost use Rattle.std.specs.Prelude.{◌≡◌, ◌⊎◌, [], ◌∷◌, ℕ, ◌≤◌, ◌<◌, length, replicate};
+ghost use Rattle.std.specs.Prelude.{◌≡◌, ◌⊎◌, [], ◌∷◌, ℕ, ◌-◌, ◌≤◌, ◌<◌, length, get_or, replicate, take};
 ghost use Rattle.laws.specs.Tells.{Tells};
 ghost use Rattle.refusal.specs.document.Table.{Clear, Outside, row3};
 ghost use Rattle.refusal.specs.Checks.{Answers};
@@ -14,11 +14,11 @@ ghost use Rattle.skeleton.specs.document.Atom.{bonds, atom_at};
 ghost use Rattle.edge_list.specs.document.Edges.{Edge, first_end, second_end, row5_edges, row6, row7, row8, crowded_row, row9, edge_rows};
 ghost use Rattle.edge_list.specs.document.Letters.{letter_rows, carbon_rows};
 ghost use Rattle.edge_list.specs.Limited.{Limited};
-ghost use Rattle.edge_list.specs.Table.{Shaped, IsTable};
+ghost use Rattle.edge_list.specs.Table.{Shaped, deg, IsTable};
 ghost use Rattle.edge_list.specs.Parts.{Parted, Links, Top, Room, Added};
 
 use limits::{BONDS, BYTES, SIZE, WIDTH};
-use refusal::Check;
+use refusal::Refusal;
 
 // A byte as a number that counts places.
 pub fn wide(x: u8) -> usize
@@ -43,19 +43,14 @@ pub fn other(edges: &[u8], p: usize) -> usize
 }
 
 // 3 and 5: the number of vertices, and the length of the list.
-fn sizes(most: usize, n: usize, edges: &[u8]) -> Check
+fn sizes(most: usize, n: usize, edges: &[u8]) -> Result<(), Refusal>
     ensures { Answers (row3 most n ∷ row5_edges n edges.now ∷ []) result }
 {
-    if let Check::Refuse(k, p) = refusal::sized(n, most) {
-        return Check::Refuse(k, p);
+    refusal::sized(n, most)?;
+    if edges.len() % 2 != 0 || edges.len() / 2 != n - 1 {
+        return Err(Refusal { row: 5, place: 0 });
     }
-    if edges.len() % 2 != 0 {
-        return Check::Refuse(5, 0);
-    }
-    if edges.len() / 2 != n - 1 {
-        return Check::Refuse(5, 0);
-    }
-    Check::Passed
+    Ok(())
 }
 
 // Whether v is 0 or above n.
@@ -74,49 +69,32 @@ fn stray(n: usize, edges: &[u8], p: usize) -> bool
 }
 
 // 6: the root, then every end of every edge.
-fn vertices(n: usize, edges: &[u8], root: usize) -> Check
+fn vertices(n: usize, edges: &[u8], root: usize) -> Result<(), Refusal>
     ensures { Answers (row6 n edges.now root ∷ []) result }
 {
     if outside(n, root) {
-        return Check::Refuse(6, 0);
+        return Err(Refusal { row: 6, place: 0 });
     }
     let m = edges.len() / 2;
-    let mut p: usize = 1;
-    while p <= m {
+    for p in 1..=m {
         if stray(n, edges, p) {
-            return Check::Refuse(6, p);
+            return Err(Refusal { row: 6, place: p });
         }
-        p += 1;
     }
-    Check::Passed
+    Ok(())
 }
 
 // 7: an edge from a vertex to itself.
-fn loops(edges: &[u8]) -> Check
+fn loops(edges: &[u8]) -> Result<(), Refusal>
     ensures { Answers (row7 edges.now ∷ []) result }
 {
     let m = edges.len() / 2;
-    let mut p: usize = 1;
-    while p <= m {
+    for p in 1..=m {
         if one(edges, p) == other(edges, p) {
-            return Check::Refuse(7, p);
+            return Err(Refusal { row: 7, place: p });
         }
-        p += 1;
     }
-    Check::Passed
-}
-
-// The lower and the higher of two.
-fn lower(a: usize, b: usize) -> usize
-    ensures { (a < b → result ≡ a) × (b ≤ a → result ≡ b) }
-{
-    if a < b { a } else { b }
-}
-
-fn higher(a: usize, b: usize) -> usize
-    ensures { (a < b → result ≡ b) × (b ≤ a → result ≡ a) }
-{
-    if a < b { b } else { a }
+    Ok(())
 }
 
 // Each vertex stands for itself alone.
@@ -124,10 +102,8 @@ fn part(up: &mut [u8; BYTES])
     requires { length up.old ≡ 256 }
     ensures { Parted 256 up.new }
 {
-    let mut v: usize = 0;
-    while v < 256 {
-        up[v] = v as u8;
-        v += 1;
+    for (v, link) in up.iter_mut().enumerate() {
+        *link = v as u8;
     }
 }
 
@@ -144,40 +120,36 @@ fn head(up: &[u8; BYTES], v: usize) -> usize
 }
 
 // 8: an edge whose ends are joined already. Vertices that are joined have one head.
-fn cycles(edges: &[u8]) -> Check
+fn cycles(edges: &[u8]) -> Result<(), Refusal>
     ensures { Answers (row8 edges.now ∷ []) result }
 {
     let mut up = [0u8; 256];
     part(&mut up);
     let m = edges.len() / 2;
-    let mut p: usize = 1;
-    while p <= m {
+    for p in 1..=m {
         let u = one(edges, p);
         let v = other(edges, p);
         let a = head(&up, u);
         let b = head(&up, v);
         if a == b {
-            return Check::Refuse(8, p);
+            return Err(Refusal { row: 8, place: p });
         }
-        let low = lower(a, b);
-        let high = higher(a, b);
+        let low = a.min(b);
+        let high = a.max(b);
         up[high] = low as u8;
-        p += 1;
     }
-    Check::Passed
+    Ok(())
 }
 
 // 7 and 8: an edge from a vertex to itself closes a cycle too, so one is looked for only where there is a cycle.
-fn rings(edges: &[u8]) -> Check
+fn rings(edges: &[u8]) -> Result<(), Refusal>
     ensures { Answers (row7 edges.now ∷ row8 edges.now ∷ []) result }
 {
-    if let Check::Refuse(k, p) = cycles(edges) {
-        if let Check::Refuse(j, q) = loops(edges) {
-            return Check::Refuse(j, q);
-        }
-        return Check::Refuse(k, p);
+    if let Err(cycle) = cycles(edges) {
+        loops(edges)?;
+        return Err(cycle);
     }
-    Check::Passed
+    Ok(())
 }
 
 // Whether one of two has room for no edge more.
@@ -188,50 +160,45 @@ fn full(x: u8, y: u8) -> bool
 }
 
 // 9 or 20, as `number` says: an end that has as many edges as it may have, which `room` tells. What is left of that room is written there.
-fn degrees(number: u8, room: &mut [u8; BYTES], edges: &[u8]) -> Check
+fn degrees(number: u8, room: &mut [u8; BYTES], edges: &[u8]) -> Result<(), Refusal>
     requires room_len { length room.old ≡ 256 }
     requires clear { Clear (row7 edges.now ∷ []) }
     ensures { (limit : ℕ → ℕ) → Limited limit room.old → Answers (crowded_row number limit edges.now ∷ []) result }
 {
     let m = edges.len() / 2;
-    let mut p: usize = 1;
-    while p <= m {
+    for p in 1..=m {
         let a = one(edges, p);
         let b = other(edges, p);
         if full(room[a], room[b]) {
-            return Check::Refuse(number, p);
+            return Err(Refusal {
+                row: number,
+                place: p,
+            });
         }
         room[a] -= 1;
         room[b] -= 1;
-        p += 1;
     }
-    Check::Passed
+    Ok(())
 }
 
 // 6 to 9.
-fn joins(limit: u8, n: usize, edges: &[u8], root: usize) -> Check
+fn joins(limit: u8, n: usize, edges: &[u8], root: usize) -> Result<(), Refusal>
     requires { limit ≤ width }
     ensures { Answers (row6 n edges.now root ∷ row7 edges.now ∷ row8 edges.now ∷ row9 limit edges.now ∷ []) result }
 {
-    if let Check::Refuse(k, p) = vertices(n, edges, root) {
-        return Check::Refuse(k, p);
-    }
-    if let Check::Refuse(k, p) = rings(edges) {
-        return Check::Refuse(k, p);
-    }
+    vertices(n, edges, root)?;
+    rings(edges)?;
     let mut room = [limit; BYTES];
     degrees(9, &mut room, edges)
 }
 
 // Every refusal of an edge list of at most `most` vertices, each with at most `limit` neighbours. Where the caller names no root, vertex 1
 // stands for it.
-pub fn check(most: usize, limit: u8, n: usize, edges: &[u8], root: usize) -> Check
+pub fn check(most: usize, limit: u8, n: usize, edges: &[u8], root: usize) -> Result<(), Refusal>
     requires { limit ≤ width }
     ensures { Answers (edge_rows most limit n edges.now root) result }
 {
-    if let Check::Refuse(k, p) = sizes(most, n, edges) {
-        return Check::Refuse(k, p);
-    }
+    sizes(most, n, edges)?;
     joins(limit, n, edges, root)
 }
 
@@ -240,10 +207,8 @@ fn allow(letters: &[u8], room: &mut [u8; BYTES])
     requires { (length letters.now ≤ size) × (room.old ≡ replicate 256 4) }
     ensures { Limited (λ v. bonds (atom_at letters.now v)) room.new }
 {
-    let mut v = 0;
-    while v <= letters.len() {
+    for v in 0..=letters.len() {
         room[v] = letters::bonds_at(letters, v);
-        v += 1;
     }
 }
 
@@ -255,22 +220,14 @@ pub fn check_letters(
     edges: &[u8],
     root: usize,
     letters: &[u8],
-) -> Check
+) -> Result<(), Refusal>
     requires { (most ≤ size) × (limit ≤ width) }
     ensures { Answers (letter_rows most limit n edges.now root letters.now) result }
 {
-    if let Check::Refuse(k, p) = letters::known(letters) {
-        return Check::Refuse(k, p);
-    }
-    if let Check::Refuse(k, p) = sizes(most, n, edges) {
-        return Check::Refuse(k, p);
-    }
-    if let Check::Refuse(k, p) = letters::as_many(n, letters) {
-        return Check::Refuse(k, p);
-    }
-    if let Check::Refuse(k, p) = joins(limit, n, edges, root) {
-        return Check::Refuse(k, p);
-    }
+    letters::known(letters)?;
+    sizes(most, n, edges)?;
+    letters::as_many(n, letters)?;
+    joins(limit, n, edges, root)?;
     let mut room = [BONDS; BYTES];
     allow(letters, &mut room);
     degrees(20, &mut room, edges)
@@ -284,42 +241,67 @@ pub fn check_carbon(
     edges: &[u8],
     root: usize,
     letters: &[u8],
-) -> Check
+) -> Result<(), Refusal>
     requires { (most ≤ size) × (limit ≤ width) }
     ensures { Answers (carbon_rows most limit n edges.now root letters.now) result }
 {
-    if let Check::Refuse(k, p) = check_letters(most, limit, n, edges, root, letters) {
-        return Check::Refuse(k, p);
-    }
+    check_letters(most, limit, n, edges, root, letters)?;
     letters::carbon(letters)
 }
 
-// b goes behind the neighbours that a has.
-fn add(rows: &mut [[u8; WIDTH]; SIZE], degs: &mut [u8; SIZE], a: usize, b: usize)
-    requires shaped { Shaped rows.old degs.old }
-    requires room { Room degs.old a b }
-    ensures { Added a b rows.old degs.old rows.new degs.new }
-{
-    let i = a - 1;
-    let j = wide(degs[i]);
-    rows[i][j] = b as u8;
-    degs[i] += 1;
+// The table of neighbours of a skeleton: for each vertex a row of its neighbours, in the order of the edges, and how many they are. All else is 0.
+#[derive(Drop)]
+pub struct Table {
+    pub rows: [[u8; WIDTH]; SIZE],
+    pub degs: [u8; SIZE],
 }
 
-// The table of neighbours of an accepted list of n vertices. Whatever the two arrays held is gone.
-pub fn fill(n: usize, edges: &[u8], rows: &mut [[u8; WIDTH]; SIZE], degs: &mut [u8; SIZE])
-    requires { IsSkeleton size width n edges.now }
-    ensures { IsTable n edges.now rows.new degs.new }
-{
-    *rows = [[0u8; WIDTH]; SIZE];
-    *degs = [0u8; SIZE];
-    let m = edges.len() / 2;
-    let mut p: usize = 1;
-    while p <= m {
-        let a = one(edges, p);
-        let b = other(edges, p);
-        add(rows, degs, a, b);
-        add(rows, degs, b, a);
-        p += 1;
+impl Table {
+    // A table of no neighbours.
+    pub fn new() -> Table {
+        Table {
+            rows: [[0u8; WIDTH]; SIZE],
+            degs: [0u8; SIZE],
+        }
+    }
+
+    // The neighbours of v.
+    pub fn neighbours(&self, v: usize) -> &[u8]
+        requires shaped { Shaped self.now.rows self.now.degs }
+        requires le_v { (1 ≤ v) × (v ≤ size) × (deg self.now.degs v ≤ width) }
+        ensures { result.now ≡ take (deg self.now.degs v) (get_or self.now.rows (v - 1) []) }
+    {
+        let i = v - 1;
+        let m = wide(self.degs[i]);
+        &self.rows[i][..m]
+    }
+
+    // b goes behind the neighbours that a has.
+    fn add(&mut self, a: usize, b: usize)
+        requires shaped { Shaped self.old.rows self.old.degs }
+        requires room { Room self.old.degs a b }
+        ensures { Added a b self.old.rows self.old.degs self.new.rows self.new.degs }
+    {
+        let i = a - 1;
+        let j = wide(self.degs[i]);
+        self.rows[i][j] = b as u8;
+        self.degs[i] += 1;
+    }
+
+    // Becomes the table of an accepted list of n vertices. Whatever it held is gone. It is filled where it stands, since a table that is handed back by
+    // value is copied on the way.
+    pub fn fill(&mut self, n: usize, edges: &[u8])
+        requires { IsSkeleton size width n edges.now }
+        ensures { IsTable n edges.now self.new.rows self.new.degs }
+    {
+        self.rows = [[0u8; WIDTH]; SIZE];
+        self.degs = [0u8; SIZE];
+        let m = edges.len() / 2;
+        for p in 1..=m {
+            let a = one(edges, p);
+            let b = other(edges, p);
+            self.add(a, b);
+            self.add(b, a);
+        }
     }
 }

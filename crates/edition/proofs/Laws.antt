@@ -1,13 +1,17 @@
 -- Laws of editions. Here stands what rests on `in_edition`; the rest is in `specs.Laws`. Assumes nothing.
-use Rattle.std.specs.Prelude.{◌≡◌, List, ℕ}
-use Rattle.refusal.specs.document.Table.{Row}
-use Rattle.refusal.specs.Checks.{Answers, passes, fails}
-use Rattle.refusal.specs.declared.Check.{Check}
-use Rattle.edition.specs.document.Edition.{neighbours_in, in_edition}
+use Rattle.std.specs.Prelude.{◌≡◌, List, [], ◌∷◌, ℕ, IsErrAnd}
+use Rattle.refusal.specs.declared.Refusal.{Refusal}
+use Rattle.refusal.specs.document.Table.{Row, FirstRefusal}
+use Rattle.refusal.proofs.Laws.{exits}
+use Rattle.refusal.specs.Checks.{Check, Answers, passes, fails}
+use Rattle.edition.specs.document.Edition.{IsEdition, neighbours_in, row22, in_edition}
 use Rattle.edition.specs.Laws.{clear_in, refusal_in}
 
-module _ (e : ℕ) {r : ℕ} (is : r ≡ neighbours_in e) where
-  module _ (n : r ≡ 0 → ⊥) where
-    pub answers_in : (rows : ℕ → List Row) {a : Check} → Answers (rows r) a → Answers (in_edition e rows) a
-    answers_in rows (passes c) = passes ((clear_in e is n) rows c)
-    answers_in rows (fails l) = fails ((refusal_in e is n) rows l)
+module _ (e : ℕ) {r : ℕ} (l : (r ≡ neighbours_in e) × IsEdition e) where
+  pub answers_in : (rows : ℕ → List Row) {a : Check} → Answers (rows r) a → Answers (in_edition e rows) a
+  answers_in rows (passes c) = passes (clear_in e l rows c)
+  answers_in rows (fails f) = fails (refusal_in e l rows f)
+
+-- where there is no such edition, 22 answers for the whole table
+pub no_edition : (e : ℕ) (rows : ℕ → List Row) {r : Refusal} {a : Check} → IsErrAnd a (λ d. d ≡ r) → FirstRefusal (row22 e ∷ []) r.row r.place → Answers (in_edition e rows) a
+no_edition e rows h f = exits (rows (neighbours_in e)) h (fails f)

@@ -1,10 +1,8 @@
 -- Laws of editions. In order: how many neighbours; whether there is an edition, by them; row 22; a table in an edition, from what is known of it for the limit. What
 -- rests on `in_edition` is in `proofs.Laws`. Assumes nothing.
 use Rattle.std.specs.Prelude.{◌≡◌, refl, List, [], ◌∷◌, ℕ, zero, suc, ◌≤◌}
-use Rattle.std.proofs.Common.{sym, subst, ◌∙◌, inl, inr, arith}
+use Rattle.std.proofs.Common.{subst, ◌∙◌, inl, inr, arith}
 use Rattle.refusal.specs.document.Table.{Row, Clear, FirstRefusal}
-use Rattle.refusal.specs.Checks.{Answers, fails}
-use Rattle.refusal.specs.declared.Check.TheVariants.{Refuse}
 use Rattle.refusal.specs.Laws.{clear_one, clear_both, never, refusal_front}
 use Rattle.refusal.proofs.Laws.{first-place, refusal_back}
 use Rattle.edition.specs.document.Edition.{IsEdition, neighbours_in, row22, in_edition}
@@ -51,20 +49,16 @@ refused_22 {e} rs z = refusal_front rs (first-place {r = row22 e} (refl, no_neig
 
 -- ---- a table in an edition, whose limit is r
 
-module _ (e : ℕ) {r : ℕ} (is : r ≡ neighbours_in e) where
-  pub no_edition : (rows : ℕ → List Row) → r ≡ 0 → Answers (in_edition e rows) (Refuse 22 0)
-  no_edition rows z = fails (refused_22 (rows (neighbours_in e)) (sym is ∙ z))
+pub an_edition : (e : ℕ) {r : ℕ} → r ≡ neighbours_in e → (r ≡ 0 → ⊥) → IsEdition e
+an_edition e is n = some_neighbours e (λ z. n (is ∙ z))
 
-  module _ (n : r ≡ 0 → ⊥) where
-    pub an_edition : IsEdition e
-    an_edition = some_neighbours e (λ z. n (is ∙ z))
+module _ (e : ℕ) {r : ℕ} (l : (r ≡ neighbours_in e) × IsEdition e) where
+  -- a limit that calls may be asked for
+  pub lawful_limit : (1 ≤ r) × (r ≤ 9)
+  lawful_limit = (omega (arith, l.0, four_or_more e l.1), omega (arith, l.0, at_most_nine e))
 
-    -- a limit that calls may be asked for
-    pub lawful_limit : (1 ≤ r) × (r ≤ 9)
-    lawful_limit = (omega (arith, four_or_more e an_edition), omega (arith, at_most_nine e))
+  pub clear_in : (rows : ℕ → List Row) → Clear (rows r) → Clear (in_edition e rows)
+  clear_in rows c = clear_both (edition_clear l.1) (subst (λ (x : ℕ). Clear (rows x)) l.0 c)
 
-    pub clear_in : (rows : ℕ → List Row) → Clear (rows r) → Clear (in_edition e rows)
-    clear_in rows c = clear_both (edition_clear an_edition) (subst (λ (x : ℕ). Clear (rows x)) is c)
-
-    pub refusal_in : (rows : ℕ → List Row) {k p : ℕ} → FirstRefusal (rows r) k p → FirstRefusal (in_edition e rows) k p
-    refusal_in rows {k} {p} l = refusal_back (edition_clear an_edition) (subst (λ (x : ℕ). FirstRefusal (rows x) k p) is l)
+  pub refusal_in : (rows : ℕ → List Row) {k p : ℕ} → FirstRefusal (rows r) k p → FirstRefusal (in_edition e rows) k p
+  refusal_in rows {k} {p} f = refusal_back (edition_clear l.1) (subst (λ (x : ℕ). FirstRefusal (rows x) k p) l.0 f)

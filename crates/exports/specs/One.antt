@@ -3,25 +3,16 @@
 -- `zk_read_text`, `zk_count` and `zk_list` promise word for word what their calls do.
 --
 -- In order: the law for each kind of answer; the functions. Assumes nothing.
-use Rattle.std.specs.Prelude.{◌≡◌, refl, true, false, List, ℕ, Float}
+use Rattle.refusal.specs.declared.ListRefusal.{ListRefusal}
+use Rattle.refusal.specs.declared.Refusal.{Refusal}
+use Rattle.std.specs.Prelude.{◌≡◌, refl, List, ℕ, Float, Result, Ok, Err}
 use Rattle.std.proofs.Common.{sym, ap, subst, ◌∙◌}
-use Rattle.refusal.specs.document.Table.{Outcome, gives, refuses}
-use Rattle.refusal.specs.document.Outcome.{told, numbered}
-use Rattle.refusal.specs.declared.Answer.{Answer}
-use Rattle.refusal.specs.declared.Answer.TheVariants.{Done, Refused}
-use Rattle.refusal.specs.declared.Number.{Number}
-use Rattle.refusal.specs.declared.Number.TheVariants as number
-use Rattle.fraction.specs.document.Outcome.{told_fraction}
-use Rattle.fraction.specs.declared.Fraction.{Fraction}
-use Rattle.fraction.specs.declared.Fraction.TheVariants as fraction
+use Rattle.refusal.specs.document.Table.{OutcomeOf, Outcome, gives, refuses}
+use Rattle.refusal.specs.document.Outcome.{told, told_of}
 use Rattle.form.specs.document.Form.{IsNTuple, IsCentred}
-use Rattle.zurkhovel.specs.declared.codes.Verdict.{Verdict}
-use Rattle.zurkhovel.specs.declared.codes.Verdict.TheVariants as verdict
-use Rattle.zurkhovel.specs.declared.maps.Mapping.{Mapping}
-use Rattle.zurkhovel.specs.declared.maps.Mapping.TheVariants as maps
 use Rattle.zurkhovel.specs.document.Codes.{CheckCode, DecodeCode, DecodeForm, CheckEdges, RootedCode, FormCode}
-use Rattle.zurkhovel.specs.document.Same.{Finding, said, SameSkeleton}
-use Rattle.zurkhovel.specs.document.Maps.{MapOutcome, mapped, HandOut, CheckRenumbering}
+use Rattle.zurkhovel.specs.document.Same.{Finding, SameSkeleton}
+use Rattle.zurkhovel.specs.document.Maps.{MapOutcome, HandOut, CheckRenumbering}
 use Rattle.zurkhovel.specs.document.Bits.{Pack, Unpack, Whole, Unwhole, InFraction, Unfraction}
 use Rattle.zurkhovel.specs.document.Matrix.{DecodeCam, DecodeZeroA, DecodeAZero, Cam, ZeroA, AZero, CamByCode, ZeroAByCode, AZeroByCode}
 use Rattle.zurkhovel.specs.document.Alike.{EqualVertices}
@@ -38,30 +29,18 @@ use Rattle.packing.specs.document.Packing.{packed, truth, with_list, held, Packe
 -- ---- each kind of answer
 
 -- the result that an outcome is told of
-pub answer : (o : Outcome ℕ) → (r : Answer) × (o ≡ told r)
-answer (gives n) = (Done n, refl)
-answer (refuses k p) = (Refused k p, refl)
+pub answer : {A : Type 0} (o : Outcome A) → (r : Result A Refusal) × (o ≡ told r)
+answer (gives a) = (Ok a, refl)
+answer (refuses k p) = (Err (record { row = k; place = p }), refl)
 
-pub value : (o : Outcome ℕ) → (r : Number) × (o ≡ numbered r)
-value (gives v) = (number.Value v, refl)
-value (refuses k p) = (number.Refused k p, refl)
-
-pub exact : (o : Outcome Float) → (r : Fraction) × (o ≡ told_fraction r)
-exact (gives x) = (fraction.Exact x, refl)
-exact (refuses k p) = (fraction.Refused k p, refl)
-
-pub finding : (o : Finding) → (r : Verdict) × (o ≡ said r)
-finding (gives true) = (verdict.Same, refl)
-finding (gives false) = (verdict.Different, refl)
-finding (refuses (i, k) p) = (verdict.Refused i k p, refl)
-
-pub mapping : (o : MapOutcome) → (r : Mapping) × (o ≡ mapped r)
-mapping (gives n) = (maps.Done n, refl)
-mapping (refuses (i, k) p) = (maps.Refused i k p, refl)
+-- of a call with several lists
+pub finding : {A : Type 0} (o : OutcomeOf (ℕ × ℕ) A) → (r : Result A ListRefusal) × (o ≡ told_of r)
+finding (gives a) = (Ok a, refl)
+finding (refuses (i, k) p) = (Err (record { list = i; refusal = record { row = k; place = p } }), refl)
 
 -- a call that only checks
 pub one-check :
-    {P : Outcome ℕ → Type 0} → ((r s : Answer) → P (told r) → P (told s) → r ≡ s) → (r s : ℕ) → PackedAnswer P r → PackedAnswer P s → r ≡ s
+    {P : Outcome ℕ → Type 0} → ((r s : Result ℕ Refusal) → P (told r) → P (told s) → r ≡ s) → (r s : ℕ) → PackedAnswer P r → PackedAnswer P s → r ≡ s
 one-check {P} f r s (o, x, e) (q, y, g) =
     let (a, i) = answer o in
     let (b, j) = answer q in
@@ -69,7 +48,7 @@ one-check {P} f r s (o, x, e) (q, y, g) =
 
 -- a call that writes; Same: what was lent then holds the same
 pub one_written :
-    {P Q : Outcome ℕ → Type 0} {Same : Type 0} → ((r s : Answer) → P (told r) → Q (told s) → (r ≡ s) × Same) → (r s : ℕ) → PackedAnswer P r → PackedAnswer Q s
+    {P Q : Outcome ℕ → Type 0} {Same : Type 0} → ((r s : Result ℕ Refusal) → P (told r) → Q (told s) → (r ≡ s) × Same) → (r s : ℕ) → PackedAnswer P r → PackedAnswer Q s
     → (r ≡ s) × Same
 one_written {P} {Q} f r s (o, x, e) (q, y, g) =
     let (a, i) = answer o in
@@ -85,25 +64,25 @@ one-held f old new new' r s (o, x, e, h) (q, y, g, l) =
     let same = f o q x y in
     (e ∙ ap (packed (λ k. k) (λ a. 0)) same ∙ sym g, h ∙ ap (held old) same ∙ sym l)
 
-pub one_number : (P : Outcome ℕ → Type 0) → ((r s : Number) → P (numbered r) → P (numbered s) → r ≡ s) → (o q : Outcome ℕ) → P o → P q → o ≡ q
+pub one_number : (P : Outcome ℕ → Type 0) → ((r s : Result ℕ Refusal) → P (told r) → P (told s) → r ≡ s) → (o q : Outcome ℕ) → P o → P q → o ≡ q
 one_number P f o q x y =
-    let (a, i) = value o in
-    let (b, j) = value q in
-    i ∙ ap numbered (f a b (subst P i x) (subst P j y)) ∙ sym j
+    let (a, i) = answer o in
+    let (b, j) = answer q in
+    i ∙ ap told (f a b (subst P i x) (subst P j y)) ∙ sym j
 
-one-exact : (P : Outcome Float → Type 0) → ((r s : Fraction) → P (told_fraction r) → P (told_fraction s) → r ≡ s) → (o q : Outcome Float) → P o → P q → o ≡ q
+one-exact : (P : Outcome Float → Type 0) → ((r s : Result Float Refusal) → P (told r) → P (told s) → r ≡ s) → (o q : Outcome Float) → P o → P q → o ≡ q
 one-exact P f o q x y =
-    let (a, i) = exact o in
-    let (b, j) = exact q in
-    i ∙ ap told_fraction (f a b (subst P i x) (subst P j y)) ∙ sym j
+    let (a, i) = answer o in
+    let (b, j) = answer q in
+    i ∙ ap told (f a b (subst P i x) (subst P j y)) ∙ sym j
 
 -- a call on maps that only checks
 pub one-judged :
-    {P : MapOutcome → Type 0} → ((r s : Mapping) → P (mapped r) → P (mapped s) → r ≡ s) → (r s : ℕ) → PackedMapping P r → PackedMapping P s → r ≡ s
+    {P : MapOutcome → Type 0} → ((r s : Result ℕ ListRefusal) → P (told_of r) → P (told_of s) → r ≡ s) → (r s : ℕ) → PackedMapping P r → PackedMapping P s → r ≡ s
 one-judged {P} f r s (o, x, e) (q, y, g) =
-    let (a, i) = mapping o in
-    let (b, j) = mapping q in
-    e ∙ ap (packed with_list (λ n. n)) (i ∙ ap mapped (f a b (subst P i x) (subst P j y)) ∙ sym j) ∙ sym g
+    let (a, i) = finding o in
+    let (b, j) = finding q in
+    e ∙ ap (packed with_list (λ n. n)) (i ∙ ap told_of (f a b (subst P i x) (subst P j y)) ∙ sym j) ∙ sym g
 
 -- ---- the functions, in the edition e
 
@@ -149,16 +128,16 @@ module _ (e : ℕ) where
   one_zk_same_skeleton N E P F r s (o, x, z) (q, y, g) =
       let (a, i) = finding o in
       let (b, j) = finding q in
-      z ∙ ap (packed with_list truth) (i ∙ ap said (codes.one-same-skeleton e N E P F a b (subst (SameSkeleton e N E P F) i x) (subst (SameSkeleton e N E P F) j y)) ∙ sym j) ∙ sym g
+      z ∙ ap (packed with_list truth) (i ∙ ap told_of (codes.one-same-skeleton e N E P F a b (subst (SameSkeleton e N E P F) i x) (subst (SameSkeleton e N E P F) j y)) ∙ sym j) ∙ sym g
 
   pub one_zk_renumbering :
       (N : ℕ) (E : List ℕ) (P : ℕ) (F old new new' : List ℕ) (r s : ℕ) → PackedMapping (HandOut e N E P F old new) r → PackedMapping (HandOut e N E P F old new') s
       → (r ≡ s) × (new ≡ new')
   one_zk_renumbering N E P F old new new' r s (o, x, z) (q, y, g) =
-      let (a, i) = mapping o in
-      let (b, j) = mapping q in
+      let (a, i) = finding o in
+      let (b, j) = finding q in
       let (h, l) = carried.one-renumbering e N E P F old new new' a b (subst (HandOut e N E P F old new) i x) (subst (HandOut e N E P F old new') j y) in
-      (z ∙ ap (packed with_list (λ n. n)) (i ∙ ap mapped h ∙ sym j) ∙ sym g, l)
+      (z ∙ ap (packed with_list (λ n. n)) (i ∙ ap told_of h ∙ sym j) ∙ sym g, l)
 
   pub one_zk_check_renumbering :
       (N : ℕ) (E : List ℕ) (P : ℕ) (F w : List ℕ) (r s : ℕ) → PackedMapping (CheckRenumbering e N E P F w) r → PackedMapping (CheckRenumbering e N E P F w) s → r ≡ s

@@ -3,45 +3,59 @@
 -- is the call's own theorem (`OneReported` of the crate `zurkhovel`) through the packing.
 --
 -- In order: the law for each kind of answer; the functions. Assumes nothing.
-use Rattle.std.specs.Prelude.{◌≡◌, List, ℕ, Float}
+use Rattle.refusal.specs.declared.Refusal.{Refusal}
+use Rattle.refusal.specs.declared.ListRefusal.{ListRefusal}
+use Rattle.refusal.specs.declared.Reported.{Reported}
+use Rattle.std.specs.Prelude.{◌≡◌, refl, Bool, List, ℕ, Float, Result, Ok, Err}
 use Rattle.std.proofs.Common.{sym, ap, subst, ◌∙◌}
-use Rattle.refusal.specs.document.Table.{Outcome}
-use Rattle.refusal.specs.document.Outcome.{told, numbered}
-use Rattle.fraction.specs.document.Outcome.{told_fraction}
+use Rattle.refusal.specs.document.Table.{OutcomeOf, Outcome, gives, refuses}
+use Rattle.refusal.specs.document.Outcome.{told, told_of}
 use Rattle.form.specs.document.Form.{IsNTuple, IsCentred}
 use Rattle.form_coder.specs.document.Pairs.{CentredPairs, NTuplePairs}
-use Rattle.refusal.specs.declared.Reported.{Reported}
-use Rattle.zurkhovel.specs.declared.reported.ReportedNumber.{ReportedNumber}
-use Rattle.zurkhovel.specs.declared.reported.ReportedFraction.{ReportedFraction}
-use Rattle.zurkhovel.specs.declared.reported.ReportedVerdict.{ReportedVerdict}
-use Rattle.zurkhovel.specs.declared.reported.ReportedMapping.{ReportedMapping}
 use Rattle.zurkhovel.specs.document.Codes.{RootedCode, FormCode}
-use Rattle.zurkhovel.specs.document.Same.{Finding, said, SameSkeleton}
-use Rattle.zurkhovel.specs.document.Maps.{MapOutcome, mapped, HandOut}
+use Rattle.zurkhovel.specs.document.Same.{Finding, SameSkeleton}
+use Rattle.zurkhovel.specs.document.Maps.{MapOutcome, HandOut}
 use Rattle.zurkhovel.specs.document.Bits.{Pack, Whole, InFraction}
 use Rattle.zurkhovel.specs.document.Matrix.{CamByCode, ZeroAByCode, AZeroByCode}
 use Rattle.zurkhovel.specs.document.Alike.{EqualVertices}
 use Rattle.zurkhovel.specs.document.Lines.{WriteLine}
-use Rattle.refusal.specs.document.Reported.{Reporting}
+use Rattle.refusal.specs.document.Reported.{answer, pairs, Reporting}
 use Rattle.zurkhovel.specs.document.Reported.{ReportedAtRoot, OfBoth}
 use Rattle.zurkhovel.specs.OneReported as calls
 use Rattle.zurkhovel.specs.document.InEdition.{EdgeTable}
 use Rattle.zurkhovel.specs.document.Tabled.{Tabled}
 use Rattle.packing.specs.document.Packing.{packed, truth, with_list, held, PackedAnswer, PackedFinding, PackedMapping, PackedValue}
-use Rattle.exports.specs.One.{answer, value, exact, finding, mapping}
 
 -- ---- each kind of answer
+
+-- the result that an outcome is told of, with the number that is reported
+pub reported_answer :
+    {A : Type 0} {P : Outcome A → Type 0} {Count : ℕ → Type 0} (o : Outcome A) (m : ℕ) → Reporting P Count o m
+    → (r : Result (Reported A) Refusal) × (o ≡ told (answer r)) × (m ≡ pairs r)
+reported_answer (gives a) m x = (Ok (record { value = a; pairs = m }), refl, refl)
+reported_answer (refuses k p) m x = (Err (record { row = k; place = p }), refl, x.reported)
+
+-- of a call with several lists
+pub reported_finding :
+    {A : Type 0} {P : OutcomeOf (ℕ × ℕ) A → Type 0} {Count : ℕ → Type 0} (o : OutcomeOf (ℕ × ℕ) A) (m : ℕ) → Reporting P Count o m
+    → (r : Result (Reported A) ListRefusal) × (o ≡ told_of (answer r)) × (m ≡ pairs r)
+reported_finding (gives a) m x = (Ok (record { value = a; pairs = m }), refl, refl)
+reported_finding (refuses (i, k) p) m x = (Err (record { list = i; refusal = record { row = k; place = p } }), refl, x.reported)
+
+-- a promise of what is told, and what is reported, of a result
+carried : {K A : Type 0} {P : OutcomeOf K A → Type 0} {Count : ℕ → Type 0} {o q : OutcomeOf K A} {m n : ℕ} → o ≡ q → m ≡ n → Reporting P Count o m → Reporting P Count q n
+carried {P = P} {Count} {q = q} {m} i e x = subst (λ (k : ℕ). Reporting P Count q k) e (subst (λ w. Reporting P Count w m) i x)
 
 -- a call that writes; Same: what was lent then holds the same
 pub one_written :
     {P Q : Outcome ℕ → Type 0} {Count : ℕ → Type 0} {Same : Type 0}
-    → ((r s : Reported) → Reporting P Count (told r.answer) r.pairs → Reporting Q Count (told s.answer) s.pairs → (r ≡ s) × Same)
+    → ((r s : Result (Reported ℕ) Refusal) → Reporting P Count (told (answer r)) (pairs r) → Reporting Q Count (told (answer s)) (pairs s) → (r ≡ s) × Same)
     → (m m' r s : ℕ) → PackedAnswer (λ o. Reporting P Count o m) r → PackedAnswer (λ o. Reporting Q Count o m') s → (r ≡ s) × Same × (m ≡ m')
-one_written {P} {Q} {Count} f m m' r s (o, x, e) (q, y, g) =
-    let (a, i) = answer o in
-    let (b, j) = answer q in
-    let (h, l) = f (record { answer = a; pairs = m }) (record { answer = b; pairs = m' }) (subst (λ w. Reporting P Count w m) i x) (subst (λ w. Reporting Q Count w m') j y) in
-    (e ∙ ap (packed (λ k. k) (λ n. n)) (i ∙ ap (λ (v : Reported). told v.answer) h ∙ sym j) ∙ sym g, l, ap (λ (v : Reported). v.pairs) h)
+one_written f m m' r s (o, x, e) (q, y, g) =
+    let (a, i, u) = reported_answer o m x in
+    let (b, j, v) = reported_answer q m' y in
+    let (h, l) = f a b (carried i u x) (carried j v y) in
+    (e ∙ ap (packed (λ k. k) (λ n. n)) (i ∙ ap (λ w. told (answer w)) h ∙ sym j) ∙ sym g, l, u ∙ ap (λ w. pairs w) h ∙ sym v)
 
 -- a call that is asked for a value, which the lent place then holds
 pub one-held :
@@ -54,46 +68,36 @@ one-held f old new new' m m' r s (o, x, e, h) (q, y, g, l) =
     (e ∙ ap (packed (λ k. k) (λ a. 0)) same ∙ sym g, h ∙ ap (held old) same ∙ sym l, count)
 
 pub one_number :
-    {P : Outcome ℕ → Type 0} {Count : ℕ → Type 0}
-    → ((r s : ReportedNumber) → Reporting P Count (numbered r.answer) r.pairs → Reporting P Count (numbered s.answer) s.pairs → r ≡ s)
-    → (o q : Outcome ℕ) (m m' : ℕ) → Reporting P Count o m → Reporting P Count q m' → (o ≡ q) × (m ≡ m')
-one_number {P} {Count} f o q m m' x y =
-    let (a, i) = value o in
-    let (b, j) = value q in
-    let h = f (record { answer = a; pairs = m }) (record { answer = b; pairs = m' }) (subst (λ w. Reporting P Count w m) i x) (subst (λ w. Reporting P Count w m') j y) in
-    (i ∙ ap (λ (v : ReportedNumber). numbered v.answer) h ∙ sym j, ap (λ (v : ReportedNumber). v.pairs) h)
-
-pub one-exact :
-    {P : Outcome Float → Type 0} {Count : ℕ → Type 0}
-    → ((r s : ReportedFraction) → Reporting P Count (told_fraction r.answer) r.pairs → Reporting P Count (told_fraction s.answer) s.pairs → r ≡ s)
-    → (o q : Outcome Float) (m m' : ℕ) → Reporting P Count o m → Reporting P Count q m' → (o ≡ q) × (m ≡ m')
-one-exact {P} {Count} f o q m m' x y =
-    let (a, i) = exact o in
-    let (b, j) = exact q in
-    let h = f (record { answer = a; pairs = m }) (record { answer = b; pairs = m' }) (subst (λ w. Reporting P Count w m) i x) (subst (λ w. Reporting P Count w m') j y) in
-    (i ∙ ap (λ (v : ReportedFraction). told_fraction v.answer) h ∙ sym j, ap (λ (v : ReportedFraction). v.pairs) h)
+    {A : Type 0} {P : Outcome A → Type 0} {Count : ℕ → Type 0}
+    → ((r s : Result (Reported A) Refusal) → Reporting P Count (told (answer r)) (pairs r) → Reporting P Count (told (answer s)) (pairs s) → r ≡ s)
+    → (o q : Outcome A) (m m' : ℕ) → Reporting P Count o m → Reporting P Count q m' → (o ≡ q) × (m ≡ m')
+one_number f o q m m' x y =
+    let (a, i, u) = reported_answer o m x in
+    let (b, j, v) = reported_answer q m' y in
+    let h = f a b (carried i u x) (carried j v y) in
+    (i ∙ ap (λ w. told (answer w)) h ∙ sym j, u ∙ ap (λ w. pairs w) h ∙ sym v)
 
 -- the verdict
 pub one_found :
     {P : Finding → Type 0} {Count : ℕ → Type 0}
-    → ((r s : ReportedVerdict) → Reporting P Count (said r.answer) r.pairs → Reporting P Count (said s.answer) s.pairs → r ≡ s)
+    → ((r s : Result (Reported Bool) ListRefusal) → Reporting P Count (told_of (answer r)) (pairs r) → Reporting P Count (told_of (answer s)) (pairs s) → r ≡ s)
     → (m m' r s : ℕ) → PackedFinding (λ o. Reporting P Count o m) r → PackedFinding (λ o. Reporting P Count o m') s → (r ≡ s) × (m ≡ m')
-one_found {P} {Count} f m m' r s (o, x, e) (q, y, g) =
-    let (a, i) = finding o in
-    let (b, j) = finding q in
-    let h = f (record { answer = a; pairs = m }) (record { answer = b; pairs = m' }) (subst (λ w. Reporting P Count w m) i x) (subst (λ w. Reporting P Count w m') j y) in
-    (e ∙ ap (packed with_list truth) (i ∙ ap (λ (v : ReportedVerdict). said v.answer) h ∙ sym j) ∙ sym g, ap (λ (v : ReportedVerdict). v.pairs) h)
+one_found f m m' r s (o, x, e) (q, y, g) =
+    let (a, i, u) = reported_finding o m x in
+    let (b, j, v) = reported_finding q m' y in
+    let h = f a b (carried i u x) (carried j v y) in
+    (e ∙ ap (packed with_list truth) (i ∙ ap (λ w. told_of (answer w)) h ∙ sym j) ∙ sym g, u ∙ ap (λ w. pairs w) h ∙ sym v)
 
 -- a call that hands out a map
 pub one-handed :
     {P Q : MapOutcome → Type 0} {Count : ℕ → Type 0} {Same : Type 0}
-    → ((r s : ReportedMapping) → Reporting P Count (mapped r.answer) r.pairs → Reporting Q Count (mapped s.answer) s.pairs → (r ≡ s) × Same)
+    → ((r s : Result (Reported ℕ) ListRefusal) → Reporting P Count (told_of (answer r)) (pairs r) → Reporting Q Count (told_of (answer s)) (pairs s) → (r ≡ s) × Same)
     → (m m' r s : ℕ) → PackedMapping (λ o. Reporting P Count o m) r → PackedMapping (λ o. Reporting Q Count o m') s → (r ≡ s) × Same × (m ≡ m')
-one-handed {P} {Q} {Count} f m m' r s (o, x, e) (q, y, g) =
-    let (a, i) = mapping o in
-    let (b, j) = mapping q in
-    let (h, l) = f (record { answer = a; pairs = m }) (record { answer = b; pairs = m' }) (subst (λ w. Reporting P Count w m) i x) (subst (λ w. Reporting Q Count w m') j y) in
-    (e ∙ ap (packed with_list (λ n. n)) (i ∙ ap (λ (v : ReportedMapping). mapped v.answer) h ∙ sym j) ∙ sym g, l, ap (λ (v : ReportedMapping). v.pairs) h)
+one-handed f m m' r s (o, x, e) (q, y, g) =
+    let (a, i, u) = reported_finding o m x in
+    let (b, j, v) = reported_finding q m' y in
+    let (h, l) = f a b (carried i u x) (carried j v y) in
+    (e ∙ ap (packed with_list (λ n. n)) (i ∙ ap (λ w. told_of (answer w)) h ∙ sym j) ∙ sym g, l, u ∙ ap (λ w. pairs w) h ∙ sym v)
 
 -- ---- the functions, in the edition e
 
@@ -144,7 +148,7 @@ module _ (T : EdgeTable) where
   pub one_zk_fraction_pairs :
       (N : ℕ) (E : List ℕ) (root : ℕ) (old new new' : Float) (m m' r s : ℕ) → PackedValue (λ o. Reporting (InFraction T N E root) (ReportedAtRoot N E root) o m) old new r
       → PackedValue (λ o. Reporting (InFraction T N E root) (ReportedAtRoot N E root) o m') old new' s → (r ≡ s) × (new ≡ new') × (m ≡ m')
-  one_zk_fraction_pairs N E root = one-held (one-exact (calls.one-fraction-reported T N E root))
+  one_zk_fraction_pairs N E root = one-held (one_number (calls.one-fraction-reported T N E root))
 
 module _ {T : EdgeTable} {R : ℕ} (t : Tabled T R) where
   pub one_zk_cam_by_code_pairs :

@@ -14,13 +14,13 @@ ghost use Rattle.named.specs.document.Carbon.{carbon_table};
 ghost use Rattle.named.specs.document.Text.{NamedWriteLine, NamedReadLine, NamedReadText, NamedListText};
 ghost use Rattle.packing.specs.document.Packing.{PackedAnswer, PackedFinding, PackedMapping, PackedValue};
 
-use packing::{answered, exact, found, sent, valued};
+use packing::{answered, counted, found, judged, passed, sent, valued};
 
 #[unsafe(no_mangle)]
 pub extern "C" fn zk_named_check_code(code: &[u8], letters: &[u8]) -> u32
     ensures { PackedAnswer (NamedCheckCode code.now letters.now) result }
 {
-    answered(named::codes::check_code(code, letters))
+    passed(named::codes::check_code(code, letters))
 }
 
 #[unsafe(no_mangle)]
@@ -63,7 +63,7 @@ pub extern "C" fn zk_named_decode_centred(
 pub extern "C" fn zk_named_check_edges(n: usize, edges: &[u8], letters: &[u8], root: usize) -> u32
     ensures { PackedAnswer (NamedCheckEdges n edges.now letters.now root) result }
 {
-    answered(named::codes::check_edges(n, edges, letters, root))
+    passed(named::codes::check_edges(n, edges, letters, root))
 }
 
 #[unsafe(no_mangle)]
@@ -78,10 +78,10 @@ pub extern "C" fn zk_named_rooted_code(
 ) -> u32
     ensures { PackedAnswer (λ o. Reporting (NamedRootedCode n edges.now letters.now root (out.old, spelling.old) (out.new, spelling.new)) (NamedAtRoot n edges.now letters.now root) o pairs.new) result }
 {
-    let r = named::codes::rooted_code(n, edges, letters, root, out, spelling);
-    *pairs = r.pairs;
-    let answer = r.answer;
-    answered(answer)
+    answered(counted(
+        named::codes::rooted_code(n, edges, letters, root, out, spelling),
+        pairs,
+    ))
 }
 
 #[unsafe(no_mangle)]
@@ -95,10 +95,10 @@ pub extern "C" fn zk_named_n_tuple_code(
 ) -> u32
     ensures { PackedAnswer (λ o. Reporting (NamedFormCode (IsNTupleₗ names.atoms) n edges.now letters.now (out.old, spelling.old) (out.new, spelling.new)) (NamedWidest n edges.now letters.now) o pairs.new) result }
 {
-    let r = named::codes::n_tuple_code(n, edges, letters, out, spelling);
-    *pairs = r.pairs;
-    let answer = r.answer;
-    answered(answer)
+    answered(counted(
+        named::codes::n_tuple_code(n, edges, letters, out, spelling),
+        pairs,
+    ))
 }
 
 #[unsafe(no_mangle)]
@@ -112,10 +112,10 @@ pub extern "C" fn zk_named_centred_code(
 ) -> u32
     ensures { PackedAnswer (λ o. Reporting (NamedFormCode (IsCentredₗ names.atoms) n edges.now letters.now (out.old, spelling.old) (out.new, spelling.new)) (NamedMiddles n edges.now letters.now) o pairs.new) result }
 {
-    let r = named::codes::centred_code(n, edges, letters, out, spelling);
-    *pairs = r.pairs;
-    let answer = r.answer;
-    answered(answer)
+    answered(counted(
+        named::codes::centred_code(n, edges, letters, out, spelling),
+        pairs,
+    ))
 }
 
 #[unsafe(no_mangle)]
@@ -130,10 +130,10 @@ pub extern "C" fn zk_named_same_skeleton(
 ) -> u32
     ensures { PackedFinding (λ o. Reporting (NamedSameSkeleton n1 edges1.now letters1.now n2 edges2.now letters2.now) (NamedOfBoth n1 edges1.now letters1.now n2 edges2.now letters2.now) o pairs.new) result }
 {
-    let r = named::codes::same_skeleton(n1, edges1, letters1, n2, edges2, letters2);
-    *pairs = r.pairs;
-    let answer = r.answer;
-    found(answer)
+    found(counted(
+        named::codes::same_skeleton(n1, edges1, letters1, n2, edges2, letters2),
+        pairs,
+    ))
 }
 
 #[unsafe(no_mangle)]
@@ -149,10 +149,10 @@ pub extern "C" fn zk_named_renumbering(
 ) -> u32
     ensures { PackedMapping (λ o. Reporting (NamedHandOut n1 edges1.now letters1.now n2 edges2.now letters2.now out.old out.new) (NamedOfBoth n1 edges1.now letters1.now n2 edges2.now letters2.now) o pairs.new) result }
 {
-    let r = named::maps::renumbering(n1, edges1, letters1, n2, edges2, letters2, out);
-    *pairs = r.pairs;
-    let answer = r.answer;
-    sent(answer)
+    sent(counted(
+        named::maps::renumbering(n1, edges1, letters1, n2, edges2, letters2, out),
+        pairs,
+    ))
 }
 
 #[unsafe(no_mangle)]
@@ -167,7 +167,7 @@ pub extern "C" fn zk_named_check_renumbering(
 ) -> u32
     ensures { PackedMapping (NamedCheckRenumbering n1 edges1.now letters1.now n2 edges2.now letters2.now map.now) result }
 {
-    sent(named::maps::check_renumbering(n1, edges1, letters1, n2, edges2, letters2, map))
+    judged(named::maps::check_renumbering(n1, edges1, letters1, n2, edges2, letters2, map))
 }
 
 #[unsafe(no_mangle)]
@@ -180,10 +180,7 @@ pub extern "C" fn zk_named_equal_vertices(
 ) -> u32
     ensures { PackedAnswer (λ o. Reporting (NamedEqualVertices n edges.now letters.now out.old out.new) (NamedMiddles n edges.now letters.now) o pairs.new) result }
 {
-    let r = named::alike::equal_vertices(n, edges, letters, out);
-    *pairs = r.pairs;
-    let answer = r.answer;
-    answered(answer)
+    answered(counted(named::alike::equal_vertices(n, edges, letters, out), pairs))
 }
 
 #[unsafe(no_mangle)]
@@ -197,10 +194,7 @@ pub extern "C" fn zk_named_pack(
 ) -> u32
     ensures { PackedAnswer (λ o. Reporting (Pack (carbon_table letters.now) n edges.now root out.old out.new) (ReportedAtRoot n edges.now root) o pairs.new) result }
 {
-    let r = named::carbon::pack(n, edges, letters, root, out);
-    *pairs = r.pairs;
-    let answer = r.answer;
-    answered(answer)
+    answered(counted(named::carbon::pack(n, edges, letters, root, out), pairs))
 }
 
 #[unsafe(no_mangle)]
@@ -214,10 +208,10 @@ pub extern "C" fn zk_named_whole(
 ) -> u32
     ensures { PackedValue (λ o. Reporting (Whole (carbon_table letters.now) n edges.now root) (ReportedAtRoot n edges.now root) o pairs.new) value.old value.new result }
 {
-    let r = named::carbon::whole(n, edges, letters, root);
-    *pairs = r.pairs;
-    let answer = r.answer;
-    valued(answer, value)
+    valued(
+        counted(named::carbon::whole(n, edges, letters, root), pairs),
+        value,
+    )
 }
 
 #[unsafe(no_mangle)]
@@ -231,10 +225,10 @@ pub extern "C" fn zk_named_fraction(
 ) -> u32
     ensures { PackedValue (λ o. Reporting (InFraction (carbon_table letters.now) n edges.now root) (ReportedAtRoot n edges.now root) o pairs.new) value.old value.new result }
 {
-    let r = named::carbon::fraction(n, edges, letters, root);
-    *pairs = r.pairs;
-    let answer = r.answer;
-    exact(answer, value)
+    valued(
+        counted(named::carbon::fraction(n, edges, letters, root), pairs),
+        value,
+    )
 }
 
 #[unsafe(no_mangle)]
@@ -268,10 +262,7 @@ pub extern "C" fn zk_named_cam_by_code(
 ) -> u32
     ensures { PackedAnswer (λ o. Reporting (CamByCode (carbon_table letters.now) n edges.now out.old out.new) (CentredPairs n edges.now) o pairs.new) result }
 {
-    let r = named::carbon::cam_by_code(n, edges, letters, out);
-    *pairs = r.pairs;
-    let answer = r.answer;
-    answered(answer)
+    answered(counted(named::carbon::cam_by_code(n, edges, letters, out), pairs))
 }
 
 #[unsafe(no_mangle)]
@@ -284,10 +275,10 @@ pub extern "C" fn zk_named_zero_a_by_code(
 ) -> u32
     ensures { PackedValue (λ o. Reporting (ZeroAByCode (carbon_table letters.now) n edges.now) (CentredPairs n edges.now) o pairs.new) value.old value.new result }
 {
-    let r = named::carbon::zero_a_by_code(n, edges, letters);
-    *pairs = r.pairs;
-    let answer = r.answer;
-    valued(answer, value)
+    valued(
+        counted(named::carbon::zero_a_by_code(n, edges, letters), pairs),
+        value,
+    )
 }
 
 #[unsafe(no_mangle)]
@@ -300,10 +291,10 @@ pub extern "C" fn zk_named_a_zero_by_code(
 ) -> u32
     ensures { PackedValue (λ o. Reporting (AZeroByCode (carbon_table letters.now) n edges.now) (CentredPairs n edges.now) o pairs.new) value.old value.new result }
 {
-    let r = named::carbon::a_zero_by_code(n, edges, letters);
-    *pairs = r.pairs;
-    let answer = r.answer;
-    valued(answer, value)
+    valued(
+        counted(named::carbon::a_zero_by_code(n, edges, letters), pairs),
+        value,
+    )
 }
 
 #[unsafe(no_mangle)]
@@ -316,10 +307,7 @@ pub extern "C" fn zk_named_plain_line(
 ) -> u32
     ensures { PackedAnswer (λ o. Reporting (WriteLine (carbon_table letters.now) n edges.now out.old out.new) (CentredPairs n edges.now) o pairs.new) result }
 {
-    let r = named::carbon::plain_line(n, edges, letters, out);
-    *pairs = r.pairs;
-    let answer = r.answer;
-    answered(answer)
+    answered(counted(named::carbon::plain_line(n, edges, letters, out), pairs))
 }
 
 #[unsafe(no_mangle)]
@@ -332,10 +320,7 @@ pub extern "C" fn zk_named_write_line(
 ) -> u32
     ensures { PackedAnswer (λ o. Reporting (NamedWriteLine n edges.now letters.now out.old out.new) (NamedMiddles n edges.now letters.now) o pairs.new) result }
 {
-    let r = named::text::write_line(n, edges, letters, out);
-    *pairs = r.pairs;
-    let answer = r.answer;
-    answered(answer)
+    answered(counted(named::text::write_line(n, edges, letters, out), pairs))
 }
 
 #[unsafe(no_mangle)]

@@ -2,7 +2,7 @@
 // the refusal number plus the place, or the bytes written. The `ensures` of each is the promise of the call behind it, through `Packing`. A call
 // that reports how many pairs it looked at has two: the one whose name ends in `_pairs` hands that number over through a lent place. The four that
 // an exporter's host needs are of edition 1, and each has a second, whose name ends in `_edition`; every other is told the edition.
-// Those on skeletons with named atoms are in `atoms`.
+// Those on skeletons with named atoms are in `atoms`. C has no generic calls, so each is written out.
 #![tactic(auto)]
 
 mod atoms;
@@ -22,13 +22,13 @@ ghost use Rattle.zurkhovel.specs.document.InEdition.{edge_table};
 ghost use Rattle.texts.specs.document.Demand.{Counted};
 ghost use Rattle.packing.specs.document.Packing.{PackedAnswer, PackedFinding, PackedMapping, PackedValue};
 
-use packing::{answered, exact, found, sent, valued};
+use packing::{answered, counted, found, judged, passed, sent, uncounted, valued};
 
 #[unsafe(no_mangle)]
 pub extern "C" fn zk_check_code(edition: usize, code: &[u8]) -> u32
     ensures { PackedAnswer (CheckCode edition code.now) result }
 {
-    answered(zurkhovel::codes::check_code(edition, code))
+    passed(zurkhovel::codes::check_code(edition, code))
 }
 
 #[unsafe(no_mangle)]
@@ -56,7 +56,7 @@ pub extern "C" fn zk_decode_centred(edition: usize, code: &[u8], out: &mut [u8])
 pub extern "C" fn zk_check_edges(edition: usize, n: usize, edges: &[u8], root: usize) -> u32
     ensures { PackedAnswer (CheckEdges edition n edges.now root) result }
 {
-    answered(zurkhovel::codes::check_edges(edition, n, edges, root))
+    passed(zurkhovel::codes::check_edges(edition, n, edges, root))
 }
 
 #[unsafe(no_mangle)]
@@ -69,9 +69,7 @@ pub extern "C" fn zk_rooted_code(
 ) -> u32
     ensures { PackedAnswer (RootedCode edition n edges.now root out.old out.new) result }
 {
-    let r = zurkhovel::codes::rooted_code(edition, n, edges, root, out);
-    let answer = r.answer;
-    answered(answer)
+    answered(uncounted(zurkhovel::codes::rooted_code(edition, n, edges, root, out)))
 }
 
 #[unsafe(no_mangle)]
@@ -85,19 +83,17 @@ pub extern "C" fn zk_rooted_code_pairs(
 ) -> u32
     ensures { PackedAnswer (λ o. Reporting (RootedCode edition n edges.now root out.old out.new) (ReportedAtRoot n edges.now root) o pairs.new) result }
 {
-    let r = zurkhovel::codes::rooted_code(edition, n, edges, root, out);
-    *pairs = r.pairs;
-    let answer = r.answer;
-    answered(answer)
+    answered(counted(
+        zurkhovel::codes::rooted_code(edition, n, edges, root, out),
+        pairs,
+    ))
 }
 
 #[unsafe(no_mangle)]
 pub extern "C" fn zk_n_tuple_code(edition: usize, n: usize, edges: &[u8], out: &mut [u8]) -> u32
     ensures { PackedAnswer (FormCode edition IsNTuple n edges.now out.old out.new) result }
 {
-    let r = zurkhovel::codes::n_tuple_code(edition, n, edges, out);
-    let answer = r.answer;
-    answered(answer)
+    answered(uncounted(zurkhovel::codes::n_tuple_code(edition, n, edges, out)))
 }
 
 #[unsafe(no_mangle)]
@@ -110,19 +106,17 @@ pub extern "C" fn zk_n_tuple_code_pairs(
 ) -> u32
     ensures { PackedAnswer (λ o. Reporting (FormCode edition IsNTuple n edges.now out.old out.new) (NTuplePairs n edges.now) o pairs.new) result }
 {
-    let r = zurkhovel::codes::n_tuple_code(edition, n, edges, out);
-    *pairs = r.pairs;
-    let answer = r.answer;
-    answered(answer)
+    answered(counted(
+        zurkhovel::codes::n_tuple_code(edition, n, edges, out),
+        pairs,
+    ))
 }
 
 #[unsafe(no_mangle)]
 pub extern "C" fn zk_centred_code(edition: usize, n: usize, edges: &[u8], out: &mut [u8]) -> u32
     ensures { PackedAnswer (FormCode edition IsCentred n edges.now out.old out.new) result }
 {
-    let r = zurkhovel::codes::centred_code(edition, n, edges, out);
-    let answer = r.answer;
-    answered(answer)
+    answered(uncounted(zurkhovel::codes::centred_code(edition, n, edges, out)))
 }
 
 #[unsafe(no_mangle)]
@@ -135,19 +129,17 @@ pub extern "C" fn zk_centred_code_pairs(
 ) -> u32
     ensures { PackedAnswer (λ o. Reporting (FormCode edition IsCentred n edges.now out.old out.new) (CentredPairs n edges.now) o pairs.new) result }
 {
-    let r = zurkhovel::codes::centred_code(edition, n, edges, out);
-    *pairs = r.pairs;
-    let answer = r.answer;
-    answered(answer)
+    answered(counted(
+        zurkhovel::codes::centred_code(edition, n, edges, out),
+        pairs,
+    ))
 }
 
 #[unsafe(no_mangle)]
 pub extern "C" fn zk_same_skeleton(n1: usize, edges1: &[u8], n2: usize, edges2: &[u8]) -> u32
     ensures { PackedFinding (SameSkeleton 1 n1 edges1.now n2 edges2.now) result }
 {
-    let r = zurkhovel::codes::same_skeleton(1, n1, edges1, n2, edges2);
-    let answer = r.answer;
-    found(answer)
+    found(uncounted(zurkhovel::codes::same_skeleton(1, n1, edges1, n2, edges2)))
 }
 
 #[unsafe(no_mangle)]
@@ -160,9 +152,7 @@ pub extern "C" fn zk_same_skeleton_edition(
 ) -> u32
     ensures { PackedFinding (SameSkeleton edition n1 edges1.now n2 edges2.now) result }
 {
-    let r = zurkhovel::codes::same_skeleton(edition, n1, edges1, n2, edges2);
-    let answer = r.answer;
-    found(answer)
+    found(uncounted(zurkhovel::codes::same_skeleton(edition, n1, edges1, n2, edges2)))
 }
 
 #[unsafe(no_mangle)]
@@ -176,10 +166,10 @@ pub extern "C" fn zk_same_skeleton_pairs(
 ) -> u32
     ensures { PackedFinding (λ o. Reporting (SameSkeleton edition n1 edges1.now n2 edges2.now) (OfBoth n1 edges1.now n2 edges2.now) o pairs.new) result }
 {
-    let r = zurkhovel::codes::same_skeleton(edition, n1, edges1, n2, edges2);
-    *pairs = r.pairs;
-    let answer = r.answer;
-    found(answer)
+    found(counted(
+        zurkhovel::codes::same_skeleton(edition, n1, edges1, n2, edges2),
+        pairs,
+    ))
 }
 
 #[unsafe(no_mangle)]
@@ -193,9 +183,7 @@ pub extern "C" fn zk_renumbering(
 ) -> u32
     ensures { PackedMapping (HandOut edition n1 edges1.now n2 edges2.now out.old out.new) result }
 {
-    let r = zurkhovel::maps::renumbering(edition, n1, edges1, n2, edges2, out);
-    let answer = r.answer;
-    sent(answer)
+    sent(uncounted(zurkhovel::maps::renumbering(edition, n1, edges1, n2, edges2, out)))
 }
 
 #[unsafe(no_mangle)]
@@ -210,10 +198,10 @@ pub extern "C" fn zk_renumbering_pairs(
 ) -> u32
     ensures { PackedMapping (λ o. Reporting (HandOut edition n1 edges1.now n2 edges2.now out.old out.new) (OfBoth n1 edges1.now n2 edges2.now) o pairs.new) result }
 {
-    let r = zurkhovel::maps::renumbering(edition, n1, edges1, n2, edges2, out);
-    *pairs = r.pairs;
-    let answer = r.answer;
-    sent(answer)
+    sent(counted(
+        zurkhovel::maps::renumbering(edition, n1, edges1, n2, edges2, out),
+        pairs,
+    ))
 }
 
 #[unsafe(no_mangle)]
@@ -227,16 +215,14 @@ pub extern "C" fn zk_check_renumbering(
 ) -> u32
     ensures { PackedMapping (CheckRenumbering edition n1 edges1.now n2 edges2.now map.now) result }
 {
-    sent(zurkhovel::maps::check_renumbering(edition, n1, edges1, n2, edges2, map))
+    judged(zurkhovel::maps::check_renumbering(edition, n1, edges1, n2, edges2, map))
 }
 
 #[unsafe(no_mangle)]
 pub extern "C" fn zk_pack(n: usize, edges: &[u8], root: usize, out: &mut [u8]) -> u32
     ensures { PackedAnswer (Pack (edge_table 1) n edges.now root out.old out.new) result }
 {
-    let r = zurkhovel::bit_tuple::pack(1, n, edges, root, out);
-    let answer = r.answer;
-    answered(answer)
+    answered(uncounted(zurkhovel::bit_tuple::pack(1, n, edges, root, out)))
 }
 
 #[unsafe(no_mangle)]
@@ -249,9 +235,7 @@ pub extern "C" fn zk_pack_edition(
 ) -> u32
     ensures { PackedAnswer (Pack (edge_table edition) n edges.now root out.old out.new) result }
 {
-    let r = zurkhovel::bit_tuple::pack(edition, n, edges, root, out);
-    let answer = r.answer;
-    answered(answer)
+    answered(uncounted(zurkhovel::bit_tuple::pack(edition, n, edges, root, out)))
 }
 
 #[unsafe(no_mangle)]
@@ -265,10 +249,10 @@ pub extern "C" fn zk_pack_pairs(
 ) -> u32
     ensures { PackedAnswer (λ o. Reporting (Pack (edge_table edition) n edges.now root out.old out.new) (ReportedAtRoot n edges.now root) o pairs.new) result }
 {
-    let r = zurkhovel::bit_tuple::pack(edition, n, edges, root, out);
-    *pairs = r.pairs;
-    let answer = r.answer;
-    answered(answer)
+    answered(counted(
+        zurkhovel::bit_tuple::pack(edition, n, edges, root, out),
+        pairs,
+    ))
 }
 
 #[unsafe(no_mangle)]
@@ -288,9 +272,10 @@ pub extern "C" fn zk_whole(
 ) -> u32
     ensures { PackedValue (Whole (edge_table edition) n edges.now root) value.old value.new result }
 {
-    let r = zurkhovel::bit_tuple::whole(edition, n, edges, root);
-    let answer = r.answer;
-    valued(answer, value)
+    valued(
+        uncounted(zurkhovel::bit_tuple::whole(edition, n, edges, root)),
+        value,
+    )
 }
 
 #[unsafe(no_mangle)]
@@ -304,10 +289,10 @@ pub extern "C" fn zk_whole_pairs(
 ) -> u32
     ensures { PackedValue (λ o. Reporting (Whole (edge_table edition) n edges.now root) (ReportedAtRoot n edges.now root) o pairs.new) value.old value.new result }
 {
-    let r = zurkhovel::bit_tuple::whole(edition, n, edges, root);
-    *pairs = r.pairs;
-    let answer = r.answer;
-    valued(answer, value)
+    valued(
+        counted(zurkhovel::bit_tuple::whole(edition, n, edges, root), pairs),
+        value,
+    )
 }
 
 #[unsafe(no_mangle)]
@@ -327,9 +312,10 @@ pub extern "C" fn zk_fraction(
 ) -> u32
     ensures { PackedValue (InFraction (edge_table edition) n edges.now root) value.old value.new result }
 {
-    let r = zurkhovel::bit_tuple::fraction(edition, n, edges, root);
-    let answer = r.answer;
-    exact(answer, value)
+    valued(
+        uncounted(zurkhovel::bit_tuple::fraction(edition, n, edges, root)),
+        value,
+    )
 }
 
 #[unsafe(no_mangle)]
@@ -343,10 +329,13 @@ pub extern "C" fn zk_fraction_pairs(
 ) -> u32
     ensures { PackedValue (λ o. Reporting (InFraction (edge_table edition) n edges.now root) (ReportedAtRoot n edges.now root) o pairs.new) value.old value.new result }
 {
-    let r = zurkhovel::bit_tuple::fraction(edition, n, edges, root);
-    *pairs = r.pairs;
-    let answer = r.answer;
-    exact(answer, value)
+    valued(
+        counted(
+            zurkhovel::bit_tuple::fraction(edition, n, edges, root),
+            pairs,
+        ),
+        value,
+    )
 }
 
 #[unsafe(no_mangle)]
@@ -381,9 +370,7 @@ pub extern "C" fn zk_a_zero(edition: usize, n: usize, edges: &[u8], value: &mut 
 pub extern "C" fn zk_cam_by_code(edition: usize, n: usize, edges: &[u8], out: &mut [u8]) -> u32
     ensures { PackedAnswer (CamByCode (edge_table edition) n edges.now out.old out.new) result }
 {
-    let r = zurkhovel::matrix::cam_by_code(edition, n, edges, out);
-    let answer = r.answer;
-    answered(answer)
+    answered(uncounted(zurkhovel::matrix::cam_by_code(edition, n, edges, out)))
 }
 
 #[unsafe(no_mangle)]
@@ -396,19 +383,20 @@ pub extern "C" fn zk_cam_by_code_pairs(
 ) -> u32
     ensures { PackedAnswer (λ o. Reporting (CamByCode (edge_table edition) n edges.now out.old out.new) (CentredPairs n edges.now) o pairs.new) result }
 {
-    let r = zurkhovel::matrix::cam_by_code(edition, n, edges, out);
-    *pairs = r.pairs;
-    let answer = r.answer;
-    answered(answer)
+    answered(counted(
+        zurkhovel::matrix::cam_by_code(edition, n, edges, out),
+        pairs,
+    ))
 }
 
 #[unsafe(no_mangle)]
 pub extern "C" fn zk_zero_a_by_code(edition: usize, n: usize, edges: &[u8], value: &mut u64) -> u32
     ensures { PackedValue (ZeroAByCode (edge_table edition) n edges.now) value.old value.new result }
 {
-    let r = zurkhovel::matrix::zero_a_by_code(edition, n, edges);
-    let answer = r.answer;
-    valued(answer, value)
+    valued(
+        uncounted(zurkhovel::matrix::zero_a_by_code(edition, n, edges)),
+        value,
+    )
 }
 
 #[unsafe(no_mangle)]
@@ -421,19 +409,20 @@ pub extern "C" fn zk_zero_a_by_code_pairs(
 ) -> u32
     ensures { PackedValue (λ o. Reporting (ZeroAByCode (edge_table edition) n edges.now) (CentredPairs n edges.now) o pairs.new) value.old value.new result }
 {
-    let r = zurkhovel::matrix::zero_a_by_code(edition, n, edges);
-    *pairs = r.pairs;
-    let answer = r.answer;
-    valued(answer, value)
+    valued(
+        counted(zurkhovel::matrix::zero_a_by_code(edition, n, edges), pairs),
+        value,
+    )
 }
 
 #[unsafe(no_mangle)]
 pub extern "C" fn zk_a_zero_by_code(edition: usize, n: usize, edges: &[u8], value: &mut u64) -> u32
     ensures { PackedValue (AZeroByCode (edge_table edition) n edges.now) value.old value.new result }
 {
-    let r = zurkhovel::matrix::a_zero_by_code(edition, n, edges);
-    let answer = r.answer;
-    valued(answer, value)
+    valued(
+        uncounted(zurkhovel::matrix::a_zero_by_code(edition, n, edges)),
+        value,
+    )
 }
 
 #[unsafe(no_mangle)]
@@ -446,10 +435,10 @@ pub extern "C" fn zk_a_zero_by_code_pairs(
 ) -> u32
     ensures { PackedValue (λ o. Reporting (AZeroByCode (edge_table edition) n edges.now) (CentredPairs n edges.now) o pairs.new) value.old value.new result }
 {
-    let r = zurkhovel::matrix::a_zero_by_code(edition, n, edges);
-    *pairs = r.pairs;
-    let answer = r.answer;
-    valued(answer, value)
+    valued(
+        counted(zurkhovel::matrix::a_zero_by_code(edition, n, edges), pairs),
+        value,
+    )
 }
 
 #[unsafe(no_mangle)]
@@ -477,9 +466,7 @@ pub extern "C" fn zk_decode_a_zero(edition: usize, n: usize, value: u64, out: &m
 pub extern "C" fn zk_equal_vertices(edition: usize, n: usize, edges: &[u8], out: &mut [u8]) -> u32
     ensures { PackedAnswer (EqualVertices edition n edges.now out.old out.new) result }
 {
-    let r = zurkhovel::alike::equal_vertices(edition, n, edges, out);
-    let answer = r.answer;
-    answered(answer)
+    answered(uncounted(zurkhovel::alike::equal_vertices(edition, n, edges, out)))
 }
 
 #[unsafe(no_mangle)]
@@ -492,10 +479,10 @@ pub extern "C" fn zk_equal_vertices_pairs(
 ) -> u32
     ensures { PackedAnswer (λ o. Reporting (EqualVertices edition n edges.now out.old out.new) (CentredPairs n edges.now) o pairs.new) result }
 {
-    let r = zurkhovel::alike::equal_vertices(edition, n, edges, out);
-    *pairs = r.pairs;
-    let answer = r.answer;
-    answered(answer)
+    answered(counted(
+        zurkhovel::alike::equal_vertices(edition, n, edges, out),
+        pairs,
+    ))
 }
 
 #[unsafe(no_mangle)]
@@ -516,9 +503,7 @@ pub extern "C" fn zk_read_line_edition(edition: usize, text: &[u8], out: &mut [u
 pub extern "C" fn zk_write_line(n: usize, edges: &[u8], out: &mut [u8]) -> u32
     ensures { PackedAnswer (WriteLine (edge_table 1) n edges.now out.old out.new) result }
 {
-    let r = zurkhovel::text::write_line(1, n, edges, out);
-    let answer = r.answer;
-    answered(answer)
+    answered(uncounted(zurkhovel::text::write_line(1, n, edges, out)))
 }
 
 #[unsafe(no_mangle)]
@@ -530,9 +515,7 @@ pub extern "C" fn zk_write_line_edition(
 ) -> u32
     ensures { PackedAnswer (WriteLine (edge_table edition) n edges.now out.old out.new) result }
 {
-    let r = zurkhovel::text::write_line(edition, n, edges, out);
-    let answer = r.answer;
-    answered(answer)
+    answered(uncounted(zurkhovel::text::write_line(edition, n, edges, out)))
 }
 
 #[unsafe(no_mangle)]
@@ -545,10 +528,7 @@ pub extern "C" fn zk_write_line_pairs(
 ) -> u32
     ensures { PackedAnswer (λ o. Reporting (WriteLine (edge_table edition) n edges.now out.old out.new) (CentredPairs n edges.now) o pairs.new) result }
 {
-    let r = zurkhovel::text::write_line(edition, n, edges, out);
-    *pairs = r.pairs;
-    let answer = r.answer;
-    answered(answer)
+    answered(counted(zurkhovel::text::write_line(edition, n, edges, out), pairs))
 }
 
 // The three that refuse nothing as a whole.

@@ -1,13 +1,11 @@
 // Calls in edition 2 beside edition 1, and in an edition that is none, as docs/CALLS.md shows them. The star of ten has nine neighbours at its middle.
 use super::calls::same_in;
-use shown::{answer, given, number, reported, sized, text};
+use shown::{answer, given, sized, text};
 use std::io;
 
 // Which edition the call behind it is told.
 fn named(rt: &impl Print, edition: usize) -> io::Result<()> {
-    text(rt, b"edition ")?;
-    number(rt, edition as u64)?;
-    text(rt, b": ")
+    print!(rt; "edition {edition}: ")
 }
 
 fn code(rt: &impl Print, edition: usize, digits: &[u8]) -> io::Result<()> {
@@ -28,11 +26,8 @@ fn centred(rt: &impl Print, edition: usize, n: usize, edges: &[u8]) -> io::Resul
     let mut out = [0u8; 64];
     named(rt, edition)?;
     sized(rt, b"centred_code", n, edges)?;
-    reported(
-        rt,
-        zurkhovel::codes::centred_code(edition, n, edges, &mut out),
-        &out,
-    )
+    let a = zurkhovel::codes::centred_code(edition, n, edges, &mut out);
+    answer(rt, a, &out)
 }
 
 fn line(rt: &impl Print, edition: usize) -> io::Result<()> {

@@ -1,7 +1,5 @@
 // The figures of document 01.
-use fraction::Fraction;
-use refusal::Answer;
-use shown::{answer, given, number, numbered, refused, reported, text, value, valued};
+use shown::{answer, given, numbered, text};
 use std::io;
 
 // The edges of a digit code.
@@ -58,14 +56,14 @@ fn skeleton(rt: &impl Print, name: &[u8], n: usize, edges: &[u8], root: usize) -
     text(rt, name)?;
     text(rt, b": centred_code")?;
     let centred = zurkhovel::codes::centred_code(1, n, edges, &mut out);
-    reported(rt, centred, &out)?;
+    answer(rt, centred, &out)?;
     text(rt, name)?;
     text(rt, b": n_tuple_code")?;
     let tuple = zurkhovel::codes::n_tuple_code(1, n, edges, &mut out);
-    reported(rt, tuple, &out)?;
+    answer(rt, tuple, &out)?;
     text(rt, name)?;
     text(rt, b": whole")?;
-    valued(rt, zurkhovel::bit_tuple::whole(1, n, edges, root))
+    answer(rt, zurkhovel::bit_tuple::whole(1, n, edges, root), &[])
 }
 
 fn skeletons(rt: &impl Print) -> io::Result<()> {
@@ -105,14 +103,14 @@ fn adjacency(rt: &impl Print, edges: &[u8]) -> io::Result<()> {
     let own = zurkhovel::matrix::cam(1, 7, edges, &mut out);
     answer(rt, own, &out)?;
     text(rt, b"001's example: zero_a")?;
-    value(rt, zurkhovel::matrix::zero_a(1, 7, edges))?;
+    answer(rt, zurkhovel::matrix::zero_a(1, 7, edges), &[])?;
     text(rt, b"001's example: a_zero")?;
-    value(rt, zurkhovel::matrix::a_zero(1, 7, edges))?;
+    answer(rt, zurkhovel::matrix::a_zero(1, 7, edges), &[])?;
     text(rt, b"001's example: cam_by_code")?;
     let by_code = zurkhovel::matrix::cam_by_code(1, 7, edges, &mut out);
-    reported(rt, by_code, &out)?;
+    answer(rt, by_code, &out)?;
     text(rt, b"001's example: zero_a_by_code")?;
-    valued(rt, zurkhovel::matrix::zero_a_by_code(1, 7, edges))
+    answer(rt, zurkhovel::matrix::zero_a_by_code(1, 7, edges), &[])
 }
 
 // A fraction read.
@@ -134,17 +132,16 @@ fn fractions(rt: &impl Print) -> io::Result<()> {
 
 // Whether a path, by its code at an end, has a fraction; its edges are lent.
 fn path_fraction(rt: &impl Print, code: &[u8], edges: &mut [u8]) -> io::Result<()> {
-    text(rt, b"fraction of a path of ")?;
-    number(rt, code.len() as u64)?;
-    if let Answer::Refused(k, p) = zurkhovel::codes::decode_code(1, code, edges) {
-        return refused(rt, k, p);
+    print!(rt; "fraction of a path of {}", code.len())?;
+    let decoded = zurkhovel::codes::decode_code(1, code, edges);
+    if decoded.is_err() {
+        return answer(rt, decoded, &[]);
     }
     let r = zurkhovel::bit_tuple::fraction(1, code.len(), edges, 1);
-    let a = r.answer;
-    match a {
-        Fraction::Exact(_) => text(rt, b" = Exact\n"),
-        Fraction::Refused(k, p) => refused(rt, k, p),
+    if r.is_ok() {
+        return text(rt, b" = Exact\n");
     }
+    answer(rt, r, &[])
 }
 
 // The forms' own limits: a path of 27 vertices has a fraction and one of 28 has not; 0A ends at 21 and A0 at 11.

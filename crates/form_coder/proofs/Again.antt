@@ -1,5 +1,6 @@
 -- Row 14 by coding again: the digits ds of the marks c are decoded, what they tell is coded, and the two codes are compared. Over the form; and
 -- where every vertex is carbon. Assumes nothing.
+use Rattle.std.specs.Prelude.{Ok, Err}
 use mathlib.Core.Path.{◌≡◌, refl, sym, ap, ◌∙◌, subst}
 use mathlib.Core.Logic.{◌↔◌}
 use mathlib.Core.List.{List, [], ◌∷◌, map}
@@ -10,12 +11,10 @@ use Rattle.laws.specs.document.Laid.{Laid, laid_over}
 use Rattle.laws.specs.Laid.{laid_length}
 use Rattle.laws.specs.Laying.{laid-front}
 use Rattle.refusal.specs.document.Table.{Writes}
-use Rattle.refusal.specs.Checks.{Answers, passes, fails}
+use Rattle.refusal.specs.Checks.{Check, Answers, passes, fails}
 use Rattle.refusal.specs.Laws.{clear_one, Alike}
 use Rattle.refusal.proofs.Laws.{first-place, alike-answers}
 use Rattle.refusal.specs.Giving.{laid_writes, written, written-room, written_length}
-use Rattle.refusal.specs.declared.Check.{Check}
-use Rattle.refusal.specs.declared.Check.TheVariants.{Passed, Refuse}
 use Rattle.limits.specs.document.Limits.{size}
 use Rattle.limits.specs.Width.{width}
 use Rattle.digit_code.specs.document.Code.{digit, cap, decode}
@@ -60,10 +59,10 @@ module _ (c ds : List ℕ) (told : ds ≡ digits atoms c) (k : Ends 1 ds × IsSk
       own_form : form (length c) (decode (digits atoms c)) (labels atoms c) (take (length c) own)
       own_form = rw (← told, ← front, written w) w.right
 
-      pub judged-same : c ≡ take (length c) own → Answers (row14ₗ atoms form c ∷ []) Passed
+      pub judged-same : c ≡ take (length c) own → Answers (row14ₗ atoms form c ∷ []) (Ok tt)
       judged-same e = passes (clear_one {r = row14ₗ atoms form c} (λ p a. a.1 (subst (form (length c) (decode (digits atoms c)) (labels atoms c)) (sym e) own_form)))
 
-      pub judged-other : (c ≡ take (length c) own → ⊥) → Answers (row14ₗ atoms form c ∷ []) (Refuse 14 0)
+      pub judged-other : (c ≡ take (length c) own → ⊥) → Answers (row14ₗ atoms form c ∷ []) (Err (record { row = 14; place = 0 }))
       judged-other n =
           fails (first-place {r = row14ₗ atoms form c} (refl, λ x. n (f.one (length c) (decode (digits atoms c)) (labels atoms c) (rw told at k.1.tree) x own_form)) (λ q h a. let z : ⊥ = omega arith in z))
 

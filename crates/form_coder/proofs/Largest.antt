@@ -6,11 +6,14 @@ use mathlib.Core.Path.{◌≡◌, refl, sym, ap, ap₂, ◌∙◌, subst}
 use mathlib.Core.Logic.{◌⊎◌, inl, inr, ⊎_elim}
 use mathlib.Core.Bool.{Bool}
 use mathlib.Core.List.{List, [], ◌∷◌, ◌++◌}
-use Prim.Native.Nat.{ℕ, ◌+◌, ◌-◌, ◌≤◌, ◌<◌}
+use Prim.Native.Nat.{ℕ, zero, suc, ◌+◌, ◌-◌, ◌≤◌, ◌<◌}
+use Rattle.std.specs.Prelude.{max}
+use Rattle.std.specs.List.{fold, reduce}
+use Rattle.std.specs.Option.{unwrap_or}
 use native.Mathlib.Decide.{dec_lt, ℕ_discrete}
 use native.Mathlib.Omega.{arith}
 use lib.ListN.{length, get_or, take, drop, replicate, length-replicate, replicate-append-replicate}
-use lib.Seq.{length-take-le, take_at}
+use lib.Seq.{length-take-le, get_or-take, take_at}
 use Rattle.laws.specs.document.Order.{◌≽◌}
 use Rattle.laws.specs.Sorting.{refl≽, trans≽, antisym≽, below≽}
 use Rattle.laws.specs.document.Laid.{laid_over}
@@ -28,45 +31,43 @@ use Rattle.form_coder.proofs.Looked.{Summed}
 
 -- ---- the greatest degree
 
--- r is the greatest of the first i, and 0 before the first
-pub record Passed (D : List ℕ) (i r : ℕ) : Type 0 where
-  pub widest : MaximumDegree D i r
-  pub none : i ≡ 0 → r ≡ 0
+-- the greatest of a number and those behind it: none is above it, and it is one of them
+above-all : (a : ℕ) (l : List ℕ) → (a ≤ fold max a l) × ((i : ℕ) → i < length l → get_or l i 0 ≤ fold max a l)
+above-all a [] = (omega arith, λ i h. absurd (omega arith))
+above-all a (x ∷ l) = let (f, g) = above-all (max a x) l in (omega arith, at f g)
+  where
+    at : max a x ≤ fold max (max a x) l → ((i : ℕ) → i < length l → get_or l i 0 ≤ fold max (max a x) l)
+        → (i : ℕ) → i < length (x ∷ l) → get_or (x ∷ l) i 0 ≤ fold max (max a x) l
+    at f g zero h = omega arith
+    at f g (suc i) h = g i (omega arith)
 
-pub passed_none : (D : List ℕ) → Passed D 0 0
-passed_none D =
+one_of : (a : ℕ) (l : List ℕ) → (i : ℕ) × (i < length (a ∷ l)) × (get_or (a ∷ l) i 0 ≡ fold max a l)
+one_of a [] = (0, omega arith, refl)
+one_of a (x ∷ l) = let (i, h, e) = one_of (max a x) l in step i h e (dec_lt a x)
+  where
+    step : (i : ℕ) → i < length (max a x ∷ l) → get_or (max a x ∷ l) i 0 ≡ fold max (max a x) l → Dec (a < x)
+        → (j : ℕ) × (j < length (a ∷ x ∷ l)) × (get_or (a ∷ x ∷ l) j 0 ≡ fold max (max a x) l)
+    step zero h e (yes k) = (1, omega arith, omega arith)
+    step zero h e (no k) = (0, omega arith, omega arith)
+    step (suc i) h e k = (suc (suc i), omega arith, e)
+
+greatest_of : (l : List ℕ) → MaximumDegree l (length l) (unwrap_or (reduce max l) 0)
+greatest_of [] = record { above = λ i h. absurd (omega arith); one = λ h. absurd (omega arith) }
+greatest_of (x ∷ l) = record { above = above; one = λ h. one_of x l }
+  where
+    above : (i : ℕ) → i < length (x ∷ l) → get_or (x ∷ l) i 0 ≤ fold max x l
+    above zero h = (above-all x l).0
+    above (suc i) h = (above-all x l).1 i (omega arith)
+
+-- that of the first n, or 0 where n is 0
+pub greatest : (D : List ℕ) (n : ℕ) → n ≤ length D → MaximumDegree D n (unwrap_or (reduce max (take n D)) 0)
+greatest D n h =
+    let l : length (take n D) ≡ n = length-take-le n D h in
+    let m = greatest_of (take n D) in
     record {
-      widest = record { above = λ i h. let z : ⊥ = omega arith in absurd z; one = λ h. let z : ⊥ = omega arith in absurd z };
-      none = λ e. refl;
+      above = λ i k. let e = get_or-take n D i 0 k in omega (arith, m.above i (omega arith));
+      one = λ k. let (i, o, e) = m.one (omega arith) in (i, omega arith, sym (get_or-take n D i 0 (omega arith)) ∙ e);
     }
-
-module _ {D : List ℕ} {i r : ℕ} (p : Passed D i r) where
-  pub passed_up : r < get_or D i 0 → Passed D (i + 1) (get_or D i 0)
-  passed_up g =
-      record {
-        widest = record {
-          above = λ j h. elim (ℕ_discrete j i) [ yes e ↦ rw e (omega arith) | no n ↦ omega (arith, p.widest.above j (omega arith)) ];
-          one = λ h. (i, omega arith, refl);
-        };
-        none = λ e. let z : ⊥ = omega arith in absurd z;
-      }
-
-  pub passed_by : (r < get_or D i 0 → ⊥) → Passed D (i + 1) r
-  passed_by g =
-      record {
-        widest = record {
-          above = λ j h. elim (ℕ_discrete j i) [ yes e ↦ rw e (omega arith) | no n ↦ p.widest.above j (omega arith) ];
-          one = λ h. one (ℕ_discrete i 0);
-        };
-        none = λ e. let z : ⊥ = omega arith in absurd z;
-      }
-    where
-      one : Dec (i ≡ 0) → (j : ℕ) × (j < i + 1) × (get_or D j 0 ≡ r)
-      one (yes e) = (i, omega arith, omega (arith, p.none e))
-      one (no n) = let (j, h, e) = p.widest.one (omega arith) in (j, omega arith, e)
-
-  pub passed-all : {n : ℕ} → i ≡ n → MaximumDegree D n r
-  passed-all e = subst (λ m. MaximumDegree D m r) e p.widest
 
 -- ---- the largest code among the vertices passed, where `at v` is the code at v
 

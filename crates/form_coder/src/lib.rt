@@ -31,19 +31,17 @@ ghost use Rattle.form_coder.specs.Numbered.{Numbered, Numberedₗ, Counts, ByPla
 ghost use Rattle.form_coder.specs.Raised.{Raised, MaximumDegree};
 
 use centre::Middles;
-use digit_code::Order;
-use limits::{ATOMS, BYTES, ENDS, SIZE, WIDTH};
-use refusal::Check;
+use edge_list::Table;
+use limits::{ATOMS, BYTES, ENDS, SIZE};
+use refusal::Refusal;
 
 // The first n marks become their digits.
 fn read_digits(marks: &mut [u8], n: usize)
     requires { n ≤ length marks.old }
     ensures { marks.new ≡ laid_over (digits names.atoms (take n marks.old)) marks.old }
 {
-    let mut i = 0;
-    while i < n {
-        marks[i] /= ATOMS;
-        i += 1;
+    for mark in &mut marks[..n] {
+        *mark /= ATOMS;
     }
 }
 
@@ -61,11 +59,10 @@ pub fn rooted_marks(
         → Writes (λ c. c ≡ rootedₗ names.atoms label n edges.now root) out.old n out.new
         × (result ≡ numbers.pairsₗ names.atoms label n edges.now root) }
 {
-    let mut rows = [[0u8; WIDTH]; SIZE];
-    let mut degs = [0u8; SIZE];
+    let mut table = Table::new();
+    table.fill(n, edges);
     let mut order = [0u8; SIZE];
-    edge_list::fill(n, edges, &mut rows, &mut degs);
-    rooted_coder::rooted(&rows, &degs, atoms, n, root, &mut order, out)
+    rooted_coder::rooted(&table, atoms, n, root, &mut order, out)
 }
 
 // The rooted code at a vertex.
@@ -94,23 +91,15 @@ fn raise(best: &mut [u8], other: &[u8], n: usize) -> bool
 }
 
 // The middle vertices, the lower number first.
-fn middles(rows: &[[u8; WIDTH]; SIZE], degs: &[u8; SIZE], n: usize) -> Middles
-    requires { Held n rows.now degs.now }
+fn middles(table: &Table, n: usize) -> Middles
+    requires { Held n table.now.rows table.now.degs }
     ensures first_le_second { result.first ≤ result.second }
-    ensures by_index { (E : List ℕ) → tree.IsTree n E → IsTable n E rows.now degs.now → IsCentre n E result.first result.second }
+    ensures by_index { (E : List ℕ) → tree.IsTree n E → IsTable n E table.now.rows table.now.degs → IsCentre n E result.first result.second }
 {
-    let m = centre::centre(rows, degs, n);
-    let a = m.first;
-    let b = m.second;
-    if a <= b {
-        return Middles {
-            first: a,
-            second: b,
-        };
-    }
+    let m = centre::centre(table, n);
     Middles {
-        first: b,
-        second: a,
+        first: m.first.min(m.second),
+        second: m.first.max(m.second),
     }
 }
 
@@ -129,17 +118,16 @@ pub fn numbered_marks(
         → Writes (Numberedₗ label n edges.now (take n order.new)) out.old n out.new
         × OverMiddles n edges.now (numbers.pairsₗ names.atoms label n edges.now) result }
 {
-    let mut rows = [[0u8; WIDTH]; SIZE];
-    let mut degs = [0u8; SIZE];
-    edge_list::fill(n, edges, &mut rows, &mut degs);
-    let m = middles(&rows, &degs, n);
+    let mut table = Table::new();
+    table.fill(n, edges);
+    let m = middles(&table, n);
     let u = m.first;
     let v = m.second;
-    let mut looked = rooted_coder::rooted(&rows, &degs, atoms, n, u, order, out);
+    let mut looked = rooted_coder::rooted(&table, atoms, n, u, order, out);
     if u != v {
         let mut its = [0u8; SIZE];
         let mut other = [0u8; SIZE];
-        looked += rooted_coder::rooted(&rows, &degs, atoms, n, v, &mut its, &mut other);
+        looked += rooted_coder::rooted(&table, atoms, n, v, &mut its, &mut other);
         if raise(out, &other, n) {
             copying::copy(&its, order);
         }
@@ -199,7 +187,7 @@ fn put(numbers: &mut [u8; BYTES], v: u8, k: usize)
     requires { k ≤ size }
     ensures { (numbers.new ≡ set numbers.old v k) × (v < 256) }
 {
-    numbers[v as usize] = k as u8;
+    numbers[usize::from(v)] = k as u8;
 }
 
 // Writes at each of the first n of `order` its place, 1 for the first.
@@ -207,11 +195,8 @@ fn number(order: &[u8; SIZE], n: usize, numbers: &mut [u8; BYTES])
     requires { (n ≤ size) × (length order.now ≡ size) × Once (take n order.now) × (length numbers.old ≡ 256) }
     ensures { Counts order.now n numbers.new }
 {
-    let mut i = 0;
-    while i < n {
-        let v = order[i];
-        i += 1;
-        put(numbers, v, i);
+    for (i, v) in order[..n].iter().enumerate() {
+        put(numbers, *v, i + 1);
     }
 }
 
@@ -232,20 +217,11 @@ pub fn by_code(n: usize, edges: &[u8], out: &mut [u8]) -> usize
 }
 
 // The greatest degree.
-fn widest(degs: &[u8; SIZE], n: usize) -> u8
-    requires { (length degs.now ≡ size) × (n ≤ size) }
-    ensures { MaximumDegree degs.now n result }
+fn widest(table: &Table, n: usize) -> u8
+    requires { (length table.now.degs ≡ size) × (n ≤ size) }
+    ensures { MaximumDegree table.now.degs n result }
 {
-    let mut d = 0;
-    let mut i = 0;
-    while i < n {
-        let k = degs[i];
-        i += 1;
-        if d < k {
-            d = k;
-        }
-    }
-    d
+    table.degs[..n].iter().copied().max().unwrap_or(0)
 }
 
 // The marks of the N-tuple code.
@@ -256,20 +232,16 @@ pub fn n_tuple_marks(n: usize, edges: &[u8], atoms: &[u8; SIZE], out: &mut [u8])
         → Writes (IsNTupleₗ names.atoms n edges.now label) out.old n out.new
         × OverWidest n edges.now (numbers.pairsₗ names.atoms label n edges.now) result }
 {
-    let mut rows = [[0u8; WIDTH]; SIZE];
-    let mut degs = [0u8; SIZE];
-    edge_list::fill(n, edges, &mut rows, &mut degs);
-    let d = widest(&degs, n);
+    let mut table = Table::new();
+    table.fill(n, edges);
+    let d = widest(&table, n);
     let mut best = [0u8; SIZE];
     let mut other = [0u8; SIZE];
     let mut order = [0u8; SIZE];
     let mut looked = 0;
-    let mut v = 0;
-    while v < n {
-        let k = degs[v];
-        v += 1;
-        if k == d {
-            looked += rooted_coder::rooted(&rows, &degs, atoms, n, v, &mut order, &mut other);
+    for (v, k) in table.degs[..n].iter().enumerate() {
+        if *k == d {
+            looked += rooted_coder::rooted(&table, atoms, n, v + 1, &mut order, &mut other);
             raise(&mut best, &other, n);
         }
     }
@@ -295,15 +267,13 @@ fn read_atoms(code: &[u8], atoms: &mut [u8; SIZE])
     requires { (length code.now ≤ size) × (length atoms.old ≡ size) }
     ensures { Named (length code.now) (labels names.atoms code.now) atoms.new }
 {
-    let mut i = 0;
-    while i < code.len() {
-        atoms[i] = code[i] % ATOMS;
-        i += 1;
+    for (i, mark) in code.iter().enumerate() {
+        atoms[i] = *mark % ATOMS;
     }
 }
 
 // 14: a rooted code that is not the N-tuple code of what it tells. `ds` are the digits of the marks `code`.
-pub fn n_tuple_judged(ds: &[u8], code: &[u8]) -> Check
+pub fn n_tuple_judged(ds: &[u8], code: &[u8]) -> Result<(), Refusal>
     requires ds_value { ds.now ≡ digits names.atoms code.now }
     requires ends { Ends 1 ds.now × tree.IsSkeleton size width (length code.now) (decode ds.now) }
     ensures { Answers (row14ₗ names.atoms (IsNTupleₗ names.atoms) code.now ∷ []) result }
@@ -315,11 +285,10 @@ pub fn n_tuple_judged(ds: &[u8], code: &[u8]) -> Check
     let m = digit_code::write_edges(ds, &mut edges);
     read_atoms(code, &mut atoms);
     n_tuple_marks(n, &edges[..m], &atoms, &mut own);
-    match digit_code::compare(code, &own[..n]) {
-        Order::Less(_) => Check::Refuse(14, 0),
-        Order::Equal(_) => Check::Passed,
-        Order::Greater(_) => Check::Refuse(14, 0),
+    if code != &own[..n] {
+        return Err(Refusal { row: 14, place: 0 });
     }
+    Ok(())
 }
 
 // The marks of digits, where every vertex is carbon.
@@ -328,15 +297,13 @@ fn write_marks(ds: &[u8], marks: &mut [u8; SIZE])
     requires by_index { (i : ℕ) → i < length ds.now → get_or ds.now i 0 ≤ width }
     ensures { marks.new ≡ laid_over (map carbon_mark ds.now) marks.old }
 {
-    let mut i = 0;
-    while i < ds.len() {
-        marks[i] = ATOMS * ds[i];
-        i += 1;
+    for (i, d) in ds.iter().enumerate() {
+        marks[i] = ATOMS * *d;
     }
 }
 
 // The same of digits alone.
-fn judged(code: &[u8]) -> Check
+fn judged(code: &[u8]) -> Result<(), Refusal>
     requires ends { Ends 1 code.now × tree.IsSkeleton size width (length code.now) (decode code.now) }
     requires by_index { (i : ℕ) → i < length code.now → get_or code.now i 0 ≤ width }
     ensures { Answers (row14_form IsNTuple code.now ∷ []) result }
@@ -348,12 +315,10 @@ fn judged(code: &[u8]) -> Check
 }
 
 // Digits lent by themselves that are to be an N-tuple code: 3, 10 to 13, and 14.
-pub fn check_n_tuple(limit: u8, code: &[u8]) -> Check
+pub fn check_n_tuple(limit: u8, code: &[u8]) -> Result<(), Refusal>
     requires { (1 ≤ limit) × (limit ≤ width) }
     ensures { Answers (form_rows IsNTuple size limit code.now) result }
 {
-    if let Check::Refuse(k, p) = digit_code::check(limit, code) {
-        return Check::Refuse(k, p);
-    }
+    digit_code::check(limit, code)?;
     judged(code)
 }

@@ -2,7 +2,6 @@
 pub mod Floats
 pub mod Drawing
 pub mod Range
-pub mod Apart
 pub mod Writing
 pub mod Back
 pub mod Examples

@@ -1,5 +1,6 @@
 -- Row 4 of a fraction as the code tests it: a NaN differs from itself, a sign is the highest bit of the pattern, and what is left is
 -- compared with one. Assumes nothing.
+use Rattle.std.specs.Prelude.{Ok, Err}
 use Rattle.std.specs.Prelude.{◌≡◌, refl, true, false, not, [], ◌∷◌, ℕ, zero, suc, ◌*◌, ◌^◌, ◌≤◌, ◌<◌, ℤ, T, Float}
 use Rattle.std.proofs.Common.{sym, ◌∙◌, subst, true≢false, mul-one, one-mul, arith, ltb-true, ltb-false}
 use Rattle.std.proofs.lemmas.Bool.{false≢true}
@@ -10,13 +11,12 @@ use Rattle.std.specs.Float.Ieee.Compare.{differs_from_itself, nan_differs}
 use Rattle.refusal.specs.Checks.{Answers, passes, fails}
 use Rattle.refusal.specs.Laws.{clear_one}
 use Rattle.refusal.proofs.Laws.{first-place}
-use Rattle.refusal.specs.declared.Check.TheVariants.{Passed, Refuse}
 use Rattle.fraction.specs.document.Fraction.{NoFraction, row4_fraction}
 
-pub refused-outside : (x : Float) → NoFraction x → Answers (row4_fraction x ∷ []) (Refuse 4 0)
+pub refused-outside : (x : Float) → NoFraction x → Answers (row4_fraction x ∷ []) (Err (record { row = 4; place = 0 }))
 refused-outside x o = fails (first-place {r = row4_fraction x} (refl, o) (λ q l a. omega arith))
 
-pub passed_inside : (x : Float) → (NoFraction x → ⊥) → Answers (row4_fraction x ∷ []) Passed
+pub passed_inside : (x : Float) → (NoFraction x → ⊥) → Answers (row4_fraction x ∷ []) (Ok tt)
 passed_inside x n = passes (clear_one {r = row4_fraction x} (λ p a. n a.1))
 
 pub outside_nan : (x : Float) → ne x x ≡ true → NoFraction x

@@ -12,16 +12,7 @@ ghost use Rattle.bits.specs.Written.{Coded};
 ghost use Rattle.fraction.specs.document.Fraction.{IsFraction, NoFraction, row4_fraction, bits_of, fraction_rows};
 ghost use Rattle.fraction.specs.Drawing.{Next, Draws};
 
-use refusal::{Answer, Check};
-
-// What the writer of a fraction answers.
-#[derive(Clone, Copy)]
-pub enum Fraction {
-    // The exact value.
-    Exact(f64),
-    // Refused: the number of document 01's table, and the place.
-    Refused(u8, usize),
-}
+use refusal::Refusal;
 
 // The first bit behind the binary point, and what is left of the double.
 #[derive(Clone, Copy)]
@@ -48,19 +39,19 @@ pub fn fraction_of(code: &[u8]) -> f64
 }
 
 // 4: not a number, with a sign, or 1 and above.
-pub fn ranged(x: f64) -> Check
+pub fn ranged(x: f64) -> Result<(), Refusal>
     ensures { Answers (row4_fraction x ∷ []) result }
 {
     if x != x {
-        return Check::Refuse(4, 0);
+        return Err(Refusal { row: 4, place: 0 });
     }
     if 0x8000_0000_0000_0000 <= f64::to_bits(x) {
-        return Check::Refuse(4, 0);
+        return Err(Refusal { row: 4, place: 0 });
     }
     if x < 1.0 {
-        return Check::Passed;
+        return Ok(());
     }
-    Check::Refuse(4, 0)
+    Err(Refusal { row: 4, place: 0 })
 }
 
 // One bit: the double, compared with one, and one subtracted where it is there.
@@ -85,12 +76,10 @@ fn draw(x: f64) -> Drawn
 {
     let mut t = x;
     let mut w: u64 = 0;
-    let mut i: usize = 0;
-    while i < 53 {
+    for _ in 0..53usize {
         let d = next(t);
         t = d.rest;
         w = 2 * w + d.bit;
-        i += 1;
     }
     Drawn {
         bits: w,
@@ -99,7 +88,7 @@ fn draw(x: f64) -> Drawn
 }
 
 // The digits of a fraction that is in range, with rows 10 to 12.
-pub fn read(limit: u8, x: f64, out: &mut [u8]) -> Answer
+pub fn read(limit: u8, x: f64, out: &mut [u8]) -> Result<usize, Refusal>
     requires le_limit { 1 ≤ limit }
     requires fact { NoFraction x → ⊥ }
     requires out_len { length out.old ≡ size }
@@ -110,14 +99,11 @@ pub fn read(limit: u8, x: f64, out: &mut [u8]) -> Answer
 }
 
 // The right code in a fraction: rows 4 and 10 to 13.
-pub fn fraction_code(limit: u8, x: f64, out: &mut [u8]) -> Answer
+pub fn fraction_code(limit: u8, x: f64, out: &mut [u8]) -> Result<usize, Refusal>
     requires le_limit { 1 ≤ limit }
     requires out_len { length out.old ≡ size }
     ensures { Decision (fraction_rows limit x) limit Zeros (bits_of x) out.new result }
 {
-    if let Check::Refuse(k, p) = ranged(x) {
-        return Answer::Refused(k, p);
-    }
-    let answer = read(limit, x, out);
-    bits::siblings(answer, out)
+    ranged(x)?;
+    bits::siblings(read(limit, x, out), out)
 }

@@ -9,5 +9,6 @@ pub mod Places
 pub mod Part
 pub mod Falling
 pub mod Tells
+pub mod Equal
 pub mod Each
 pub mod document

@@ -7,10 +7,9 @@ use Rattle.laws.specs.document.Each.{Each}
 use Rattle.laws.specs.Each.{each_of}
 use Rattle.limits.specs.document.Limits.{size, valence}
 use Rattle.refusal.specs.document.Table.{Row, Clear, row3}
-use Rattle.refusal.specs.Checks.{Answers, passes, fails}
+use Rattle.refusal.specs.Checks.{Check, Answers, passes, fails}
 use Rattle.refusal.specs.Laws.{refusal_front, never, others, clear_both, clear_right, size_clear}
 use Rattle.refusal.proofs.Laws.{goes_on, refusal_behind}
-use Rattle.refusal.specs.declared.Check.{Check}
 use Rattle.digit_code.specs.document.Code.{cap, digit, row10}
 use Rattle.digit_code.specs.Editions.{cap-rises, cap_most}
 use Rattle.digit_code.specs.Digits as CodeSaid

@@ -2,7 +2,7 @@
 // letters in one pass, and a right code is told by `centred_check` in another; only what is none is looked at row by row.
 #![tactic(auto)]
 
-ghost use Rattle.std.specs.Prelude.{◌≡◌, [], ◌∷◌, ◌++◌, ◌≤◌, length, take};
+ghost use Rattle.std.specs.Prelude.{◌≡◌, [], ◌∷◌, ◌++◌, ◌≤◌, length, take, OnOk};
 ghost use Rattle.refusal.specs.document.Table.{Clear, row3};
 ghost use Rattle.refusal.specs.Checks.{Answers};
 ghost use Rattle.limits.specs.document.Limits.{size, valence};
@@ -13,7 +13,6 @@ ghost use Rattle.skeleton.specs.document.AtomMarks.{atoms};
 ghost use Rattle.form.specs.document.Labelled.{IsCentredₗ, row14ₗ};
 ghost use Rattle.lettered_check.specs.document.Lettered.{marks_of, named_digit_rows, lettered_code_rows, lettered_form_rows};
 ghost use Rattle.letters.specs.document.Letters.{row2-letters, row21-letters};
-ghost use Rattle.refusal.specs.declared.Check as Check;
 ghost use Rattle.laws.specs.document.Each.{Each};
 ghost use Rattle.laws.specs.document.Laid.{laid_over};
 ghost use Rattle.laws.specs.Tells.{Tells};
@@ -21,44 +20,36 @@ ghost use Rattle.lettered_check.specs.Rows.{lettered_rows, Low, Made};
 
 use centred_check::{STARTS, judged, scan};
 use limits::{ATOMS, BONDS, SIZE, VALENCE};
-use refusal::Check;
+use refusal::Refusal;
 
 // 20: a digit above what its mark's atom allows, at the root one more; those behind the code's end too.
-fn bonded(ds: &[u8], code: &[u8]) -> Check
+fn bonded(ds: &[u8], code: &[u8]) -> Result<(), Refusal>
     requires { ds.now ≡ digits atoms.arity code.now }
     ensures { Answers (row20 atoms bonds code.now ∷ []) result }
 {
-    let mut p = 1;
-    while p <= code.len() {
+    for p in 1..=code.len() {
         let limit = BONDS - code[p - 1] % ATOMS;
         if digit_code::top(limit, p) < ds[p - 1] {
-            return Check::Refuse(20, p);
+            return Err(Refusal { row: 20, place: p });
         }
-        p += 1;
     }
-    Check::Passed
+    Ok(())
 }
 
 // 10, 20 and 11 to 13, looked for in this order.
-fn refused(ds: &[u8], code: &[u8]) -> Check
+fn refused(ds: &[u8], code: &[u8]) -> Result<(), Refusal>
     requires ds_value { ds.now ≡ digits atoms.arity code.now }
     requires ds_len_bound { length ds.now ≤ size }
     ensures { Answers (named_digit_rows valence ds.now code.now) result }
 {
-    if let Check::Refuse(k, p) = digit_code::capped(VALENCE, ds) {
-        return Check::Refuse(k, p);
-    }
-    if let Check::Refuse(k, p) = bonded(ds, code) {
-        return Check::Refuse(k, p);
-    }
-    if let Check::Refuse(k, p) = digit_code::ended(ds) {
-        return Check::Refuse(k, p);
-    }
+    digit_code::capped(VALENCE, ds)?;
+    bonded(ds, code)?;
+    digit_code::ended(ds)?;
     digit_code::ordered_marks(true, ds, code)
 }
 
 // Digits and their marks that are to be a centred code, where 20 does not apply: 10, 11 to 13, and 14.
-fn check_marks(ds: &[u8], code: &[u8]) -> Check
+fn check_marks(ds: &[u8], code: &[u8]) -> Result<(), Refusal>
     requires ds_value { ds.now ≡ digits atoms.arity code.now }
     requires in_bounds { 1 ≤ length ds.now }
     requires ds_len_bound { length ds.now ≤ size }
@@ -67,10 +58,9 @@ fn check_marks(ds: &[u8], code: &[u8]) -> Check
 {
     let mut hs = [0u8; SIZE];
     let mut starts = [0u8; STARTS];
-    let from = scan(true, VALENCE, ds, code, &mut hs, &mut starts);
-    if SIZE < from {
+    let Some(from) = scan(true, VALENCE, ds, code, &mut hs, &mut starts) else {
         return refused(ds, code);
-    }
+    };
     judged(true, ds, code, &hs, from)
 }
 
@@ -90,11 +80,8 @@ fn low(ds: &[u8]) -> bool
     ensures { Tells (Each Low ds.now) result }
 {
     let mut all = true;
-    let mut i = 0;
-    while i < ds.len() {
-        let k = ds[i];
-        i += 1;
-        if VALENCE < k {
+    for k in ds {
+        if VALENCE < *k {
             all = false;
         }
     }
@@ -110,15 +97,12 @@ fn mark(ds: &[u8], letters: &[u8], out: &mut [u8]) -> bool
     ensures tells { Tells (Clear (row20 atoms bonds (marks_of ds.now letters.now) ∷ [])) result }
 {
     let mut kept = true;
-    let mut i = 0;
-    while i < ds.len() {
-        let k = ds[i];
+    for (i, k) in ds.iter().enumerate() {
         let r = letters::ranked(letters[i]);
-        i += 1;
-        if digit_code::top(BONDS - r, i) < k {
+        if digit_code::top(BONDS - r, i + 1) < *k {
             kept = false;
         }
-        out[i - 1] = ATOMS * k + r;
+        out[i] = ATOMS * *k + r;
     }
     kept
 }
@@ -139,13 +123,11 @@ fn marks(ds: &[u8], letters: &[u8], out: &mut [u8]) -> Caps
 }
 
 // Digits with a letter for each that are to be a centred code: 3, 10, 20, 11 to 13, and 14.
-pub fn check(ds: &[u8], letters: &[u8]) -> Check
+pub fn check(ds: &[u8], letters: &[u8]) -> Result<(), Refusal>
     requires { length letters.now ≡ length ds.now }
     ensures { Answers (row3 size (length ds.now) ∷ lettered_rows valence ds.now letters.now) result }
 {
-    if let Check::Refuse(k, p) = refusal::sized(ds.len(), SIZE) {
-        return Check::Refuse(k, p);
-    }
+    refusal::sized(ds.len(), SIZE)?;
     let mut ms = [0u8; SIZE];
     match marks(ds, letters, &mut ms) {
         Caps::High => digit_code::capped(VALENCE, ds),
@@ -155,28 +137,22 @@ pub fn check(ds: &[u8], letters: &[u8]) -> Check
 }
 
 // 2, 3 and 21 of digits and letters that are lent by themselves.
-fn lent(ds: &[u8], letters: &[u8]) -> Check
+fn lent(ds: &[u8], letters: &[u8]) -> Result<(), Refusal>
     ensures { Answers (row2-letters letters.now ∷ row3 size (length ds.now) ∷ row21-letters (length ds.now) letters.now ∷ []) result }
 {
-    if let Check::Refuse(k, p) = letters::known(letters) {
-        return Check::Refuse(k, p);
-    }
-    if let Check::Refuse(k, p) = refusal::sized(ds.len(), SIZE) {
-        return Check::Refuse(k, p);
-    }
+    letters::known(letters)?;
+    refusal::sized(ds.len(), SIZE)?;
     letters::as_many(ds.len(), letters)
 }
 
 // Digits and letters lent by themselves that are to be a rooted code: 2, 3, 21, 10, 20, and 11 to 13. Where none applies, their marks are
 // written from the start of what is lent.
-pub fn check_rooted(ds: &[u8], letters: &[u8], ms: &mut [u8]) -> Check
+pub fn check_rooted(ds: &[u8], letters: &[u8], ms: &mut [u8]) -> Result<(), Refusal>
     requires { size ≤ length ms.old }
     ensures answers { Answers (lettered_code_rows size valence ds.now letters.now) result }
-    ensures ms_after { result ≡ Check.Passed → take (length ds.now) ms.new ≡ marks_of ds.now letters.now }
+    ensures ms_after { OnOk result (take (length ds.now) ms.new ≡ marks_of ds.now letters.now) }
 {
-    if let Check::Refuse(k, p) = lent(ds, letters) {
-        return Check::Refuse(k, p);
-    }
+    lent(ds, letters)?;
     match marks(ds, letters, ms) {
         Caps::High => digit_code::capped(VALENCE, ds),
         Caps::Crowded => refused(ds, &ms[..ds.len()]),
@@ -185,7 +161,7 @@ pub fn check_rooted(ds: &[u8], letters: &[u8], ms: &mut [u8]) -> Check
 }
 
 // The same where the marks are not asked for.
-pub fn check_code(ds: &[u8], letters: &[u8]) -> Check
+pub fn check_code(ds: &[u8], letters: &[u8]) -> Result<(), Refusal>
     ensures { Answers (lettered_code_rows size valence ds.now letters.now) result }
 {
     let mut ms = [0u8; SIZE];
@@ -193,11 +169,9 @@ pub fn check_code(ds: &[u8], letters: &[u8]) -> Check
 }
 
 // Digits and letters lent by themselves that are to be a centred code: 2, 3, 21, 10, 20, 11 to 13, and 14.
-pub fn check_centred(ds: &[u8], letters: &[u8]) -> Check
+pub fn check_centred(ds: &[u8], letters: &[u8]) -> Result<(), Refusal>
     ensures { Answers (lettered_form_rows (IsCentredₗ atoms) size valence ds.now letters.now) result }
 {
-    if let Check::Refuse(k, p) = lent(ds, letters) {
-        return Check::Refuse(k, p);
-    }
+    lent(ds, letters)?;
     check(ds, letters)
 }

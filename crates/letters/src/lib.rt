@@ -13,46 +13,35 @@ ghost use Rattle.letters.specs.document.Letters.{letters_of, row2-letters, row21
 ghost use Rattle.letters.specs.Named.{Named};
 
 use limits::{ATOMS, BONDS, SIZE};
-use refusal::Check;
+use refusal::Refusal;
 
 // Whether b is C, N or O.
 pub fn is_letter(b: u8) -> bool
     ensures { Tells (Letter b) result }
 {
-    if b == b'C' {
-        return true;
-    }
-    if b == b'N' {
-        return true;
-    }
-    if b == b'O' {
-        return true;
-    }
-    false
+    b == b'C' || b == b'N' || b == b'O'
 }
 
 // 2: a byte that is none of them.
-pub fn known(letters: &[u8]) -> Check
+pub fn known(letters: &[u8]) -> Result<(), Refusal>
     ensures { Answers (row2-letters letters.now ∷ []) result }
 {
-    let mut i = 0;
-    while i < letters.len() {
-        if !is_letter(letters[i]) {
-            return Check::Refuse(2, 0);
+    for b in letters {
+        if !is_letter(*b) {
+            return Err(Refusal { row: 2, place: 0 });
         }
-        i += 1;
     }
-    Check::Passed
+    Ok(())
 }
 
 // 21: how many there are.
-pub fn as_many(n: usize, letters: &[u8]) -> Check
+pub fn as_many(n: usize, letters: &[u8]) -> Result<(), Refusal>
     ensures { Answers (row21-letters n letters.now ∷ []) result }
 {
     if letters.len() != n {
-        return Check::Refuse(21, 0);
+        return Err(Refusal { row: 21, place: 0 });
     }
-    Check::Passed
+    Ok(())
 }
 
 // The rank of a letter's atom. A byte that is no letter stands for carbon.
@@ -68,21 +57,11 @@ pub fn ranked(letter: u8) -> u8
     0
 }
 
-// One less, and 0 of 0.
-fn less(v: usize) -> usize
-    ensures { result ≡ v - 1 }
-{
-    if v == 0 {
-        return 0;
-    }
-    v - 1
-}
-
 // How many neighbours the atom of vertex v may have.
 pub fn bonds_at(letters: &[u8], v: usize) -> u8
     ensures { (result ≡ bonds (atom_at letters.now v)) × (result ≤ 4) }
 {
-    let i = less(v);
+    let i = v.saturating_sub(1);
     if letters.len() <= i {
         return BONDS;
     }
@@ -94,25 +73,24 @@ pub fn name(letters: &[u8], atoms: &mut [u8; SIZE])
     requires { (length letters.now ≤ size) × (length atoms.old ≡ size) }
     ensures { Named (length letters.now) (atom_at letters.now) atoms.new }
 {
-    let mut i = 0;
-    while i < letters.len() {
-        atoms[i] = ranked(letters[i]);
-        i += 1;
+    for (i, letter) in letters.iter().enumerate() {
+        atoms[i] = ranked(*letter);
     }
 }
 
 // 14 of a form that takes carbon only: the first letter of another atom.
-pub fn carbon(letters: &[u8]) -> Check
+pub fn carbon(letters: &[u8]) -> Result<(), Refusal>
     ensures { Answers (row14_atom letters.now ∷ []) result }
 {
-    let mut p: usize = 1;
-    while p <= letters.len() {
-        if ranked(letters[p - 1]) != 0 {
-            return Check::Refuse(14, p);
+    for (i, letter) in letters.iter().enumerate() {
+        if ranked(*letter) != 0 {
+            return Err(Refusal {
+                row: 14,
+                place: i + 1,
+            });
         }
-        p += 1;
     }
-    Check::Passed
+    Ok(())
 }
 
 // The letter of an atom's rank.
@@ -133,10 +111,8 @@ pub fn write_digits(marks: &[u8], out: &mut [u8])
     requires { length marks.now ≤ length out.old }
     ensures { out.new ≡ laid_over (digits atoms marks.now) out.old }
 {
-    let mut i = 0;
-    while i < marks.len() {
-        out[i] = marks[i] / ATOMS;
-        i += 1;
+    for (i, mark) in marks.iter().enumerate() {
+        out[i] = *mark / ATOMS;
     }
 }
 
@@ -145,9 +121,7 @@ pub fn write_letters(marks: &[u8], out: &mut [u8])
     requires { length marks.now ≤ length out.old }
     ensures { out.new ≡ laid_over (letters_of marks.now) out.old }
 {
-    let mut i = 0;
-    while i < marks.len() {
-        out[i] = lettered(marks[i] % ATOMS);
-        i += 1;
+    for (i, mark) in marks.iter().enumerate() {
+        out[i] = lettered(*mark % ATOMS);
     }
 }

@@ -10,16 +10,15 @@ use Rattle.laws.specs.Part.{part, part_length}
 use Rattle.refusal.specs.document.Table.{Row, FirstRefusal, Outside}
 use Rattle.refusal.specs.Laws.{clear_one, refusal_front}
 use Rattle.refusal.proofs.Laws.{first-place, refusal_back}
-use Rattle.lines.specs.declared.Opening.{Opening}
-use Rattle.lines.specs.declared.Opening.TheVariants.{At, Nothing}
+use Rattle.std.specs.Prelude.{Ok, Err}
+use Rattle.refusal.specs.declared.Refusal.{Refusal}
 use Rattle.lines.specs.declared.Span.{Span}
-use Rattle.lines.specs.declared.Span.TheVariants.{Digits, Refused}
 use Rattle.texts.specs.document.Bytes.{Free, Cut}
 use Rattle.texts.specs.document.Text.{Shaped, row1, row2, of_line}
 use Rattle.texts.specs.Answered.{where_is, shaped_fed, unformed_2}
 use Rattle.texts.specs.Ending.{UpTo, unfed, fed_cut}
 use Rattle.lines.specs.document.Line.{Front, front, Formed, row3-line, row5_line}
-use Rattle.lines.specs.Form.{values, Forms, formed, unformed, Stands, front_rows, Located, stands, refused}
+use Rattle.lines.specs.Form.{values, FormAt, Stands, front_rows, Located, stands, refused}
 use Rattle.lines.specs.document.Marks.{WrittenDigits}
 use Rattle.lines.specs.Plain.{plain_once}
 use Rattle.lines.specs.Forming.{drop_take}
@@ -71,24 +70,18 @@ module _ {t : List ℕ} {e : ℕ} (u : UpTo t e) where
   pub no_feed : (most : ℕ) → e ≡ length t → FirstRefusal (front_rows most t) 1 0
   no_feed most q = refused_1 most {t = t} (unfed u q)
 
-  pub no_form : (most : ℕ) {o : Opening} → (e ≡ length t → ⊥) → Forms (take e t) o → o ≡ Nothing → FirstRefusal (front_rows most t) 2 0
-  no_form most n (formed l f h) q = let z : ◌≡◌ {A = ℕ} 0 1 = cc in absurd (let n : ⊥ = omega arith in n)
-  no_form most n (unformed h) q = refused_2 most (fed_cut u n) h
+  pub no_form : (most : ℕ) → (e ≡ length t → ⊥) → ((q : Front) → Formed (take e t) q → ⊥) → FirstRefusal (front_rows most t) 2 0
+  no_form most n h = refused_2 most (fed_cut u n) h
 
-  pub found : {o : Opening} {n s : ℕ} → (e ≡ length t → ⊥) → Forms (take e t) o → o ≡ At n s → Found t e n s
-  found {n = n} {s} d (formed {n = m} {s = r} l f h) q =
-      let p : m ≡ n = cc in
-      let w : r ≡ s = cc in
-      let k = length-take-le e t u.within in
-      let v = drop_take r e t in
-      rw (← p, ← w)
-      (record {
-        ordered = omega arith;
+  pub found : {n s : ℕ} → (e ≡ length t → ⊥) → FormAt (take e t) n s → Found t e n s
+  found {s = s} d f =
+      let v = drop_take s e t in
+      record {
+        ordered = omega (arith, f.within, length-take-le e t u.within);
         within = u.within;
-        figures = rw (← v) f;
-        shape = record { text = take e t; rest = drop (suc e) t; feed = fed_cut u d; formed = rw (← v) h };
-      })
-  found d (unformed h) q = let z : ◌≡◌ {A = ℕ} 0 1 = cc in absurd (let n : ⊥ = omega arith in n)
+        figures = rw (← v) f.figures;
+        shape = record { text = take e t; rest = drop (suc e) t; feed = fed_cut u d; formed = rw (← v) f.formed };
+      }
 
 module _ (most : ℕ) {t : List ℕ} {e n s : ℕ} (f : Found t e n s) where
   pub not_sized : Outside most n → FirstRefusal (front_rows most t) 3 0
@@ -114,10 +107,8 @@ module _ (most : ℕ) {t : List ℕ} {e n s : ℕ} (f : Found t e n s) where
 
 -- ---- what a caller learns
 
-pub located : {most : ℕ} {t : List ℕ} {o : Span} {s e : ℕ} → Located most t o → o ≡ Digits s e → Stands most t s e
-located {s = s} {e} (stands {s = a} {e = b} h) q = let p : a ≡ s = cc in let r : b ≡ e = cc in rw (← p, ← r) h
-located (refused l) q = let z : ◌≡◌ {A = ℕ} 0 1 = cc in absurd (let n : ⊥ = omega arith in n)
+pub located : {most : ℕ} {t : List ℕ} {d : Span} → Located most t (Ok d) → Stands most t d.start d.end
+located (stands h) = h
 
-pub unlocated : {most : ℕ} {t : List ℕ} {o : Span} {k : ℕ} → Located most t o → o ≡ Refused k → FirstRefusal (front_rows most t) k 0
-unlocated (stands h) q = let z : ◌≡◌ {A = ℕ} 0 1 = cc in absurd (let n : ⊥ = omega arith in n)
-unlocated {k = k} (refused {k = j} l) q = let p : j ≡ k = cc in rw (← p) l
+pub unlocated : {most : ℕ} {t : List ℕ} {r : Refusal} → Located most t (Err r) → FirstRefusal (front_rows most t) r.row r.place
+unlocated (refused l) = l

@@ -10,7 +10,7 @@ use Rattle.texts.specs.Sound.{Sound}
 use Rattle.texts.specs.Numerals.{decimal-counts, count_some, marks-figures, marks-count}
 use Rattle.texts.specs.document.Parts.{spaced}
 use Rattle.texts.proofs.Parted.{parted_sound}
-use Rattle.lines.specs.document.Line.{body, front, DigitRow, plain_lines}
+use Rattle.lines.specs.document.Line.{body, DigitRow, plain_lines}
 use Rattle.lines.specs.Plain.{plain_reads, few, tied}
 
 module _ (most : ℕ) (rows : List DigitRow) where

@@ -1,15 +1,14 @@
 -- The form of a line, byte by byte: digits and their values, and how a line begins. Assumes nothing.
-use Rattle.std.specs.Prelude.{◌≡◌, Bool, true, false, ℕ, zero, suc, ◌+◌, ◌*◌, ◌-◌, ◌≤◌, ◌<◌, take}
+use Rattle.std.specs.Prelude.{◌≡◌, Bool, true, false, Some, None, ℕ, zero, suc, ◌+◌, ◌*◌, ◌-◌, ◌≤◌, ◌<◌, take}
 use Rattle.std.proofs.Math.Path.{refl, ap}
 use Rattle.std.proofs.Common.{sym, ◌∙◌, arith, length-append, drop_at}
 use mathlib.Core.List.{List, [], ◌∷◌, ◌++◌}
 use Rattle.std.proofs.Math.ListN.{length, get_or, drop}
 use Rattle.std.proofs.Math.Seq.{append_snoc, drop-cons, take-nil}
-use Rattle.lines.specs.declared.Opening.{Opening}
-use Rattle.lines.specs.declared.Opening.TheVariants.{At, Nothing}
 use Rattle.laws.specs.Part.{part}
 use Rattle.texts.specs.document.Numerals.{figures, Digits, IsCount, one-digit, two_digits}
-use Rattle.lines.specs.Form.{Value, values, Figured, all, not_all, Begins, Opens, begins, begins_not, Forms, formed, unformed}
+use Rattle.lines.specs.document.Line.{Front, Formed}
+use Rattle.lines.specs.Form.{Value, values, Figured, all, not_all, Begins, FormAt}
 use Rattle.lines.specs.document.Marks.{WrittenDigit, WrittenDigits}
 use Rattle.texts.specs.Cuts.{cut_once}
 use Rattle.texts.specs.Ending.{rest_is}
@@ -17,18 +16,15 @@ use Rattle.texts.specs.Numerals.{length_figures, count_free}
 use Rattle.laws.specs.Each.{each_at}
 use Rattle.lines.specs.Taking.{length_values}
 
-pub value-digit : {b v : ℕ} → Value b v → (v ≡ 10 → ⊥) → (v ≤ 9) × (b ≡ 48 + v)
-value-digit w n = let h = w.small in (omega arith, w.digit (omega arith))
+pub is_figure : (b v : ℕ) → Value b (Some v) → WrittenDigit b
+is_figure b v w = omega arith
 
-pub is_figure : {b v : ℕ} → Value b v → (v ≡ 10 → ⊥) → WrittenDigit b
-is_figure w n = let h = value-digit w n in omega arith
-
-no_figure : {b v : ℕ} → Value b v → v ≡ 10 → WrittenDigit b → ⊥
-no_figure {b} w e f = w.other (omega arith) (b - 48) (omega arith) (omega arith)
+no_figure : (b : ℕ) → Value b None → WrittenDigit b → ⊥
+no_figure b w f = w (b - 48) (omega arith) (omega arith)
 
 -- a byte of t at i is no digit's
-pub some_other : {t : List ℕ} {i v : ℕ} → i < length t → Value (get_or t i 0) v → v ≡ 10 → Figured t false
-some_other {t} {i} l w e = not_all (λ n f. no_figure w e (each_at WrittenDigit t i f l))
+pub some_other : {t : List ℕ} {i : ℕ} → i < length t → Value (get_or t i 0) None → Figured t false
+some_other {t} {i} l w = not_all (λ n f. no_figure _ w (each_at WrittenDigit t i f l))
 
 -- ---- how a line begins
 
@@ -51,9 +47,9 @@ module _ {b : List ℕ} where
 
   pub no_beginning :
       ((n : ℕ) → 2 ≤ length b → n ≤ 9 → get_or b 0 0 ≡ 48 + n → get_or b 1 0 ≡ 32 → ⊥)
-      → ((d e : ℕ) → 3 ≤ length b → 1 ≤ d → d ≤ 9 → e ≤ 9 → get_or b 0 0 ≡ 48 + d → get_or b 1 0 ≡ 48 + e → get_or b 2 0 ≡ 32 → ⊥) → Opens b Nothing
+      → ((d e : ℕ) → 3 ≤ length b → 1 ≤ d → d ≤ 9 → e ≤ 9 → get_or b 0 0 ≡ 48 + d → get_or b 1 0 ≡ 48 + e → get_or b 2 0 ≡ 32 → ⊥) → (n s : ℕ) → Begins b n s → ⊥
   unfolding figures
-  no_beginning f g = begins_not (λ n s h. go n h.rest h.counts h.parts)
+  no_beginning f g n s h = go n h.rest h.counts h.parts
     where
       go : (n : ℕ) {count : List ℕ} (rest : List ℕ) → IsCount count n → b ≡ count ++ (32 ∷ rest) → ⊥
       go n rest (one-digit h e) q =
@@ -88,16 +84,10 @@ drop_take (suc s) zero l = let q : 0 - suc s ≡ 0 = omega arith in rw q
 drop_take (suc s) (suc e) [] = sym (take-nil (suc e - suc s))
 drop_take (suc s) (suc e) (a ∷ l) = let q : suc e - suc s ≡ e - s = omega arith in rw q (drop_take s e l)
 
--- what was found at the beginning
-pub opened : {b : List ℕ} {o : Opening} {n s : ℕ} → Opens b o → o ≡ At n s → Begins b n s
-opened {b} {n = n} {s} (begins {n = m} {s = t} h) e = let p : m ≡ n = cc in let q : t ≡ s = cc in rw (← p, ← q) h
-opened (begins_not h) e = let z : ◌≡◌ {A = ℕ} 0 1 = cc in absurd (let n : ⊥ = omega arith in n)
-
-pub unopened : {b : List ℕ} {o : Opening} → Opens b o → o ≡ Nothing → Forms b Nothing
-unopened (begins h) e = let z : ◌≡◌ {A = ℕ} 0 1 = cc in absurd (let n : ⊥ = omega arith in n)
-unopened (begins_not h) e =
-    unformed (λ q f.
-    h q.count (length f.count + 1) (record { count = f.count; rest = figures q.digits; counts = f.counts; parts = f.parts; start = refl }))
+-- what begins with no count and space is not of the form
+pub unopened : {b : List ℕ} → ((n s : ℕ) → Begins b n s → ⊥) → (q : Front) → Formed b q → ⊥
+unopened h q f =
+    h q.count (length f.count + 1) (record { count = f.count; rest = figures q.digits; counts = f.counts; parts = f.parts; start = refl })
 
 pub figured : {t : List ℕ} {r : Bool} → Figured t r → r ≡ true → (1 ≤ length t) × WrittenDigits t
 figured (all l f) e = (l, f)
@@ -117,26 +107,22 @@ module _ {b : List ℕ} {n s : ℕ} (h : Begins b n s) where
       ap (drop s) (h.parts ∙ sym (append_snoc h.count 32 h.rest))
       ∙ drop_at (h.count ++ (32 ∷ [])) h.rest s (simp length-append (sym h.start))
 
-  pub has_form : {r : Bool} → Figured (take (length b - s) (drop s b)) r → r ≡ true → Forms b (At n s)
+  pub has_form : {r : Bool} → Figured (take (length b - s) (drop s b)) r → r ≡ true → FormAt b n s
   has_form g e =
       let k = figured (rw (rest_is b s) at g) e in
       let v = figures-values (drop s b) k.1 in
-      formed begins_within k.1
-      (record {
-        count = h.count;
-        counts = h.counts;
-        some = rw length_values k.0;
-        digits = v.1;
-        parts = rw (v.0, follows) h.parts;
-      })
+      record {
+        within = begins_within;
+        figures = k.1;
+        formed = record { count = h.count; counts = h.counts; some = rw length_values k.0; digits = v.1; parts = rw (v.0, follows) h.parts };
+      }
 
-  pub has_none : {r : Bool} → Figured (take (length b - s) (drop s b)) r → r ≡ false → Forms b Nothing
-  has_none g e =
+  pub has_none : {r : Bool} → Figured (take (length b - s) (drop s b)) r → r ≡ false → (q : Front) → Formed b q → ⊥
+  has_none g e d f =
       let k = unfigured (rw (rest_is b s) at g) e in
-      unformed (λ d f.
       let p =
       (cut_once 32 b h.count h.rest f.count (figures d.digits)
       (record { parts = h.parts; free = count_free 32 (omega arith) h.counts })
       (record { parts = f.parts; free = count_free 32 (omega arith) f.counts })).1 in
       let q : drop s b ≡ figures d.digits = follows ∙ p in
-      k (rw (q, length_figures) f.some) (rw q (are_figures d.digits f.digits)))
+      k (rw (q, length_figures) f.some) (rw q (are_figures d.digits f.digits))

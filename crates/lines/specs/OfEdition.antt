@@ -3,13 +3,13 @@
 -- In order: of an edition that is none; the answer to a line, and reading one, both ways; that they are a sound format. What rests on `tied` is in `proofs.OfEdition`.
 -- Assumes nothing.
 use Rattle.std.specs.Prelude.{◌≡◌, refl, List, [], ◌∷◌, ◌++◌, ℕ, ◌≤◌, length}
-use Rattle.std.proofs.Common.{sym, subst, ◌∙◌}
-use Rattle.refusal.specs.document.Table.{Row, Clear, Outcome, refuses, Promise, kept, left}
-use Rattle.refusal.specs.Laws.{clear_both, others}
+use Rattle.std.proofs.Common.{subst}
+use Rattle.refusal.specs.document.Table.{Row, Clear, FirstRefusal, Outcome, refuses, Promise, kept, left}
+use Rattle.refusal.specs.Laws.{clear_both, others, refusal_front}
 use Rattle.refusal.proofs.Laws.{refusal_back, refusal_behind}
 use Rattle.limits.specs.document.Limits.{size}
 use Rattle.edition.specs.document.Edition.{IsEdition, neighbours_in, row22}
-use Rattle.edition.specs.Laws.{at_most_nine, an_edition, edition_clear, refused_22}
+use Rattle.edition.specs.Laws.{at_most_nine, edition_clear}
 use Rattle.texts.specs.document.Text.{Format, line_rows, LineAnswers}
 use Rattle.texts.specs.document.Lent.{Hands, line_row15}
 use Rattle.texts.specs.Damage.{Accept}
@@ -21,8 +21,9 @@ use Rattle.lines.specs.Judged.{table_accept}
 
 -- ---- of an edition that is none
 
-pub line-none : (e : ℕ) {r : ℕ} {t old new : List ℕ} → r ≡ neighbours_in e → r ≡ 0 → new ≡ old → LineRead size (lines_of e) t old new (refuses 22 0)
-line-none e is z q = rw q (left (refused_22 _ (sym is ∙ z)) refl)
+pub line-none :
+    (e : ℕ) {k p : ℕ} {t old new : List ℕ} → FirstRefusal (row22 e ∷ []) k p → new ≡ old → LineRead size (lines_of e) t old new (refuses k p)
+line-none e l q = rw q (left (refusal_front _ l) refl)
 
 -- ---- of an edition
 
@@ -73,7 +74,7 @@ module _ (e : ℕ) where
 
 -- a line that is read for the limit of an edition
 pub line_in :
-    (e : ℕ) {r : ℕ} {t old new : List ℕ} {o : Outcome ℕ} → r ≡ neighbours_in e → (r ≡ 0 → ⊥) → LineRead size (plain_lines size (digit_table r)) t old new o
+    (e : ℕ) {r : ℕ} {t old new : List ℕ} {o : Outcome ℕ} → (r ≡ neighbours_in e) × IsEdition e → LineRead size (plain_lines size (digit_table r)) t old new o
     → LineRead size (lines_of e) t old new o
-line_in e {t = t} {old} {new} {o} is n a =
-    read_in e (an_edition e is n) (subst (λ (x : ℕ). LineRead size (plain_lines size (digit_table x)) t old new o) is a)
+line_in e {t = t} {old} {new} {o} (is, i) a =
+    read_in e i (subst (λ (x : ℕ). LineRead size (plain_lines size (digit_table x)) t old new o) is a)

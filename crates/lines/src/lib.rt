@@ -22,27 +22,25 @@ ghost use Rattle.lines.specs.Form.{Room, Value, values, Figured, Opens, Forms, L
 ghost use Rattle.lines.specs.document.Marks.{WrittenDigits};
 
 use limits::SIZE;
-use refusal::{Answer, Check};
+use refusal::Refusal;
 
 // Bytes that are compared at once.
 const BLOCK: usize = 16;
 
-// How a line begins.
+// How a line begins: with a count and a space.
 #[derive(Clone, Copy)]
-pub enum Opening {
-    // what its count says, and where what follows the space begins
-    At(usize, usize),
-    // with no count and space
-    Nothing,
+pub struct Opening {
+    // what its count says
+    pub count: usize,
+    // where what follows the space begins
+    pub start: usize,
 }
 
-// The digits of a line.
+// Where the digits of a line begin, and where they end.
 #[derive(Clone, Copy)]
-pub enum Span {
-    // where they begin, and where they end
-    Digits(usize, usize),
-    // the number of the refusal that comes before they are judged
-    Refused(u8),
+pub struct Span {
+    pub start: usize,
+    pub end: usize,
 }
 
 // How far a text is read: so many lines, up to a place.
@@ -57,11 +55,8 @@ fn none(k: u8, t: &[u8]) -> bool
     ensures { result ≡ true → Each (Other k) t.now }
 {
     let mut free = true;
-    let mut i = 0;
-    while i < t.len() {
-        let b = t[i];
-        i += 1;
-        if b == k {
+    for b in t {
+        if *b == k {
             free = false;
         }
     }
@@ -88,14 +83,12 @@ fn seek(k: u8, t: &[u8], from: usize) -> usize
     requires { Passed (Other k) t.now from }
     ensures { Until k t.now result }
 {
-    let mut i = from;
-    while i < t.len() {
+    for i in from..t.len() {
         if t[i] == k {
             return i;
         }
-        i += 1;
     }
-    i
+    t.len()
 }
 
 // The same of a block and more. A near one is found byte by byte, since most parts of a line are short; then whole blocks are passed.
@@ -110,7 +103,7 @@ fn seek_far(k: u8, t: &[u8]) -> usize
     seek(k, t, passed(k, t, BLOCK))
 }
 
-// The place of the first byte k, or the length where there is none.
+// The place of the first byte k, or the length where there is none: every caller cuts `t` there, so an Option would be undone at each.
 pub fn until(k: u8, t: &[u8]) -> usize
     ensures { Until k t.now result }
 {
@@ -125,111 +118,87 @@ pub fn feed(text: &[u8]) -> usize
     ensures { UpTo text.now result }
 {
     if text.len() < BLOCK {
-        return seek(10, text, 0);
+        return seek(b'\n', text, 0);
     }
-    until(10, text)
+    until(b'\n', text)
 }
 
-// The value of a digit's byte, and 10 of any other byte.
-fn value(b: u8) -> u8
+// The value of a digit's byte, and none of any other byte.
+fn value(b: u8) -> Option<u8>
     ensures { Value b result }
 {
-    if b < 48 {
-        return 10;
+    match b {
+        b'0'..=b'9' => Some(b - b'0'),
+        _ => None,
     }
-    if 57 < b {
-        return 10;
-    }
-    b - 48
 }
 
 // Whether `t` is one or more digits.
 pub fn digits(t: &[u8]) -> bool
     ensures { Figured t.now result }
 {
-    if t.len() == 0 {
-        return false;
-    }
-    let mut i = 0;
-    while i < t.len() {
-        if value(t[i]) == 10 {
-            return false;
-        }
-        i += 1;
-    }
-    true
+    !t.is_empty() && t.iter().all(|b| b.is_ascii_digit())
 }
 
-// The count and the space that `b` begins with.
-pub fn begin(b: &[u8]) -> Opening
+// The count and the space that `b` begins with; none where it begins otherwise.
+pub fn begin(b: &[u8]) -> Option<Opening>
     ensures { Opens b.now result }
 {
     if b.len() < 2 {
-        return Opening::Nothing;
+        return None;
     }
-    let tens = value(b[0]);
-    if tens == 10 {
-        return Opening::Nothing;
-    }
-    if b[1] == 32 {
-        return Opening::At(tens as usize, 2);
+    let tens = value(b[0])?;
+    if b[1] == b' ' {
+        return Some(Opening {
+            count: tens as usize,
+            start: 2,
+        });
     }
     if tens == 0 {
-        return Opening::Nothing;
+        return None;
     }
-    let ones = value(b[1]);
-    if ones == 10 {
-        return Opening::Nothing;
+    let ones = value(b[1])?;
+    if b.len() < 3 || b[2] != b' ' {
+        return None;
     }
-    if b.len() < 3 {
-        return Opening::Nothing;
-    }
-    if b[2] == 32 {
-        return Opening::At(10 * tens as usize + ones as usize, 3);
-    }
-    Opening::Nothing
+    Some(Opening {
+        count: 10 * tens as usize + ones as usize,
+        start: 3,
+    })
 }
 
-// The form of a line without its line feed.
-pub fn form(b: &[u8]) -> Opening
+// The form of a line without its line feed; none where it has another.
+pub fn form(b: &[u8]) -> Option<Opening>
     ensures { Forms b.now result }
 {
-    match begin(b) {
-        Opening::Nothing => Opening::Nothing,
-        Opening::At(n, start) => {
-            if digits(&b[start..]) {
-                Opening::At(n, start)
-            } else {
-                Opening::Nothing
-            }
-        }
+    let opening = begin(b)?;
+    if !digits(&b[opening.start..]) {
+        return None;
     }
+    Some(opening)
 }
 
 // The digits of a text's first line, which is judged by rows 1, 2, 3 and 5.
-pub fn locate(text: &[u8]) -> Span
+pub fn locate(text: &[u8]) -> Result<Span, Refusal>
     ensures { Located size text.now result }
 {
     let end = feed(text);
     if end == text.len() {
-        return Span::Refused(1);
+        return Err(Refusal { row: 1, place: 0 });
     }
-    match form(&text[..end]) {
-        Opening::Nothing => Span::Refused(2),
-        Opening::At(n, start) => {
-            if n == 0 {
-                return Span::Refused(3);
-            }
-            if SIZE < n {
-                return Span::Refused(3);
-            }
-            if end - start == n {
-                Span::Digits(start, end)
-            } else {
-                Span::Refused(5)
-            }
-        }
+    let Some(opening) = form(&text[..end]) else {
+        return Err(Refusal { row: 2, place: 0 });
+    };
+    if opening.count == 0 || SIZE < opening.count {
+        return Err(Refusal { row: 3, place: 0 });
     }
+    if end - opening.start != opening.count {
+        return Err(Refusal { row: 5, place: 0 });
+    }
+    Ok(Span {
+        start: opening.start,
+        end,
+    })
 }
 
 // Written digits as values, to the start of what is lent.
@@ -238,10 +207,8 @@ pub fn read_digits(t: &[u8], out: &mut [u8])
     requires room { length t.now ≤ length out.old }
     ensures { out.new ≡ laid_over (values t.now) out.old }
 {
-    let mut i = 0;
-    while i < t.len() {
-        out[i] = t[i] - 48;
-        i += 1;
+    for (i, b) in t.iter().enumerate() {
+        out[i] = *b - b'0';
     }
 }
 
@@ -251,10 +218,8 @@ pub fn write_digits(code: &[u8], out: &mut [u8])
     requires room { length code.now ≤ length out.old }
     ensures { out.new ≡ laid_over (figures code.now) out.old }
 {
-    let mut i = 0;
-    while i < code.len() {
-        out[i] = 48 + code[i];
-        i += 1;
+    for (i, d) in code.iter().enumerate() {
+        out[i] = b'0' + *d;
     }
 }
 
@@ -265,11 +230,11 @@ pub fn write_count(n: usize, out: &mut [u8]) -> usize
     ensures { Laid (decimal n) out.old out.new result }
 {
     if n < 10 {
-        out[0] = 48 + n as u8;
+        out[0] = b'0' + n as u8;
         return 1;
     }
-    out[0] = 48 + (n / 10) as u8;
-    out[1] = 48 + (n % 10) as u8;
+    out[0] = b'0' + (n / 10) as u8;
+    out[1] = b'0' + (n % 10) as u8;
     2
 }
 
@@ -282,9 +247,9 @@ pub fn write(code: &[u8], out: &mut [u8]) -> usize
 {
     let n = code.len();
     let at = write_count(n, out);
-    out[at] = 32;
+    out[at] = b' ';
     write_digits(code, &mut out[at + 1..]);
-    out[at + 1 + n] = 10;
+    out[at + 1 + n] = b'\n';
     at + n + 2
 }
 
@@ -300,7 +265,7 @@ pub fn extent(n: usize) -> usize
 }
 
 // The digits of a line, as they are written, by their values: row 3 of digits lent by themselves, and the rows of a line's.
-fn judge(limit: u8, t: &[u8]) -> Check
+fn judge(limit: u8, t: &[u8]) -> Result<(), Refusal>
     requires some { 1 ≤ limit }
     requires figures { WrittenDigits t.now }
     requires few { length t.now ≤ size }
@@ -312,36 +277,24 @@ fn judge(limit: u8, t: &[u8]) -> Check
 }
 
 // The first line of a text: its digits as values, to the start of what is lent.
-pub fn read_line(limit: u8, text: &[u8], out: &mut [u8]) -> Answer
+pub fn read_line(limit: u8, text: &[u8], out: &mut [u8]) -> Result<usize, Refusal>
     requires { 1 ≤ limit }
     ensures { LineRead size (plain_lines size (digit_table limit)) text.now out.old out.new (told result) }
 {
-    match locate(text) {
-        Span::Refused(k) => Answer::Refused(k, 0),
-        Span::Digits(start, end) => {
-            let n = end - start;
-            match judge(limit, &text[start..end]) {
-                Check::Refuse(k, p) => Answer::Refused(k, p),
-                Check::Passed => {
-                    if out.len() < n {
-                        return Answer::Refused(15, n);
-                    }
-                    read_digits(&text[start..end], out);
-                    Answer::Done(n)
-                }
-            }
-        }
-    }
+    let at = locate(text)?;
+    let n = at.end - at.start;
+    let digits = &text[at.start..at.end];
+    judge(limit, digits)?;
+    refusal::fits(n, out.len())?;
+    read_digits(digits, out);
+    Ok(n)
 }
 
 // The first line of a text, as a line of an edition.
-pub fn read_line_of(edition: usize, text: &[u8], out: &mut [u8]) -> Answer
+pub fn read_line_of(edition: usize, text: &[u8], out: &mut [u8]) -> Result<usize, Refusal>
     ensures { LineRead size (lines_of edition) text.now out.old out.new (told result) }
 {
-    let limit = edition::limit_of(edition);
-    if limit == 0 {
-        return Answer::Refused(22, 0);
-    }
+    let limit = edition::limit_of(edition)?;
     read_line(limit, text, out)
 }
 
@@ -349,17 +302,7 @@ pub fn read_line_of(edition: usize, text: &[u8], out: &mut [u8]) -> Answer
 pub fn room(records: usize, numbers: usize, places: usize) -> usize
     ensures { Room size records numbers places result }
 {
-    let n = records / SIZE;
-    if numbers < n {
-        if places < numbers {
-            return places;
-        }
-        return numbers;
-    }
-    if places < n {
-        return places;
-    }
-    n
+    (records / SIZE).min(numbers).min(places)
 }
 
 // The place behind the line that begins at `at`.
@@ -375,20 +318,20 @@ pub fn behind(text: &[u8], at: usize) -> usize
 }
 
 // Number and place of an answer, for line k.
-pub fn note(r: Answer, numbers: &mut [u8], places: &mut [usize], k: usize)
+pub fn note(r: Result<usize, Refusal>, numbers: &mut [u8], places: &mut [usize], k: usize)
     requires k_in_bounds { k < length numbers.old }
     requires k_in_bounds_2 { k < length places.old }
     ensures numbers_after { numbers.new ≡ set numbers.old k (number_of (told r)) }
     ensures places_after { places.new ≡ set places.old k (place_of (told r)) }
 {
     match r {
-        Answer::Done(n) => {
+        Ok(n) => {
             numbers[k] = 0;
             places[k] = n;
         }
-        Answer::Refused(m, p) => {
-            numbers[k] = m;
-            places[k] = p;
+        Err(refusal) => {
+            numbers[k] = refusal.row;
+            places[k] = refusal.place;
         }
     }
 }
@@ -406,9 +349,8 @@ pub fn read_text(
         records.new numbers.new places.new result.lines result.at }
 {
     let lines = room(records.len(), numbers.len(), places.len());
-    let mut k = 0;
     let mut at = 0;
-    while k < lines {
+    for k in 0..lines {
         if at == text.len() {
             return Progress { lines: k, at };
         }
@@ -419,7 +361,6 @@ pub fn read_text(
         );
         note(r, numbers, places, k);
         at = behind(text, at);
-        k += 1;
     }
-    Progress { lines: k, at }
+    Progress { lines, at }
 }

@@ -3,7 +3,7 @@
 // which falls what is asked for.
 #![tactic(auto)]
 
-ghost use Rattle.std.specs.Prelude.{◌≡◌, [], ◌∷◌, ◌++◌, ◌≤◌, min, length};
+ghost use Rattle.std.specs.Prelude.{◌≡◌, [], ◌∷◌, ◌++◌, ◌≤◌, length};
 ghost use Rattle.limits.specs.document.Limits.{size};
 ghost use Rattle.refusal.specs.document.Outcome.{told};
 ghost use Rattle.lines.specs.document.Judged.{digit_table};
@@ -13,7 +13,7 @@ ghost use Rattle.listing_text.specs.Window.{Puts};
 ghost use Rattle.listing_text.specs.Steps.{lines_of_kind, Allowed, Replied, is_record, Spelt};
 
 use limits::SIZE;
-use refusal::Answer;
+use refusal::Refusal;
 
 // Which lines a text has.
 #[derive(Clone, Copy)]
@@ -31,18 +31,11 @@ struct Window {
     done: usize,
 }
 
-fn least(a: usize, b: usize) -> usize
-    ensures { result ≡ min a b }
-{
-    if a < b { a } else { b }
-}
-
 // Puts bytes behind those that were put: what of them falls into the window is written.
 fn put(bytes: &[u8], w: Window, out: &mut [u8]) -> Window
     ensures { Puts bytes.now out.old w.skip w.done out.new result.skip result.done }
 {
-    let skip = w.skip;
-    let done = w.done;
+    let Window { skip, done } = w;
     let n = bytes.len();
     if n <= skip {
         return Window {
@@ -53,7 +46,7 @@ fn put(bytes: &[u8], w: Window, out: &mut [u8]) -> Window
     if out.len() <= done {
         return Window { skip: 0, done };
     }
-    let end = least(n, skip + (out.len() - done));
+    let end = n.min(skip + (out.len() - done));
     copying::copy(&bytes[skip..end], &mut out[done..]);
     Window {
         skip: 0,
@@ -71,11 +64,11 @@ fn spell(n: usize, last: u8, out: &mut [u8; 32]) -> usize
     let mut rest = n;
     while 10 <= rest {
         at -= 1;
-        out[at] = 48 + (rest % 10) as u8;
+        out[at] = b'0' + (rest % 10) as u8;
         rest /= 10;
     }
     at -= 1;
-    out[at] = 48 + rest as u8;
+    out[at] = b'0' + rest as u8;
     at
 }
 
@@ -89,15 +82,15 @@ fn number(n: usize, last: u8, w: Window, out: &mut [u8]) -> Window
 }
 
 // Puts the line for an answer: line number, refusal number and place, both 0 for a record.
-fn answer(a: Answer, line: usize, w: Window, out: &mut [u8]) -> Window
+fn answer(a: Result<usize, Refusal>, line: usize, w: Window, out: &mut [u8]) -> Window
     ensures { Puts (answer_line line (told a)) out.old w.skip w.done out.new result.skip result.done }
 {
-    let v = number(line, 32, w, out);
+    let v = number(line, b' ', w, out);
     match a {
-        Answer::Done(_) => put(b"0 0\n", v, out),
-        Answer::Refused(k, p) => {
-            let u = number(k as usize, 32, v, out);
-            number(p, 10, u, out)
+        Ok(_) => put(b"0 0\n", v, out),
+        Err(refusal) => {
+            let u = number(refusal.row as usize, b' ', v, out);
+            number(refusal.place, b'\n', u, out)
         }
     }
 }
@@ -107,13 +100,13 @@ fn totals(read: usize, refused: usize, w: Window, out: &mut [u8]) -> Window
     ensures { Puts (listing_totals read refused) out.old w.skip w.done out.new result.skip result.done }
 {
     let a = put(b"read ", w, out);
-    let b = number(read, 32, a, out);
+    let b = number(read, b' ', a, out);
     let c = put(b"refused ", b, out);
-    number(refused, 10, c, out)
+    number(refused, b'\n', c, out)
 }
 
 // The answer to a text's first line, as a plain line.
-fn first_plain(limit: u8, text: &[u8]) -> Answer
+fn first_plain(limit: u8, text: &[u8]) -> Result<usize, Refusal>
     requires { 1 ≤ limit }
     ensures { Replied (lines_of_kind (Kind.Plain limit)) text.now (told result) }
 {
@@ -122,7 +115,7 @@ fn first_plain(limit: u8, text: &[u8]) -> Answer
 }
 
 // The answer to a text's first line, as a named line.
-fn first_named(text: &[u8]) -> Answer
+fn first_named(text: &[u8]) -> Result<usize, Refusal>
     ensures { Replied (lines_of_kind Kind.Named) text.now (told result) }
 {
     let mut digits = [0u8; SIZE];
@@ -131,7 +124,7 @@ fn first_named(text: &[u8]) -> Answer
 }
 
 // The answer to a text's first line.
-fn first(kind: Kind, text: &[u8]) -> Answer
+fn first(kind: Kind, text: &[u8]) -> Result<usize, Refusal>
     requires { Allowed kind }
     ensures { Replied (lines_of_kind kind) text.now (told result) }
 {
@@ -142,12 +135,12 @@ fn first(kind: Kind, text: &[u8]) -> Answer
 }
 
 // 1 for a record, and 0 for a refusal.
-fn is_record(a: Answer) -> usize
+fn is_record(a: Result<usize, Refusal>) -> usize
     ensures { result ≡ is_record (told a) }
 {
     match a {
-        Answer::Done(_) => 1,
-        Answer::Refused(_, _) => 0,
+        Ok(_) => 1,
+        Err(_) => 0,
     }
 }
 

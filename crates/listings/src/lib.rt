@@ -53,14 +53,12 @@ fn list<W: Write>(kind: Kind, text: &[u8], output: &mut W) -> io::Result<()>
     ensures some { OnErr result (Begun (lines_of_kind kind).format text.now (W.contents output.old) (W.contents output.new)) }
 {
     let mut piece = [0u8; 65536];
-    let mut from = 0;
-    while from < 4194304 {
-        let n = listing_text::list_kind(kind, text, from, &mut piece);
+    for i in 0..64 {
+        let n = listing_text::list_kind(kind, text, 65536 * i, &mut piece);
         write_full(output, &piece[..n])?;
         if n < 65536 {
             return Ok(());
         }
-        from += n;
     }
     Ok(())
 }

@@ -1,7 +1,8 @@
 -- Two edge lists with letters: one is refused; of two accepted ones the verdict by their sizes, and by their centred codes, as these are written and compared; the map that is
 -- handed out, with the pairs looked at, and the one that is judged. Assumes nothing.
+use Rattle.std.specs.Bool.{Decides}
 use mathlib.Core.Path.{◌≡◌, refl, sym, ◌∙◌, subst}
-use mathlib.Core.Bool.{true, false}
+use mathlib.Core.Bool.{Bool, true, false}
 use mathlib.Core.List.{List, [], ◌∷◌}
 use Prim.Native.Nat.{ℕ}
 use lib.ListN.{length, take}
@@ -64,6 +65,10 @@ module _ (N : ℕ) (E s : List ℕ) (P : ℕ) (F u : List ℕ) where
 
       pub verdict_different : (take N a ≡ take P b → ⊥) → NamedSameSkeleton N E s P F u (gives false)
       verdict_different n = judged-other accepted v.right w.right (only_code N E s k) (only_code P F u l) (λ q. n (written v ∙ q ∙ sym (written w)))
+
+      pub verdict : (d : Bool) → Decides d (take N a ≡ take P b) → NamedSameSkeleton N E s P F u (gives d)
+      verdict true d = verdict-same (d.0 refl)
+      verdict false d = verdict_different (λ q. let z : ◌≡◌ {A = Bool} false true = d.1 q in absurd cc)
 
     -- a map as it is judged
     module _ (w : List ℕ) where

@@ -3,7 +3,7 @@ use mathlib.Core.Path.{◌≡◌, sym, ap, ◌∙◌, subst}
 use mathlib.Core.List.{List, []}
 use Prim.Native.Nat.{ℕ}
 use lib.ListN.{length, take}
-use Rattle.refusal.specs.document.Table.{Row, Clear, Outcome, gives, refuses, Writes}
+use Rattle.refusal.specs.document.Table.{Row, Clear, Outcome, Writes}
 use Rattle.refusal.specs.document.Both.{TwoOutputs, GivesBoth}
 use Rattle.refusal.specs.Both.{Sized}
 use Rattle.refusal.proofs.Both.{both_behind}
@@ -11,7 +11,6 @@ use Rattle.refusal.specs.Giving.{written}
 use Rattle.skeleton.specs.document.Label.{digits}
 use Rattle.skeleton.specs.document.AtomMarks.{atoms}
 use Rattle.letters.specs.document.Letters.{letters_of}
-use Rattle.refusal.specs.document.Reported.{Reports, Reporting}
 use Rattle.named.specs.document.Codes.{Spelled}
 use Rattle.named.specs.Accepted.{digits_many, letters_many}
 
@@ -27,8 +26,3 @@ module _ {rs : List Row} {Right : List ℕ → Type 0} {N : ℕ} (clear : Clear 
 -- what was written is right
 pub written_right : {Right : List ℕ → Type 0} {old new : List ℕ} {n : ℕ} → Writes Right old n new → Right (take n new)
 written_right {Right} w = subst Right (sym (written w)) w.right
-
--- an answer behind a code for which so many pairs were looked at
-pub reported : {P : Outcome ℕ → Type 0} {Count : ℕ → Type 0} (looked : ℕ) {n : ℕ} (o : Outcome ℕ) → P o → Count looked → Reports (λ m. m ≡ looked) o n → Reporting P Count o n
-reported {Count = Count} looked (gives a) p c e = record { promised = p; reported = subst Count (sym e) c }
-reported looked (refuses k j) p c e = record { promised = p; reported = e }

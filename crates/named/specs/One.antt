@@ -1,14 +1,18 @@
 -- Read from its promise alone, every public call on skeletons with named atoms has one possible result and one possible state of what it is lent, as in `One` of the crate `zurkhovel`. r, s: the call's own results; new, new':
--- what was lent, after it. Of a call that also reports how many pairs it looked at, r and s are its answers. Assumes nothing.
+-- what was lent, after it. Of a call that only checks, r and s are `unwritten` of its results. Of a call that also reports how many pairs it looked at, r and s are its answers. Assumes nothing.
 --
 -- In order: what is right is one; codes; two lists; lines; equal vertices. The forms that take carbon only are in `OneBits`, `OneMatrix` and `OneText` of the crate `zurkhovel`, over any table.
+use Rattle.std.specs.Prelude.{Bool}
+use Rattle.refusal.specs.declared.ListRefusal.{ListRefusal}
+use Rattle.refusal.specs.document.Outcome.{told_of}
+use Rattle.std.specs.Prelude.{Result}
+use Rattle.refusal.specs.declared.Refusal.{Refusal}
 use Rattle.std.specs.Prelude.{◌≡◌, refl, List, [], ◌∷◌, ℕ}
 use Rattle.std.proofs.Common.{sym, ap, ap₂, ◌∙◌, subst}
 use Rattle.refusal.specs.document.Table.{Clear}
 use Rattle.refusal.specs.document.Both.{TwoOutputs}
 use Rattle.refusal.specs.document.Outcome.{told}
-use Rattle.refusal.specs.declared.Answer.{Answer}
-use Rattle.refusal.proofs.Apart.{told-both}
+use Rattle.refusal.proofs.Apart.{told-both, told_of_apart}
 use Rattle.refusal.proofs.Laws.{one_result}
 use Rattle.refusal.proofs.Giving.{one_clear}
 use Rattle.refusal.proofs.Both.{one-both}
@@ -29,12 +33,7 @@ use Rattle.lines.specs.declared.Progress.{Progress}
 use Rattle.named_lines.specs.document.Named.{named_table, lines_of_named, named_lent}
 use Rattle.named_lines.specs.NamedSound.{named_once}
 use Rattle.listing_text.specs.Theorems as Listing
-use Rattle.zurkhovel.specs.document.Same.{said}
-use Rattle.zurkhovel.specs.document.Maps.{mapped}
-use Rattle.zurkhovel.specs.declared.codes.Verdict.{Verdict}
-use Rattle.zurkhovel.specs.declared.maps.Mapping.{Mapping}
-use Rattle.zurkhovel.specs.One.{one-check, one_found, said_apart}
-use Rattle.zurkhovel.specs.OneMaps.{mapped_apart}
+use Rattle.zurkhovel.specs.One.{one-check, one_found}
 use Rattle.named.specs.document.Codes.{Spelled, NamedForm, NamedCheckCode, NamedDecodeCode, NamedDecodeForm, NamedCheckEdges, NamedRootedCode, NamedFormCode}
 use Rattle.named.specs.document.Same.{named_list_rows, NamedSameSkeleton, NamedHandOut, NamedCheckRenumbering}
 use Rattle.named.specs.document.Text.{NamedWriteLine, NamedReadLine, NamedReadText, NamedListText}
@@ -60,80 +59,80 @@ both-only e = (cc, cc)
 
 -- ---- codes
 
-pub one-named-check-code : (ds ls : List ℕ) (r s : Answer) → NamedCheckCode ds ls (told r) → NamedCheckCode ds ls (told s) → r ≡ s
+pub one-named-check-code : (ds ls : List ℕ) (r s : Result ℕ Refusal) → NamedCheckCode ds ls (told r) → NamedCheckCode ds ls (told s) → r ≡ s
 one-named-check-code ds ls = one-check
 
 pub one-named-decode-code :
-    (ds ls : List ℕ) (old new new' : TwoOutputs) (r s : Answer) → NamedDecodeCode ds ls old new (told r) → NamedDecodeCode ds ls old new' (told s) → (r ≡ s) × (new ≡ new')
+    (ds ls : List ℕ) (old new new' : TwoOutputs) (r s : Result ℕ Refusal) → NamedDecodeCode ds ls old new (told r) → NamedDecodeCode ds ls old new' (told s) → (r ≡ s) × (new ≡ new')
 one-named-decode-code ds ls old new new' r s a b = told-both r s (one-both (λ k c l d m (p, q) (x, y). (p ∙ sym x, q ∙ sym y)) a b)
 
 one-decode-form :
-    (form : NamedForm) (ds ls : List ℕ) (old new new' : TwoOutputs) (r s : Answer) → NamedDecodeForm form ds ls old new (told r) → NamedDecodeForm form ds ls old new' (told s)
+    (form : NamedForm) (ds ls : List ℕ) (old new new' : TwoOutputs) (r s : Result ℕ Refusal) → NamedDecodeForm form ds ls old new (told r) → NamedDecodeForm form ds ls old new' (told s)
     → (r ≡ s) × (new ≡ new')
 one-decode-form form ds ls old new new' r s a b = told-both r s (one-both (λ k c l d m (p, q) (x, y). (p ∙ sym x, q ∙ sym y)) a b)
 
 pub one-named-decode-n_tuple :
-    (ds ls : List ℕ) (old new new' : TwoOutputs) (r s : Answer) → NamedDecodeForm (IsNTupleₗ atoms) ds ls old new (told r) → NamedDecodeForm (IsNTupleₗ atoms) ds ls old new' (told s)
+    (ds ls : List ℕ) (old new new' : TwoOutputs) (r s : Result ℕ Refusal) → NamedDecodeForm (IsNTupleₗ atoms) ds ls old new (told r) → NamedDecodeForm (IsNTupleₗ atoms) ds ls old new' (told s)
     → (r ≡ s) × (new ≡ new')
 one-named-decode-n_tuple = one-decode-form (IsNTupleₗ atoms)
 
 pub one-named-decode-centred :
-    (ds ls : List ℕ) (old new new' : TwoOutputs) (r s : Answer) → NamedDecodeForm (IsCentredₗ atoms) ds ls old new (told r) → NamedDecodeForm (IsCentredₗ atoms) ds ls old new' (told s)
+    (ds ls : List ℕ) (old new new' : TwoOutputs) (r s : Result ℕ Refusal) → NamedDecodeForm (IsCentredₗ atoms) ds ls old new (told r) → NamedDecodeForm (IsCentredₗ atoms) ds ls old new' (told s)
     → (r ≡ s) × (new ≡ new')
 one-named-decode-centred = one-decode-form (IsCentredₗ atoms)
 
 module _ (N : ℕ) (E s : List ℕ) where
-  pub one-named-check-edges : (root : ℕ) (r q : Answer) → NamedCheckEdges N E s root (told r) → NamedCheckEdges N E s root (told q) → r ≡ q
+  pub one-named-check-edges : (root : ℕ) (r q : Result ℕ Refusal) → NamedCheckEdges N E s root (told r) → NamedCheckEdges N E s root (told q) → r ≡ q
   one-named-check-edges root = one-check
 
   pub one-named-rooted-code :
-      (root : ℕ) (old new new' : TwoOutputs) (r q : Answer) → NamedRootedCode N E s root old new (told r) → NamedRootedCode N E s root old new' (told q) → (r ≡ q) × (new ≡ new')
+      (root : ℕ) (old new new' : TwoOutputs) (r q : Result ℕ Refusal) → NamedRootedCode N E s root old new (told r) → NamedRootedCode N E s root old new' (told q) → (r ≡ q) × (new ≡ new')
   one-named-rooted-code root old new new' r q a b = told-both r q (one-both (λ k. one-spelled (λ c d x y. x ∙ sym y)) a b)
 
   one-form-code :
-      (form : NamedForm) → IsFormₗ atoms form → (old new new' : TwoOutputs) (r q : Answer) → NamedFormCode form N E s old new (told r) → NamedFormCode form N E s old new' (told q)
+      (form : NamedForm) → IsFormₗ atoms form → (old new new' : TwoOutputs) (r q : Result ℕ Refusal) → NamedFormCode form N E s old new (told r) → NamedFormCode form N E s old new' (told q)
       → (r ≡ q) × (new ≡ new')
   one-form-code form f old new new' r q a b = told-both r q (one-both (λ k. one-spelled (λ c d. f.one N E (atom_at s) (tree_of N E 1 s k))) a b)
 
   pub one-named-n_tuple-code :
-      (old new new' : TwoOutputs) (r q : Answer) → NamedFormCode (IsNTupleₗ atoms) N E s old new (told r) → NamedFormCode (IsNTupleₗ atoms) N E s old new' (told q) → (r ≡ q) × (new ≡ new')
+      (old new new' : TwoOutputs) (r q : Result ℕ Refusal) → NamedFormCode (IsNTupleₗ atoms) N E s old new (told r) → NamedFormCode (IsNTupleₗ atoms) N E s old new' (told q) → (r ≡ q) × (new ≡ new')
   one-named-n_tuple-code = one-form-code (IsNTupleₗ atoms) (n_tuple_formₗ atoms)
 
   pub one-named-centred-code :
-      (old new new' : TwoOutputs) (r q : Answer) → NamedFormCode (IsCentredₗ atoms) N E s old new (told r) → NamedFormCode (IsCentredₗ atoms) N E s old new' (told q) → (r ≡ q) × (new ≡ new')
+      (old new new' : TwoOutputs) (r q : Result ℕ Refusal) → NamedFormCode (IsCentredₗ atoms) N E s old new (told r) → NamedFormCode (IsCentredₗ atoms) N E s old new' (told q) → (r ≡ q) × (new ≡ new')
   one-named-centred-code = one-form-code (IsCentredₗ atoms) (centred_formₗ atoms)
 
   -- ---- two lists
 
   module _ (P : ℕ) (F u : List ℕ) where
-    pub one-named-same-skeleton : (r q : Verdict) → NamedSameSkeleton N E s P F u (said r) → NamedSameSkeleton N E s P F u (said q) → r ≡ q
+    pub one-named-same-skeleton : (r q : Result Bool ListRefusal) → NamedSameSkeleton N E s P F u (told_of r) → NamedSameSkeleton N E s P F u (told_of q) → r ≡ q
     one-named-same-skeleton r q x y =
-        said_apart r q (one_result (λ a b v w. (one_found (IsCentredₗ atoms N E (atom_at s)) (IsCentredₗ atoms P F (atom_at u)) a b v w, refl)) x y).0
+        told_of_apart r q (one_result (λ a b v w. (one_found (IsCentredₗ atoms N E (atom_at s)) (IsCentredₗ atoms P F (atom_at u)) a b v w, refl)) x y).0
 
     pub one-named-renumbering :
-        (old new new' : List ℕ) (r q : Mapping) → NamedHandOut N E s P F u old new (mapped r) → NamedHandOut N E s P F u old new' (mapped q) → (r ≡ q) × (new ≡ new')
+        (old new new' : List ℕ) (r q : Result ℕ ListRefusal) → NamedHandOut N E s P F u old new (told_of r) → NamedHandOut N E s P F u old new' (told_of q) → (r ≡ q) × (new ≡ new')
     one-named-renumbering old new new' r q x y =
         let (e, f) = one-handed_out [] (named_list_rows N E s) (named_list_rows P F u) (λ z k l. (
           one-handed-kept atoms (atom_at s) (atom_at u) (tree_of N E 1 s k),
           λ w v n. let (c, g, h) = kept-codes N E s P F u k l w v in n c g h,
         )) x y in
-        (mapped_apart r q e, f)
+        (told_of_apart r q e, f)
 
     pub one-named-check-renumbering :
-        (w : List ℕ) (r q : Mapping) → NamedCheckRenumbering N E s P F u w (mapped r) → NamedCheckRenumbering N E s P F u w (mapped q) → r ≡ q
-    one-named-check-renumbering w r q x y = mapped_apart r q (one_result (λ a b e f. (e ∙ sym f, refl)) x y).0
+        (w : List ℕ) (r q : Result ℕ ListRefusal) → NamedCheckRenumbering N E s P F u w (told_of r) → NamedCheckRenumbering N E s P F u w (told_of q) → r ≡ q
+    one-named-check-renumbering w r q x y = told_of_apart r q (one_result (λ a b e f. (e ∙ sym f, refl)) x y).0
 
   -- ---- lines and equal vertices
 
-  pub one-named-write-line : (old new new' : List ℕ) (r q : Answer) → NamedWriteLine N E s old new (told r) → NamedWriteLine N E s old new' (told q) → (r ≡ q) × (new ≡ new')
+  pub one-named-write-line : (old new new' : List ℕ) (r q : Result ℕ Refusal) → NamedWriteLine N E s old new (told r) → NamedWriteLine N E s old new' (told q) → (r ≡ q) × (new ≡ new')
   one-named-write-line old new new' r q a b = told-both r q (one_clear (one_derived N E s (λ c l m e f. e ∙ sym f)) a b)
 
   pub one-named-equal-vertices :
-      (old new new' : List ℕ) (r q : Answer) → NamedEqualVertices N E s old new (told r) → NamedEqualVertices N E s old new' (told q) → (r ≡ q) × (new ≡ new')
+      (old new new' : List ℕ) (r q : Result ℕ Refusal) → NamedEqualVertices N E s old new (told r) → NamedEqualVertices N E s old new' (told q) → (r ≡ q) × (new ≡ new')
   one-named-equal-vertices old new new' r q a b = told-both r q (one_clear (one_derived N E s {Of = ClassesOfₗ atoms} (λ c l m. one-numbering)) a b)
 
 pub one-named-read-line :
-    (t old letters new new' spelled spelled' : List ℕ) (r s : Answer) → NamedReadLine t old letters new spelled (told r) → NamedReadLine t old letters new' spelled' (told s)
+    (t old letters new new' spelled spelled' : List ℕ) (r s : Result ℕ Refusal) → NamedReadLine t old letters new spelled (told r) → NamedReadLine t old letters new' spelled' (told s)
     → (r ≡ s) × (new ≡ new') × (spelled ≡ spelled')
 one-named-read-line t old letters new new' spelled spelled' r s a b =
     let (o, q) = Texts.one_line (lines_of_named size named_table) named_once (named_lent size) t (old ∷ letters ∷ []) (new ∷ spelled ∷ []) (new' ∷ spelled' ∷ []) (told r) (told s) a b in

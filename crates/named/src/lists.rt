@@ -5,7 +5,7 @@ ghost use Rattle.refusal.specs.document.Lists.{lists_rows};
 ghost use Rattle.named.specs.document.Same.{named_list_rows};
 
 use limits::{SIZE, VALENCE};
-use refusal::{Check, Lists};
+use refusal::ListRefusal;
 
 // Two edge lists with letters, the first list's refusals first.
 pub(crate) fn both(
@@ -15,14 +15,14 @@ pub(crate) fn both(
     n2: usize,
     edges2: &[u8],
     letters2: &[u8],
-) -> Lists
+) -> Result<(), ListRefusal>
     ensures { Judges (lists_rows [] (named_list_rows n1 edges1.now letters1.now) (named_list_rows n2 edges2.now letters2.now)) result }
 {
-    if let Check::Refuse(k, p) = edge_list::check_letters(SIZE, VALENCE, n1, edges1, 1, letters1) {
-        return Lists::Refused(1, k, p);
+    if let Err(refusal) = edge_list::check_letters(SIZE, VALENCE, n1, edges1, 1, letters1) {
+        return Err(ListRefusal { list: 1, refusal });
     }
-    if let Check::Refuse(k, p) = edge_list::check_letters(SIZE, VALENCE, n2, edges2, 1, letters2) {
-        return Lists::Refused(2, k, p);
+    if let Err(refusal) = edge_list::check_letters(SIZE, VALENCE, n2, edges2, 1, letters2) {
+        return Err(ListRefusal { list: 2, refusal });
     }
-    Lists::Accepted
+    Ok(())
 }

@@ -1,14 +1,13 @@
 // Renumberings of one edge list with letters onto another, as maps: one byte for each vertex of the first list, its number in the second. A map keeps the atoms.
 ghost use Rattle.refusal.specs.document.Table.{Clear};
-ghost use Rattle.zurkhovel.specs.document.Maps.{mapped};
-ghost use Rattle.refusal.specs.document.Reported.{Reporting};
+ghost use Rattle.refusal.specs.document.Outcome.{told_of, unwritten};
+ghost use Rattle.refusal.specs.document.Reported.{answer, pairs, Reporting};
 ghost use Rattle.named.specs.document.Same.{named_list_rows, NamedHandOut, NamedCheckRenumbering, NamedOfBoth};
 
 use super::lists;
 use limits::SIZE;
-use refusal::{Answer, Check, Lists};
-use zurkhovel::maps::Mapping;
-use zurkhovel::reported::ReportedMapping;
+use refusal::{ListRefusal, Reported};
+use zurkhovel::maps::MAP;
 
 // The renumbering of two accepted edge lists. Lists of different sizes are not coded.
 fn hand_out(
@@ -19,33 +18,25 @@ fn hand_out(
     edges2: &[u8],
     letters2: &[u8],
     out: &mut [u8],
-) -> ReportedMapping
+) -> Result<Reported<usize>, ListRefusal>
     requires clear { Clear (named_list_rows n1 edges1.now letters1.now) }
     requires clear_2 { Clear (named_list_rows n2 edges2.now letters2.now) }
-    ensures { Reporting (NamedHandOut n1 edges1.now letters1.now n2 edges2.now letters2.now out.old out.new) (NamedOfBoth n1 edges1.now letters1.now n2 edges2.now letters2.now) (mapped result.answer) result.pairs }
+    ensures { Reporting (NamedHandOut n1 edges1.now letters1.now n2 edges2.now letters2.now out.old out.new) (NamedOfBoth n1 edges1.now letters1.now n2 edges2.now letters2.now) (told_of (answer result)) (pairs result) }
 {
     if n1 != n2 {
-        return ReportedMapping {
-            answer: Mapping::Done(0),
-            pairs: 0,
-        };
+        return Ok(Reported { value: 0, pairs: 0 });
     }
     let mut atoms1 = [0u8; SIZE];
     letters::name(letters1, &mut atoms1);
     let mut atoms2 = [0u8; SIZE];
     letters::name(letters2, &mut atoms2);
     let handed = renumber::hand_out_marks(n1, edges1, &atoms1, edges2, &atoms2, out);
-    let looked = handed.pairs;
-    let found = handed.answer;
-    match found {
-        Answer::Done(k) => ReportedMapping {
-            answer: Mapping::Done(k),
-            pairs: looked,
-        },
-        Answer::Refused(k, p) => ReportedMapping {
-            answer: Mapping::Refused(3, k, p),
-            pairs: 0,
-        },
+    match handed.answer {
+        Ok(value) => Ok(Reported {
+            value,
+            pairs: handed.pairs,
+        }),
+        Err(refusal) => Err(ListRefusal { list: MAP, refusal }),
     }
 }
 
@@ -58,15 +49,10 @@ pub fn renumbering(
     edges2: &[u8],
     letters2: &[u8],
     out: &mut [u8],
-) -> ReportedMapping
-    ensures { Reporting (NamedHandOut n1 edges1.now letters1.now n2 edges2.now letters2.now out.old out.new) (NamedOfBoth n1 edges1.now letters1.now n2 edges2.now letters2.now) (mapped result.answer) result.pairs }
+) -> Result<Reported<usize>, ListRefusal>
+    ensures { Reporting (NamedHandOut n1 edges1.now letters1.now n2 edges2.now letters2.now out.old out.new) (NamedOfBoth n1 edges1.now letters1.now n2 edges2.now letters2.now) (told_of (answer result)) (pairs result) }
 {
-    if let Lists::Refused(i, k, p) = lists::both(n1, edges1, letters1, n2, edges2, letters2) {
-        return ReportedMapping {
-            answer: Mapping::Refused(i, k, p),
-            pairs: 0,
-        };
-    }
+    lists::both(n1, edges1, letters1, n2, edges2, letters2)?;
     hand_out(n1, edges1, letters1, n2, edges2, letters2, out)
 }
 
@@ -79,18 +65,18 @@ fn judge(
     edges2: &[u8],
     letters2: &[u8],
     map: &[u8],
-) -> Mapping
+) -> Result<(), ListRefusal>
     requires clear { Clear (named_list_rows n1 edges1.now letters1.now) }
     requires clear_2 { Clear (named_list_rows n2 edges2.now letters2.now) }
-    ensures { NamedCheckRenumbering n1 edges1.now letters1.now n2 edges2.now letters2.now map.now (mapped result) }
+    ensures { NamedCheckRenumbering n1 edges1.now letters1.now n2 edges2.now letters2.now map.now (told_of (unwritten result)) }
 {
     let mut atoms1 = [0u8; SIZE];
     letters::name(letters1, &mut atoms1);
     let mut atoms2 = [0u8; SIZE];
     letters::name(letters2, &mut atoms2);
     match renumber::check_marks(n1, edges1, &atoms1, n2, edges2, &atoms2, map) {
-        Check::Passed => Mapping::Done(0),
-        Check::Refuse(k, p) => Mapping::Refused(3, k, p),
+        Ok(()) => Ok(()),
+        Err(refusal) => Err(ListRefusal { list: MAP, refusal }),
     }
 }
 
@@ -103,11 +89,9 @@ pub fn check_renumbering(
     edges2: &[u8],
     letters2: &[u8],
     map: &[u8],
-) -> Mapping
-    ensures { NamedCheckRenumbering n1 edges1.now letters1.now n2 edges2.now letters2.now map.now (mapped result) }
+) -> Result<(), ListRefusal>
+    ensures { NamedCheckRenumbering n1 edges1.now letters1.now n2 edges2.now letters2.now map.now (told_of (unwritten result)) }
 {
-    if let Lists::Refused(i, k, p) = lists::both(n1, edges1, letters1, n2, edges2, letters2) {
-        return Mapping::Refused(i, k, p);
-    }
+    lists::both(n1, edges1, letters1, n2, edges2, letters2)?;
     judge(n1, edges1, letters1, n2, edges2, letters2, map)
 }

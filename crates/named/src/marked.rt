@@ -14,7 +14,7 @@ ghost use Rattle.named.specs.document.Codes.{NamedAtRoot, NamedWidest, NamedMidd
 ghost use Rattle.named.specs.Marked.{Codes};
 
 use limits::SIZE;
-use refusal::Answer;
+use refusal::Refusal;
 
 // The marks of the rooted code at a vertex.
 pub(crate) fn rooted(n: usize, edges: &[u8], letters: &[u8], root: usize, out: &mut [u8]) -> usize
@@ -51,17 +51,13 @@ pub(crate) fn centred(n: usize, edges: &[u8], letters: &[u8], out: &mut [u8]) ->
 }
 
 // The digits and the letters of marks, each to an output of its own.
-pub(crate) fn spell(marks: &[u8], out: &mut [u8], letters: &mut [u8]) -> Answer
+pub(crate) fn spell(marks: &[u8], out: &mut [u8], letters: &mut [u8]) -> Result<usize, Refusal>
     ensures { GivesBoth [] (λ d l. (d ≡ digits names.atoms marks.now) × (l ≡ letters_of marks.now)) (out.old, letters.old) (out.new, letters.new) (told result) }
 {
     let n = marks.len();
-    if out.len() < n {
-        return Answer::Refused(15, n);
-    }
-    if letters.len() < n {
-        return Answer::Refused(15, n);
-    }
+    refusal::fits(n, out.len())?;
+    refusal::fits(n, letters.len())?;
     letters::write_digits(marks, out);
     letters::write_letters(marks, letters);
-    Answer::Done(n)
+    Ok(n)
 }

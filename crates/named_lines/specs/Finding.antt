@@ -22,18 +22,13 @@ use Rattle.texts.specs.Cuts.{not_free, cut_once}
 use Rattle.texts.specs.Ending.{Until, unfed, fed_cut}
 use Rattle.lines.specs.document.Line.{front}
 use Rattle.lines.specs.document.Marks.{WrittenDigits}
-use Rattle.lines.specs.declared.Opening.{Opening}
-use Rattle.lines.specs.declared.Opening.TheVariants as opening
-use Rattle.lines.specs.Form.{values, Figured, Begins, Opens, begins, begins_not}
+use Rattle.lines.specs.Form.{values, Figured, Begins}
 use Rattle.lines.specs.Forming.{figures-values, are_figures, figured, unfigured, begins_within, follows}
 use Rattle.lines.specs.Taking.{length_values}
-use Rattle.named_lines.specs.declared.Lettering.{Lettering}
-use Rattle.named_lines.specs.declared.Lettering.TheVariants as lettering
-use Rattle.named_lines.specs.declared.Layout.TheVariants as layout
 use Rattle.skeleton.specs.document.Atom.{Letter}
 use Rattle.named_lines.specs.document.Named.{Parts, NamedFormed}
 use Rattle.named_lines.specs.NamedSound.{marks-letters}
-use Rattle.named_lines.specs.NamedForm.{Near, NumberRead, number, no_number, Three, Tallies, Compared, CountsRead, counts, no_counts, TailForm, TailAt, TailRead, tail_at, no_tail, ShapeAt, ShapeRead, shape_at, no_shape}
+use Rattle.named_lines.specs.NamedForm.{Near, NumberAt, Three, Tallies, Compared, CountsAt, TailForm, TailAt, ShapeAt}
 
 -- ---- a number
 
@@ -49,51 +44,49 @@ number_figured {t} h = go h.digits h.leads h.small h.parts
     go [] l s e = absurd l
     go (d ∷ ds) l s e = (omega (arith, ap length e, length_figures (d ∷ ds)), subst (λ (x : List ℕ). WrittenDigits x) (sym e) (are_figures (d ∷ ds) s))
 
-pub not_written : {t : List ℕ} {r : Bool} → Figured t r → r ≡ false → NumberRead t 101
-not_written g e = no_number refl (λ n h. let k = number_figured h in unfigured g e k.0 k.1)
+pub not_written : {t : List ℕ} {r : Bool} → Figured t r → r ≡ false → (n : ℕ) → IsNumber t n → ⊥
+not_written g e n h = let k = number_figured h in unfigured g e k.0 k.1
 
-pub one_figure : (t : List ℕ) → WrittenDigits t → length t ≡ 1 → NumberRead t (get_or t 0 0 - 48)
+pub one_figure : (t : List ℕ) → WrittenDigits t → length t ≡ 1 → NumberAt t (get_or t 0 0 - 48)
 unfolding values says
 one_figure [] w e = absurd (omega arith)
 one_figure (a ∷ []) w e =
-    number (says 0 (values (a ∷ []))) (written-number (a ∷ []) w tt) ((λ l. omega arith), (λ l. omega arith)) (λ q. omega (arith, w.0))
+    record { n = says 0 (values (a ∷ [])); is = written-number (a ∷ []) w tt; near = ((λ l. omega arith), (λ l. omega arith)) }
 one_figure (a ∷ b ∷ t) w e = absurd (omega arith)
 
-pub two-figures : (t : List ℕ) → WrittenDigits t → (get_or t 0 0 - 48 ≡ 0 → ⊥) → length t ≡ 2 → NumberRead t (10 * (get_or t 0 0 - 48) + (get_or t 1 0 - 48))
+pub two-figures : (t : List ℕ) → WrittenDigits t → (get_or t 0 0 - 48 ≡ 0 → ⊥) → length t ≡ 2 → NumberAt t (10 * (get_or t 0 0 - 48) + (get_or t 1 0 - 48))
 unfolding values says
 two-figures [] w n e = absurd (omega arith)
 two-figures (a ∷ []) w n e = absurd (omega arith)
 two-figures (a ∷ b ∷ []) w n e =
-    number (says 0 (values (a ∷ b ∷ []))) (written-number (a ∷ b ∷ []) w (omega arith)) ((λ l. omega arith), (λ l. omega arith)) (λ q. omega (arith, w.0, w.1.0))
+    record {
+      n = says 0 (values (a ∷ b ∷ []));
+      is = written-number (a ∷ b ∷ []) w (omega arith);
+      near = ((λ l. omega arith), (λ l. omega (arith, w.0, w.1.0)));
+    }
 two-figures (a ∷ b ∷ d ∷ t) w n e = absurd (omega arith)
 
 -- three digits say at least 100
-pub more-figures : (t : List ℕ) → WrittenDigits t → (get_or t 0 0 - 48 ≡ 0 → ⊥) → 2 < length t → NumberRead t 100
+pub more-figures : (t : List ℕ) → WrittenDigits t → (get_or t 0 0 - 48 ≡ 0 → ⊥) → 2 < length t → NumberAt t 100
 unfolding values says
 more-figures [] w n e = absurd (omega arith)
 more-figures (a ∷ []) w n e = absurd (omega arith)
 more-figures (a ∷ b ∷ []) w n e = absurd (omega arith)
 more-figures (a ∷ b ∷ d ∷ t) w n e =
-    number (says 0 (values (a ∷ b ∷ d ∷ t))) (written-number (a ∷ b ∷ d ∷ t) w (omega arith))
-    ((λ l. absurd (omega arith)), (λ l. omega (arith, says-least (10 * (10 * (10 * 0 + (a - 48)) + (b - 48)) + (d - 48)) (values t)))) (λ q. omega arith)
+    record {
+      n = says 0 (values (a ∷ b ∷ d ∷ t));
+      is = written-number (a ∷ b ∷ d ∷ t) w (omega arith);
+      near = ((λ l. absurd (omega arith)), (λ l. omega (arith, says-least (10 * (10 * (10 * 0 + (a - 48)) + (b - 48)) + (d - 48)) (values t))));
+    }
 
-pub zero_leads : (t : List ℕ) → get_or t 0 0 - 48 ≡ 0 → (length t ≡ 1 → ⊥) → NumberRead t 101
+pub zero_leads : (t : List ℕ) → get_or t 0 0 - 48 ≡ 0 → (length t ≡ 1 → ⊥) → (n : ℕ) → IsNumber t n → ⊥
 unfolding figures
-zero_leads t z l = no_number refl (λ n h. go h.digits h.leads h.parts)
+zero_leads t z l n h = go h.digits h.leads h.parts
   where
     go : (ds : List ℕ) → Leads ds → t ≡ figures ds → ⊥
     go [] k e = k
     go (d ∷ []) k e = l (ap length e)
     go (d ∷ c ∷ ds) k e = omega (arith, k, ap (λ (x : List ℕ). get_or x 0 0) e)
-
--- as a caller learns it
-pub was_none : {t : List ℕ} {r : ℕ} → NumberRead t r → r ≡ 101 → (n : ℕ) → IsNumber t n → ⊥
-was_none (number m h k e) q n i = e q
-was_none (no_number e f) q n i = f n i
-
-was_number : {t : List ℕ} {r : ℕ} → NumberRead t r → (r ≡ 101 → ⊥) → (n : ℕ) × IsNumber t n × Near n r
-was_number (number n h m e) q = (n, h, m)
-was_number (no_number e f) q = absurd (q e)
 
 -- ---- the letters' counts
 
@@ -132,25 +125,18 @@ near_low {n} {r} m l = go (dec_lt 99 r)
 
 -- letters and counts compared, by the numbers as they were read
 module _ {ls : List ℕ} {x y z c n o : ℕ} {r : Bool} (mx : Near x c) (my : Near y n) (mz : Near z o) (w : Tells ((length ls ≤ size) × Tallies ls c n o) r) where
-  counts_fit : r ≡ true → Compared ls x y z 0
-  counts_fit e =
-      let (l, t) = was_held w e in
+  compared : Compared ls x y z r
+  compared =
       record {
         fits = λ q.
+            let (l, t) = was_held w q in
             record {
               c = t.c ∙ sym (mx.0 (omega (arith, l, t.c, tally_most 67 ls)));
               n = t.n ∙ sym (my.0 (omega (arith, l, t.n, tally_most 78 ls)));
               o = t.o ∙ sym (mz.0 (omega (arith, l, t.o, tally_most 79 ls)));
             };
-        differs = λ q. absurd (q refl);
-      }
-
-  counts_differ : r ≡ false → Compared ls x y z 21
-  counts_differ e =
-      record {
-        fits = λ q. absurd (let z : ⊥ = omega arith in z);
         differs = λ q l t.
-            was_denied w e (
+            was_denied w q (
               l,
               record {
                 c = t.c ∙ near_low mx (omega (arith, l, t.c, tally_most 67 ls));
@@ -174,9 +160,9 @@ further_is t s i =
     behind_is t (s + i) ∙ ap (λ (n : ℕ). drop n t) e ∙ sym (drop-drop (suc i) s t)
 
 module _ {t : List ℕ} {a : ℕ} (u : Until 32 t a) where
-  pub no_first : {ls : List ℕ} → a ≡ length t → CountsRead t ls 2
+  pub no_first : a ≡ length t → (x y z : ℕ) → Three t x y z → ⊥
   unfolding spaced
-  no_first e = no_counts refl (λ x y z h. not_free 32 h.c (h.n ++ (32 ∷ h.o)) (subst (λ (l : List ℕ). Free 32 l) h.parts (unfed u e)))
+  no_first e x y z h = not_free 32 h.c (h.n ++ (32 ∷ h.o)) (subst (λ (l : List ℕ). Free 32 l) h.parts (unfed u e))
 
   module _ (n : a ≡ length t → ⊥) where
     three_first : {x y z : ℕ} (h : Three t x y z) → (take a t ≡ h.c) × (drop (suc a) t ≡ h.n ++ (32 ∷ h.o))
@@ -189,10 +175,10 @@ module _ {t : List ℕ} {a : ℕ} (u : Until 32 t a) where
       second : Until 32 (drop (suc a) t) b
       second = subst (λ (l : List ℕ). Until 32 l b) (behind_is t a) v
 
-      pub no_second : {ls : List ℕ} → a + 1 + b ≡ length t → CountsRead t ls 2
-      no_second e =
+      pub no_second : a + 1 + b ≡ length t → (x y z : ℕ) → Three t x y z → ⊥
+      no_second e x y z h =
           let f = unfed second (omega (arith, length-drop (suc a) t)) in
-          no_counts refl (λ x y z h. not_free 32 h.n h.o (subst (λ (l : List ℕ). Free 32 l) (three_first h).1 f))
+          not_free 32 h.n h.o (subst (λ (l : List ℕ). Free 32 l) (three_first h).1 f)
 
       module _ (m : a + 1 + b ≡ length t → ⊥) where
         cut : Cut 32 (drop (suc a) t) (take b (drop (suc a) t)) (drop (suc b) (drop (suc a) t))
@@ -210,16 +196,14 @@ module _ {t : List ℕ} {a : ℕ} (u : Until 32 t a) where
         third_is : take (length t - (a + 1 + b + 1)) (drop (a + 1 + b + 1) t) ≡ drop (suc b) (drop (suc a) t)
         third_is = further_is t (a + 1) b ∙ ap (λ (n : ℕ). drop (suc b) (drop n t)) (add-one a)
 
-        pub not_first : {ls : List ℕ} {r : ℕ} → NumberRead (take a t) r → r ≡ 101 → CountsRead t ls 2
-        not_first g e = no_counts refl (λ x y z h. was_none g e x (subst (λ (l : List ℕ). IsNumber l x) (sym (three_first h).0) h.says-c))
+        pub not_first : ((n : ℕ) → IsNumber (take a t) n → ⊥) → (x y z : ℕ) → Three t x y z → ⊥
+        not_first g x y z h = g x (subst (λ (l : List ℕ). IsNumber l x) (sym (three_first h).0) h.says-c)
 
-        pub not_second : {ls : List ℕ} {r : ℕ} → NumberRead (part (a + 1) (a + 1 + b) t) r → r ≡ 101 → CountsRead t ls 2
-        not_second g e =
-            no_counts refl (λ x y z h. was_none g e y (subst (λ (l : List ℕ). IsNumber l y) (sym (second_is ∙ (three_second h).0)) h.says-n))
+        pub not_second : ((n : ℕ) → IsNumber (part (a + 1) (a + 1 + b) t) n → ⊥) → (x y z : ℕ) → Three t x y z → ⊥
+        not_second g x y z h = g y (subst (λ (l : List ℕ). IsNumber l y) (sym (second_is ∙ (three_second h).0)) h.says-n)
 
-        pub not_third : {ls : List ℕ} {r : ℕ} → NumberRead (take (length t - (a + 1 + b + 1)) (drop (a + 1 + b + 1) t)) r → r ≡ 101 → CountsRead t ls 2
-        not_third g e =
-            no_counts refl (λ x y z h. was_none g e z (subst (λ (l : List ℕ). IsNumber l z) (sym (third_is ∙ (three_second h).1)) h.says_o))
+        pub not_third : ((n : ℕ) → IsNumber (take (length t - (a + 1 + b + 1)) (drop (a + 1 + b + 1) t)) n → ⊥) → (x y z : ℕ) → Three t x y z → ⊥
+        not_third g x y z h = g z (subst (λ (l : List ℕ). IsNumber l z) (sym (third_is ∙ (three_second h).1)) h.says_o)
 
         made : {x y z : ℕ} → IsNumber (take a t) x → IsNumber (part (a + 1) (a + 1 + b) t) y
             → IsNumber (take (length t - (a + 1 + b + 1)) (drop (a + 1 + b + 1) t)) z → Three t x y z
@@ -238,63 +222,48 @@ module _ {t : List ℕ} {a : ℕ} (u : Until 32 t a) where
             }
 
         module _
-            {ls : List ℕ} {p q o : ℕ} {r : Bool} (g : NumberRead (take a t) p) (d : p ≡ 101 → ⊥) (h : NumberRead (part (a + 1) (a + 1 + b) t) q) (e : q ≡ 101 → ⊥)
-            (k : NumberRead (take (length t - (a + 1 + b + 1)) (drop (a + 1 + b + 1) t)) o) (f : o ≡ 101 → ⊥) (w : Tells ((length ls ≤ size) × Tallies ls p q o) r) where
-          pub matched : r ≡ true → CountsRead t ls 0
-          matched y =
-              let (x₀, i₀, m₀) = was_number g d in
-              let (x₁, i₁, m₁) = was_number h e in
-              let (x₂, i₂, m₂) = was_number k f in
-              counts (made i₀ i₁ i₂) (counts_fit m₀ m₁ m₂ w y) (λ z. omega arith)
-
-          pub unmatched : r ≡ false → CountsRead t ls 21
-          unmatched y =
-              let (x₀, i₀, m₀) = was_number g d in
-              let (x₁, i₁, m₁) = was_number h e in
-              let (x₂, i₂, m₂) = was_number k f in
-              counts (made i₀ i₁ i₂) (counts_differ m₀ m₁ m₂ w y) (λ z. omega arith)
+            {ls : List ℕ} {p q o : ℕ} {r : Bool} (g : NumberAt (take a t) p) (h : NumberAt (part (a + 1) (a + 1 + b) t) q)
+            (k : NumberAt (take (length t - (a + 1 + b + 1)) (drop (a + 1 + b + 1) t)) o) (w : Tells ((length ls ≤ size) × Tallies ls p q o) r) where
+          pub matched : CountsAt t ls r
+          matched = record { x = g.n; y = h.n; z = k.n; three = made g.is h.is k.is; compared = compared g.near h.near k.near w }
 
 -- ---- letters and counts
 
 module _ {t : List ℕ} {f : ℕ} (u : Until 32 t f) where
-  pub no_behind : f ≡ length t → TailRead t lettering.Nothing
-  no_behind e = no_tail (λ ls x y z h. not_free 32 ls h.rest (subst (λ (l : List ℕ). Free 32 l) h.parts (unfed u e)))
+  pub no_behind : f ≡ length t → (ls : List ℕ) (x y z : ℕ) → TailForm t ls x y z → ⊥
+  no_behind e ls x y z h = not_free 32 ls h.rest (subst (λ (l : List ℕ). Free 32 l) h.parts (unfed u e))
 
   module _ (n : f ≡ length t → ⊥) where
     tail_cut : {ls : List ℕ} {x y z : ℕ} (h : TailForm t ls x y z) → (take f t ≡ ls) × (drop (suc f) t ≡ h.rest)
     tail_cut {ls} h =
         cut_once 32 t (take f t) (drop (suc f) t) ls h.rest (fed_cut u n) (record { parts = h.parts; free = no_space ls (marks-letters ls h.lettered) })
 
-    pub no_letters : {r : Bool} → Tells ((1 ≤ length (take f t)) × Each Letter (take f t)) r → r ≡ false → TailRead t lettering.Nothing
-    no_letters w e =
-        no_tail (λ ls x y z h.
-        was_denied w e (subst (λ (l : List ℕ). (1 ≤ length l) × Each Letter l) (sym (tail_cut h).0) (h.some, h.lettered)))
+    pub no_letters : {r : Bool} → Tells ((1 ≤ length (take f t)) × Each Letter (take f t)) r → r ≡ false → (ls : List ℕ) (x y z : ℕ) → TailForm t ls x y z → ⊥
+    no_letters w e ls x y z h =
+        was_denied w e (subst (λ (l : List ℕ). (1 ≤ length l) × Each Letter l) (sym (tail_cut h).0) (h.some, h.lettered))
 
-    pub no_three : {k : ℕ} → CountsRead (take (length t - (f + 1)) (drop (f + 1) t)) (take f t) k → k ≡ 2 → TailRead t lettering.Nothing
-    no_three (counts h c d) e = absurd (d e)
-    no_three (no_counts q g) e =
-        no_tail (λ ls x y z h. g x y z (subst (λ (l : List ℕ). Three l x y z) (sym (behind_is t f ∙ (tail_cut h).1)) h.three))
+    pub no_three : ((x y z : ℕ) → Three (take (length t - (f + 1)) (drop (f + 1) t)) x y z → ⊥) → (ls : List ℕ) (x y z : ℕ) → TailForm t ls x y z → ⊥
+    no_three g ls x y z h = g x y z (subst (λ (l : List ℕ). Three l x y z) (sym (behind_is t f ∙ (tail_cut h).1)) h.three)
 
-    pub tail-found : {r : Bool} {k : ℕ} → Tells ((1 ≤ length (take f t)) × Each Letter (take f t)) r → r ≡ true
-        → CountsRead (take (length t - (f + 1)) (drop (f + 1) t)) (take f t) k → (k ≡ 2 → ⊥) → TailRead t (lettering.Letters f k)
-    tail-found w e (counts {x} {y} {z} h c d) q =
+    pub tail-found : {r k : Bool} → Tells ((1 ≤ length (take f t)) × Each Letter (take f t)) r → r ≡ true
+        → CountsAt (take (length t - (f + 1)) (drop (f + 1) t)) (take f t) k → TailAt t f k
+    tail-found w e c =
         let (l, g) = was_held w e in
-        tail_at {f = f} (record {
-          x = x;
-          y = y;
-          z = z;
+        record {
+          x = c.x;
+          y = c.y;
+          z = c.z;
           within = omega (arith, u.within);
           form =
               record {
                 rest = take (length t - (f + 1)) (drop (f + 1) t);
                 some = l;
                 lettered = g;
-                three = h;
+                three = c.three;
                 parts = (fed_cut u n).parts ∙ ap (λ (m : List ℕ). take f t ++ (32 ∷ m)) (sym (behind_is t f));
               };
-          compared = c;
-        })
-    tail-found w e (no_counts p g) q = absurd (q p)
+          compared = c.compared;
+        }
 
 -- ---- the line
 
@@ -313,16 +282,11 @@ tail-form f =
       parts = refl;
     }
 
-not_begun : {b : List ℕ} → ((n s : ℕ) → Begins b n s → ⊥) → ShapeRead b layout.Nothing
+pub not_opened : {b : List ℕ} → ((n s : ℕ) → Begins b n s → ⊥) → (q : Parts) → NamedFormed b q → ⊥
 unfolding spaced
-not_begun h =
-    no_shape (λ q f.
+not_opened h q f =
     h q.front.count (length f.count + 1)
-    (record { count = f.count; rest = figures q.front.digits ++ (32 ∷ tail_of f); counts = f.counts; parts = f.parts; start = refl }))
-
-pub not_opened : {b : List ℕ} {o : Opening} → Opens b o → o ≡ opening.Nothing → ShapeRead b layout.Nothing
-not_opened (begins h) e = let z : ◌≡◌ {A = ℕ} 0 1 = cc in absurd (let n : ⊥ = omega arith in n)
-not_opened (begins_not h) e = not_begun h
+    (record { count = f.count; rest = figures q.front.digits ++ (32 ∷ tail_of f); counts = f.counts; parts = f.parts; start = refl })
 
 module _ {b : List ℕ} {n s : ℕ} (h : Begins b n s) {i : ℕ} (v : Until 32 (take (length b - s) (drop s b)) i) where
   u : Until 32 (drop s b) i
@@ -339,10 +303,10 @@ module _ {b : List ℕ} {n s : ℕ} (h : Begins b n s) {i : ℕ} (v : Until 32 (
       (record { parts = h.parts; free = count_free 32 (omega arith) h.counts })
       (record { parts = f.parts; free = count_free 32 (omega arith) f.counts })).1
 
-  pub digits_last : s + i ≡ length b → ShapeRead b layout.Nothing
-  digits_last e =
+  pub digits_last : s + i ≡ length b → (q : Parts) → NamedFormed b q → ⊥
+  digits_last e q f =
       let g = unfed u (omega (arith, length-drop s b)) in
-      no_shape (λ q f. not_free 32 (figures q.front.digits) (tail_of f) (subst (λ (l : List ℕ). Free 32 l) (behind-count f) g))
+      not_free 32 (figures q.front.digits) (tail_of f) (subst (λ (l : List ℕ). Free 32 l) (behind-count f) g)
 
   module _ (m : s + i ≡ length b → ⊥) where
     cut_line : Cut 32 (drop s b) (take i (drop s b)) (drop (suc i) (drop s b))
@@ -353,21 +317,19 @@ module _ {b : List ℕ} {n s : ℕ} (h : Begins b n s) {i : ℕ} (v : Until 32 (
         cut_once 32 (drop s b) (take i (drop s b)) (drop (suc i) (drop s b)) (figures q.front.digits) (tail_of f) cut_line
         (record { parts = behind-count f; free = no_space (figures q.front.digits) (marks-figures q.front.digits) })
 
-    pub not_digits : {r : Bool} → Figured (part s (s + i) b) r → r ≡ false → ShapeRead b layout.Nothing
-    not_digits g e =
-        no_shape (λ q f.
+    pub not_digits : {r : Bool} → Figured (part s (s + i) b) r → r ≡ false → (q : Parts) → NamedFormed b q → ⊥
+    not_digits g e q f =
         let p : part s (s + i) b ≡ figures q.front.digits = part_is s i b ∙ (line_cut f).0 in
         unfigured g e (omega (arith, ap length p, length_figures q.front.digits, f.some))
-        (subst (λ (l : List ℕ). WrittenDigits l) (sym p) (are_figures q.front.digits f.digits)))
+        (subst (λ (l : List ℕ). WrittenDigits l) (sym p) (are_figures q.front.digits f.digits))
 
-    pub not_tail : {o : Lettering} → TailRead (take (length b - (s + i + 1)) (drop (s + i + 1) b)) o → o ≡ lettering.Nothing → ShapeRead b layout.Nothing
-    not_tail (tail_at g) e = let z : ◌≡◌ {A = ℕ} 0 1 = cc in absurd (let n : ⊥ = omega arith in n)
-    not_tail (no_tail g) e =
-        no_shape (λ q f.
+    pub not_tail :
+        ((ls : List ℕ) (x y z : ℕ) → TailForm (take (length b - (s + i + 1)) (drop (s + i + 1) b)) ls x y z → ⊥) → (q : Parts) → NamedFormed b q → ⊥
+    not_tail g q f =
         g q.letters q.carbons q.nitrogens q.oxygens
-        (subst (λ (l : List ℕ). TailForm l q.letters q.carbons q.nitrogens q.oxygens) (sym (further_is b s i ∙ (line_cut f).1)) (tail-form f)))
+        (subst (λ (l : List ℕ). TailForm l q.letters q.carbons q.nitrogens q.oxygens) (sym (further_is b s i ∙ (line_cut f).1)) (tail-form f))
 
-    module _ (g : (1 ≤ length (part s (s + i) b)) × WrittenDigits (part s (s + i) b)) {f k : ℕ} (a : TailAt (drop (suc i) (drop s b)) f k) where
+    module _ (g : (1 ≤ length (part s (s + i) b)) × WrittenDigits (part s (s + i) b)) {f : ℕ} {k : Bool} (a : TailAt (drop (suc i) (drop s b)) f k) where
       abbrev ls : List ℕ
       ls = take f (drop (suc i) (drop s b))
 
@@ -415,11 +377,6 @@ module _ {b : List ℕ} {n s : ℕ} (h : Begins b n s) {i : ℕ} (v : Until 32 (
             compared = subst (λ (l : List ℕ). Compared l a.x a.y a.z k) (sym letters_are) a.compared;
           }
 
-    pub shape-found : {r : Bool} {o : Lettering} {f k : ℕ} → Figured (part s (s + i) b) r → r ≡ true
-        → TailRead (take (length b - (s + i + 1)) (drop (s + i + 1) b)) o → o ≡ lettering.Letters f k → ShapeRead b (layout.At n s (s + i) f k)
-    shape-found {f = f} {k} g e (tail_at {f = x} {k = y} a) q =
-        let p : x ≡ f = cc in
-        let w : y ≡ k = cc in
-        shape_at (found (figured g e)
-        (subst (λ (l : List ℕ). TailAt l f k) (further_is b s i) (rw (← p, ← w) a)))
-    shape-found g e (no_tail a) q = let z : ◌≡◌ {A = ℕ} 0 1 = cc in absurd (let n : ⊥ = omega arith in n)
+    pub shape-found : {r : Bool} {f : ℕ} {k : Bool} → Figured (part s (s + i) b) r → r ≡ true
+        → TailAt (take (length b - (s + i + 1)) (drop (s + i + 1) b)) f k → ShapeAt b n s (s + i) f k
+    shape-found {f = f} {k} g e a = found (figured g e) (subst (λ (l : List ℕ). TailAt l f k) (further_is b s i) a)

@@ -1,6 +1,6 @@
 -- The form of a named line, as the code finds it: what its functions promise, in the words of `Named`. From the end of a line to its start: a number;
 -- the three counts; letters and counts; the line. Then where digits and letters stand that are to be judged. Assumes nothing.
-use Rattle.std.specs.Prelude.{◌≡◌, List, [], ◌∷◌, ◌++◌, ℕ, ◌+◌, ◌-◌, ◌≤◌, ◌<◌, length, take}
+use Rattle.std.specs.Prelude.{◌≡◌, Bool, true, false, Option, MatchOption, Result, Ok, Err, List, [], ◌∷◌, ◌++◌, ℕ, ◌+◌, ◌-◌, ◌≤◌, ◌<◌, length, take}
 use Rattle.laws.specs.Part.{part}
 use Rattle.limits.specs.document.Limits.{size}
 use Rattle.refusal.specs.document.Table.{FirstRefusal}
@@ -8,15 +8,13 @@ use Rattle.laws.specs.document.Each.{Each}
 use Rattle.texts.specs.document.Text.{PartRow, Shaped, line_rows}
 use Rattle.texts.specs.document.Parts.{spaced, tally}
 use Rattle.texts.specs.document.Numerals.{IsNumber}
+use Rattle.refusal.specs.declared.Refusal.{Refusal}
 use Rattle.lines.specs.declared.Span.{Span}
-use Rattle.lines.specs.declared.Span.TheVariants.{Digits, Refused}
 use Rattle.lines.specs.document.Line.{front}
 use Rattle.lines.specs.document.Marks.{WrittenDigits}
 use Rattle.lines.specs.Form.{values}
 use Rattle.named_lines.specs.declared.Lettering.{Lettering}
-use Rattle.named_lines.specs.declared.Lettering.TheVariants as lettering
 use Rattle.named_lines.specs.declared.Layout.{Layout}
-use Rattle.named_lines.specs.declared.Layout.TheVariants as layout
 use Rattle.skeleton.specs.document.Atom.{Letter}
 use Rattle.named_lines.specs.document.Named.{Named, Parts, NamedFormed, parts_of, lines_of_named}
 
@@ -24,10 +22,15 @@ use Rattle.named_lines.specs.document.Named.{Named, Parts, NamedFormed, parts_of
 abbrev pub Near : ℕ → ℕ → Type 0
 Near n r = (r ≤ 99 → n ≡ r) × (99 < r → 99 < n)
 
--- r is near the number that t is, or 101 where it is none
-pub data NumberRead (t : List ℕ) (r : ℕ) : Type 0 where
-  number : (n : ℕ) → IsNumber t n → Near n r → (r ≡ 101 → ⊥) → NumberRead t r
-  no_number : r ≡ 101 → ((n : ℕ) → IsNumber t n → ⊥) → NumberRead t r
+-- r is near the number that t is
+pub record NumberAt (t : List ℕ) (r : ℕ) : Type 0 where
+  pub n : ℕ
+  pub is : IsNumber t n
+  pub near : Near n r
+
+-- it is, or none where t is none
+abbrev pub NumberRead : List ℕ → Option ℕ → Type 0
+NumberRead t o = MatchOption o ((n : ℕ) → IsNumber t n → ⊥) (λ r. NumberAt t r)
 
 -- t is three numbers, a space between each two, that say x, y and z
 pub record Three (t : List ℕ) (x y z : ℕ) : Type 0 where
@@ -45,15 +48,22 @@ pub record Tallies (ls : List ℕ) (x y z : ℕ) : Type 0 where
   pub n : tally 78 ls ≡ y
   pub o : tally 79 ls ≡ z
 
--- k is 0 where they are; where there are no more letters than a line may have, it is something else only where they are not
-pub record Compared (ls : List ℕ) (x y z k : ℕ) : Type 0 where
-  pub fits : k ≡ 0 → Tallies ls x y z
-  pub differs : (k ≡ 0 → ⊥) → length ls ≤ size → Tallies ls x y z → ⊥
+-- k says so; where there are no more letters than a line may have, it denies it only where they are not
+pub record Compared (ls : List ℕ) (x y z : ℕ) (k : Bool) : Type 0 where
+  pub fits : k ≡ true → Tallies ls x y z
+  pub differs : k ≡ false → length ls ≤ size → Tallies ls x y z → ⊥
 
--- the counts t behind the letters ls: k is 2 where they have not the form, else they are compared
-pub data CountsRead (t ls : List ℕ) (k : ℕ) : Type 0 where
-  counts : {x y z : ℕ} → Three t x y z → Compared ls x y z k → (k ≡ 2 → ⊥) → CountsRead t ls k
-  no_counts : k ≡ 2 → ((x y z : ℕ) → Three t x y z → ⊥) → CountsRead t ls k
+-- the counts t behind the letters ls are compared
+pub record CountsAt (t ls : List ℕ) (k : Bool) : Type 0 where
+  pub x : ℕ
+  pub y : ℕ
+  pub z : ℕ
+  pub three : Three t x y z
+  pub compared : Compared ls x y z k
+
+-- they are, or have not the form
+abbrev pub CountsRead : List ℕ → List ℕ → Option Bool → Type 0
+CountsRead t ls o = MatchOption o ((x y z : ℕ) → Three t x y z → ⊥) (λ k. CountsAt t ls k)
 
 -- t is letters, a space and three counts
 pub record TailForm (t ls : List ℕ) (x y z : ℕ) : Type 0 where
@@ -64,7 +74,7 @@ pub record TailForm (t ls : List ℕ) (x y z : ℕ) : Type 0 where
   pub parts : t ≡ ls ++ (32 ∷ rest)
 
 -- f letters, and their counts compared
-pub record TailAt (t : List ℕ) (f k : ℕ) : Type 0 where
+pub record TailAt (t : List ℕ) (f : ℕ) (k : Bool) : Type 0 where
   pub x : ℕ
   pub y : ℕ
   pub z : ℕ
@@ -72,12 +82,11 @@ pub record TailAt (t : List ℕ) (f k : ℕ) : Type 0 where
   pub form : TailForm t (take f t) x y z
   pub compared : Compared (take f t) x y z k
 
-pub data TailRead (t : List ℕ) : Lettering → Type 0 where
-  tail_at : {f k : ℕ} → TailAt t f k → TailRead t (lettering.Letters f k)
-  no_tail : ((ls : List ℕ) (x y z : ℕ) → TailForm t ls x y z → ⊥) → TailRead t lettering.Nothing
+abbrev pub TailRead : List ℕ → Option Lettering → Type 0
+TailRead t o = MatchOption o ((ls : List ℕ) (x y z : ℕ) → TailForm t ls x y z → ⊥) (λ l. TailAt t l.letters l.matching)
 
 -- b is of the form: its count says n, its digits stand from s to e, and f letters behind one more space, whose counts are compared
-pub record ShapeAt (b : List ℕ) (n s e f k : ℕ) : Type 0 where
+pub record ShapeAt (b : List ℕ) (n s e f : ℕ) (k : Bool) : Type 0 where
   pub x : ℕ
   pub y : ℕ
   pub z : ℕ
@@ -87,9 +96,8 @@ pub record ShapeAt (b : List ℕ) (n s e f k : ℕ) : Type 0 where
   pub formed : NamedFormed b (record { front = front n (values (part s e b)); letters = part (e + 1) (e + 1 + f) b; carbons = x; nitrogens = y; oxygens = z })
   pub compared : Compared (part (e + 1) (e + 1 + f) b) x y z k
 
-pub data ShapeRead (b : List ℕ) : Layout → Type 0 where
-  shape_at : {n s e f k : ℕ} → ShapeAt b n s e f k → ShapeRead b (layout.At n s e f k)
-  no_shape : ((q : Parts) → NamedFormed b q → ⊥) → ShapeRead b layout.Nothing
+abbrev pub ShapeRead : List ℕ → Option Layout → Type 0
+ShapeRead b o = MatchOption o ((q : Parts) → NamedFormed b q → ⊥) (λ l. ShapeAt b l.count l.start l.end l.tail.letters l.tail.matching)
 
 -- the code with its letters whose digits stand in t from s to e, and its letters behind one more byte
 abbrev pub standing : List ℕ → ℕ → ℕ → Named
@@ -105,6 +113,6 @@ pub record NamedStands (most : ℕ) (t : List ℕ) (s e : ℕ) : Type 0 where
   pub few : e - s ≤ most
 
 -- where the digits of t's first line stand, or the refusal that comes before they are judged
-pub data NamedLocated (most : ℕ) (rows : List (PartRow Named)) (t : List ℕ) : Span → Type 0 where
-  stands : {s e : ℕ} → NamedStands most t s e → NamedLocated most rows t (Digits s e)
-  refused : {k : ℕ} → FirstRefusal (line_rows (lines_of_named most rows) t) k 0 → NamedLocated most rows t (Refused k)
+pub data NamedLocated (most : ℕ) (rows : List (PartRow Named)) (t : List ℕ) : Result Span Refusal → Type 0 where
+  stands : {d : Span} → NamedStands most t d.start d.end → NamedLocated most rows t (Ok d)
+  refused : {k : ℕ} → FirstRefusal (line_rows (lines_of_named most rows) t) k 0 → NamedLocated most rows t (Err (record { row = k; place = 0 }))

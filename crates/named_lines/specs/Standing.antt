@@ -1,6 +1,6 @@
 -- Digits and letters of a named line as they stand: which of rows 1, 2, 3, 5 and 21 refuses the line, from what was found; and what a reader of one
 -- line cites. Assumes nothing.
-use Rattle.std.specs.Prelude.{◌≡◌, refl, ◌⊎◌, List, [], ◌∷◌, ℕ, suc, ◌+◌, ◌-◌, ◌≤◌, ◌<◌, length, take, drop}
+use Rattle.std.specs.Prelude.{◌≡◌, refl, Bool, true, false, Ok, Err, ◌⊎◌, List, [], ◌∷◌, ℕ, suc, ◌+◌, ◌-◌, ◌≤◌, ◌<◌, length, take, drop}
 use Rattle.std.proofs.Common.{sym, ap, subst, ◌∙◌, inl, inr, ⊎_elim, arith, take-append-drop, length-drop, length-take-le}
 use Rattle.std.proofs.lemmas.List.{take-append-le, drop-append-le}
 use Rattle.laws.specs.document.Laid.{laid_over}
@@ -17,19 +17,17 @@ use Rattle.texts.specs.Answered.{line_refuses, unformed_2}
 use Rattle.texts.specs.Ending.{UpTo, unfed, fed_cut}
 use Rattle.texts.specs.document.Parts.{tally}
 use Rattle.texts.specs.Taking as Taking
+use Rattle.refusal.specs.declared.Refusal.{Refusal}
 use Rattle.lines.specs.declared.Span.{Span}
-use Rattle.lines.specs.declared.Span.TheVariants.{Digits, Refused}
 use Rattle.lines.specs.document.Line.{front, row3-line, row5_line}
 use Rattle.lines.specs.document.Marks.{WrittenDigits}
 use Rattle.lines.specs.Form.{values}
 use Rattle.lines.specs.Plain.{same-front}
 use Rattle.lines.specs.Taking.{length_values}
-use Rattle.named_lines.specs.declared.Layout.{Layout}
-use Rattle.named_lines.specs.declared.Layout.TheVariants as layout
 use Rattle.named_lines.specs.document.Named.{Named, Parts, NamedFormed, Matches, row21, parts_of, lines_of_named, named_lent, NamedLineRead}
 use Rattle.named_lines.specs.document.Named.{named_table}
 use Rattle.named_lines.specs.NamedSound.{same-named, named_once, named_accept}
-use Rattle.named_lines.specs.NamedForm.{ShapeAt, ShapeRead, shape_at, no_shape, standing, NamedStands, NamedLocated, stands, refused}
+use Rattle.named_lines.specs.NamedForm.{ShapeAt, standing, NamedStands, NamedLocated, stands, refused}
 
 -- a part of the front of a text is that part of the text
 part-front : (t : List ℕ) (s e end : ℕ) → s ≤ e → e ≤ end → end ≤ length t → part s e (take end t) ≡ part s e t
@@ -48,21 +46,10 @@ module _ (most : ℕ) (rows : List (PartRow Named)) {t : List ℕ} {end : ℕ} (
       others_of t = drop 1 (line_rows (lines_of_named most rows) t)
 
   module _ (n : end ≡ length t → ⊥) where
-    pub no_form : {o : Layout} → ShapeRead (take end t) o → o ≡ layout.Nothing → FirstRefusal (line_rows (lines_of_named most rows) t) 2 0
-    no_form (shape_at a) e = let z : ◌≡◌ {A = ℕ} 0 1 = cc in absurd (let n : ⊥ = omega arith in n)
-    no_form (no_shape h) e = unformed_2 NamedFormed (fed_cut u n) h (drop 2 (line_rows (lines_of_named most rows) t))
+    pub no_form : ((q : Parts) → NamedFormed (take end t) q → ⊥) → FirstRefusal (line_rows (lines_of_named most rows) t) 2 0
+    no_form h = unformed_2 NamedFormed (fed_cut u n) h (drop 2 (line_rows (lines_of_named most rows) t))
 
-    pub the_shape : {o : Layout} {m s e f k : ℕ} → ShapeRead (take end t) o → o ≡ layout.At m s e f k → ShapeAt (take end t) m s e f k
-    the_shape {m = m} {s} {e} {f} {k} (shape_at {n = m₁} {s = s₁} {e = e₁} {f = f₁} {k = k₁} a) q =
-        let p₀ : m₁ ≡ m = cc in
-        let p₁ : s₁ ≡ s = cc in
-        let p₂ : e₁ ≡ e = cc in
-        let p₃ : f₁ ≡ f = cc in
-        let p₄ : k₁ ≡ k = cc in
-        rw (← p₀, ← p₁, ← p₂, ← p₃, ← p₄) a
-    the_shape (no_shape h) q = let z : ◌≡◌ {A = ℕ} 0 1 = cc in absurd (let n : ⊥ = omega arith in n)
-
-    module _ {m s e f k : ℕ} (a : ShapeAt (take end t) m s e f k) where
+    module _ {m s e f : ℕ} {k : Bool} (a : ShapeAt (take end t) m s e f k) where
       -- what the form shows
       abbrev shown : Parts
       shown = record { front = front m (values (part s e (take end t))); letters = part (e + 1) (e + 1 + f) (take end t); carbons = a.x; nitrogens = a.y; oxygens = a.z }
@@ -115,11 +102,11 @@ module _ (most : ℕ) (rows : List (PartRow Named)) {t : List ℕ} {end : ℕ} (
           pub other-letters : (f ≡ m → ⊥) → FirstRefusal (line_rows (lines_of_named most rows) t) 21 0
           other-letters h = refused_21 (λ q. h (sym lettered_as ∙ q.number))
 
-          pub other-counts : f ≡ m → most ≤ size → (k ≡ 0 → ⊥) → FirstRefusal (line_rows (lines_of_named most rows) t) 21 0
+          pub other-counts : f ≡ m → most ≤ size → k ≡ false → FirstRefusal (line_rows (lines_of_named most rows) t) 21 0
           other-counts g b h =
               refused_21 (λ q. a.compared.differs h (omega (arith, lettered_as)) (record { c = q.c; n = q.n; o = q.o }))
 
-          pub it_stands : f ≡ m → k ≡ 0 → NamedStands most t s e
+          pub it_stands : f ≡ m → k ≡ true → NamedStands most t s e
           it_stands g h =
               let w = a.within in
               let o = a.ordered in
@@ -143,13 +130,11 @@ module _ (most : ℕ) (rows : List (PartRow Named)) {t : List ℕ} {end : ℕ} (
 
 -- ---- as a caller learns it
 
-pub located : {most : ℕ} {rows : List (PartRow Named)} {t : List ℕ} {o : Span} {s e : ℕ} → NamedLocated most rows t o → o ≡ Digits s e → NamedStands most t s e
-located {s = s} {e} (stands {s = a} {e = b} h) q = let p : a ≡ s = cc in let r : b ≡ e = cc in rw (← p, ← r) h
-located (refused l) q = let z : ◌≡◌ {A = ℕ} 0 1 = cc in absurd (let n : ⊥ = omega arith in n)
+pub located : {most : ℕ} {rows : List (PartRow Named)} {t : List ℕ} {d : Span} → NamedLocated most rows t (Ok d) → NamedStands most t d.start d.end
+located (stands h) = h
 
-pub unlocated : {most : ℕ} {rows : List (PartRow Named)} {t : List ℕ} {o : Span} {k : ℕ} → NamedLocated most rows t o → o ≡ Refused k → FirstRefusal (line_rows (lines_of_named most rows) t) k 0
-unlocated (stands h) q = let z : ◌≡◌ {A = ℕ} 0 1 = cc in absurd (let n : ⊥ = omega arith in n)
-unlocated {k = k} (refused {k = j} l) q = let p : j ≡ k = cc in rw (← p) l
+pub unlocated : {most : ℕ} {rows : List (PartRow Named)} {t : List ℕ} {r : Refusal} → NamedLocated most rows t (Err r) → FirstRefusal (line_rows (lines_of_named most rows) t) r.row r.place
+unlocated (refused l) = l
 
 -- ---- reading a line
 

@@ -24,45 +24,48 @@ ghost use Rattle.named_lines.specs.NamedWriting.{Appends, count, counts, opened}
 ghost use Rattle.named_lines.specs.NamedForm.{NumberRead, Tallies, CountsRead, TailRead, ShapeRead, NamedLocated};
 
 use limits::SIZE;
-use lines::{Opening, Progress, Span, until};
-use refusal::{Answer, Check};
+use lines::{Progress, Span, until};
+use refusal::Refusal;
 
 // What stands behind the digits of a named line.
 #[derive(Clone, Copy)]
-pub enum Lettering {
-    // so many letters; and 0 where the counts behind them are theirs, else 21
-    Letters(usize, u8),
-    // no letters and counts
-    Nothing,
+struct Lettering {
+    // how many letters there are
+    letters: usize,
+    // whether the counts behind them are theirs
+    matching: bool,
 }
 
 // The form of a named line.
 #[derive(Clone, Copy)]
-pub enum Layout {
-    // what its count says; where its digits begin and end; how many letters there are; and 0 where their counts are right, else 21
-    At(usize, usize, usize, usize, u8),
-    // none
-    Nothing,
+struct Layout {
+    // what its count says
+    count: usize,
+    // where its digits begin, and where they end
+    start: usize,
+    end: usize,
+    // and what stands behind them
+    tail: Lettering,
 }
 
-// The number that `t` is, 100 where it is above 99, and 101 where it is none.
-fn number(t: &[u8]) -> usize
+// The number that `t` is, and 100 where it is above 99; none where it is none.
+fn number(t: &[u8]) -> Option<usize>
     ensures { NumberRead t.now result }
 {
     if !lines::digits(t) {
-        return 101;
+        return None;
     }
-    let first = t[0] - 48;
+    let first = (t[0] - b'0') as usize;
     if t.len() == 1 {
-        return first as usize;
+        return Some(first);
     }
     if first == 0 {
-        return 101;
+        return None;
     }
     if t.len() == 2 {
-        return 10 * first as usize + (t[1] - 48) as usize;
+        return Some(10 * first + (t[1] - b'0') as usize);
     }
-    100
+    Some(100)
 }
 
 // How often `a` stands in `t`. A byte is wide enough for the number, and so 16 places are compared at once.
@@ -71,11 +74,8 @@ fn tallied(t: &[u8], a: u8) -> usize
     ensures { result ≡ tally a t.now }
 {
     let mut n: u8 = 0;
-    let mut i = 0;
-    while i < t.len() {
-        let b = t[i];
-        i += 1;
-        if b == a {
+    for b in t {
+        if *b == a {
             n += 1;
         }
     }
@@ -86,137 +86,101 @@ fn tallied(t: &[u8], a: u8) -> usize
 fn matching(letters: &[u8], c: usize, n: usize, o: usize) -> bool
     ensures { Tells ((length letters.now ≤ size) × Tallies letters.now c n o) result }
 {
-    if SIZE < letters.len() {
-        return false;
-    }
-    if tallied(letters, 67) != c {
-        return false;
-    }
-    if tallied(letters, 78) != n {
-        return false;
-    }
-    if tallied(letters, 79) != o {
-        return false;
-    }
-    true
+    letters.len() <= SIZE
+        && tallied(letters, b'C') == c
+        && tallied(letters, b'N') == n
+        && tallied(letters, b'O') == o
 }
 
-// The counts of letters: 2 where they have not the form, 21 where they are not those of `letters`, else 0.
-fn counts(t: &[u8], letters: &[u8]) -> u8
+// The counts of letters: whether they are those of `letters`; none where they have not the form.
+fn counts(t: &[u8], letters: &[u8]) -> Option<bool>
     ensures { CountsRead t.now letters.now result }
 {
-    let a = until(32, t);
+    let a = until(b' ', t);
     if a == t.len() {
-        return 2;
+        return None;
     }
-    let b = a + 1 + until(32, &t[a + 1..]);
+    let b = a + 1 + until(b' ', &t[a + 1..]);
     if b == t.len() {
-        return 2;
+        return None;
     }
-    let c = number(&t[..a]);
-    if c == 101 {
-        return 2;
-    }
-    let n = number(&t[a + 1..b]);
-    if n == 101 {
-        return 2;
-    }
-    let o = number(&t[b + 1..]);
-    if o == 101 {
-        return 2;
-    }
-    if matching(letters, c, n, o) {
-        return 0;
-    }
-    21
+    let c = number(&t[..a])?;
+    let n = number(&t[a + 1..b])?;
+    let o = number(&t[b + 1..])?;
+    Some(matching(letters, c, n, o))
 }
 
 // Whether `t` is one or more letters.
 fn lettered(t: &[u8]) -> bool
     ensures { Tells ((1 ≤ length t.now) × Each Letter t.now) result }
 {
-    if t.len() == 0 {
-        return false;
-    }
-    let mut i = 0;
-    while i < t.len() {
-        if !letters::is_letter(t[i]) {
-            return false;
-        }
-        i += 1;
-    }
-    true
+    !t.is_empty() && t.iter().all(|b| letters::is_letter(*b))
 }
 
 // Letters, a space and their counts.
-fn tail(t: &[u8]) -> Lettering
+fn tail(t: &[u8]) -> Option<Lettering>
     ensures { TailRead t.now result }
 {
-    let f = until(32, t);
+    let f = until(b' ', t);
     if f == t.len() {
-        return Lettering::Nothing;
+        return None;
     }
     if !lettered(&t[..f]) {
-        return Lettering::Nothing;
+        return None;
     }
-    let k = counts(&t[f + 1..], &t[..f]);
-    if k == 2 {
-        return Lettering::Nothing;
-    }
-    Lettering::Letters(f, k)
+    let k = counts(&t[f + 1..], &t[..f])?;
+    Some(Lettering {
+        letters: f,
+        matching: k,
+    })
 }
 
-// The form of a line without its line feed.
-fn shape(b: &[u8]) -> Layout
+// The form of a line without its line feed; none where it has another.
+fn shape(b: &[u8]) -> Option<Layout>
     ensures { ShapeRead b.now result }
 {
-    match lines::begin(b) {
-        Opening::Nothing => Layout::Nothing,
-        Opening::At(n, s) => {
-            let e = s + until(32, &b[s..]);
-            if e == b.len() {
-                return Layout::Nothing;
-            }
-            if !lines::digits(&b[s..e]) {
-                return Layout::Nothing;
-            }
-            match tail(&b[e + 1..]) {
-                Lettering::Nothing => Layout::Nothing,
-                Lettering::Letters(f, k) => Layout::At(n, s, e, f, k),
-            }
-        }
+    let opening = lines::begin(b)?;
+    let s = opening.start;
+    let e = s + until(b' ', &b[s..]);
+    if e == b.len() {
+        return None;
     }
+    if !lines::digits(&b[s..e]) {
+        return None;
+    }
+    let l = tail(&b[e + 1..])?;
+    Some(Layout {
+        count: opening.count,
+        start: s,
+        end: e,
+        tail: l,
+    })
 }
 
 // The digits of a text's first line, which is judged by rows 1, 2, 3, 5 and 21; as many letters stand behind one more byte.
-fn locate(text: &[u8]) -> Span
+fn locate(text: &[u8]) -> Result<Span, Refusal>
     ensures { NamedLocated size named_table text.now result }
 {
     let end = lines::feed(text);
     if end == text.len() {
-        return Span::Refused(1);
+        return Err(Refusal { row: 1, place: 0 });
     }
-    match shape(&text[..end]) {
-        Layout::Nothing => Span::Refused(2),
-        Layout::At(n, s, e, f, k) => {
-            if n == 0 {
-                return Span::Refused(3);
-            }
-            if SIZE < n {
-                return Span::Refused(3);
-            }
-            if e - s != n {
-                return Span::Refused(5);
-            }
-            if f != n {
-                return Span::Refused(21);
-            }
-            if k != 0 {
-                return Span::Refused(21);
-            }
-            Span::Digits(s, e)
-        }
+    let Some(l) = shape(&text[..end]) else {
+        return Err(Refusal { row: 2, place: 0 });
+    };
+    if l.count == 0 || SIZE < l.count {
+        return Err(Refusal { row: 3, place: 0 });
     }
+    if l.end - l.start != l.count {
+        return Err(Refusal { row: 5, place: 0 });
+    }
+    if l.tail.letters != l.count || !l.tail.matching {
+        return Err(Refusal { row: 21, place: 0 });
+    }
+    Ok(Span {
+        start: l.start,
+        end: l.end,
+    })
 }
 
 // Letters as they are, to the start of what is lent.
@@ -224,15 +188,11 @@ fn lay(t: &[u8], out: &mut [u8])
     requires { length t.now ≤ length out.old }
     ensures { out.new ≡ laid_over t.now out.old }
 {
-    let mut i = 0;
-    while i < t.len() {
-        out[i] = t[i];
-        i += 1;
-    }
+    out[..t.len()].copy_from_slice(t);
 }
 
 // The digits of a line, as they are written, with its letters: row 3 of digits lent by themselves, and the rows of a named line's.
-fn judge(t: &[u8], letters: &[u8]) -> Check
+fn judge(t: &[u8], letters: &[u8]) -> Result<(), Refusal>
     requires written_digits { WrittenDigits t.now }
     requires t_len_bound { length t.now ≤ size }
     requires letters_len { length letters.now ≡ length t.now }
@@ -244,39 +204,26 @@ fn judge(t: &[u8], letters: &[u8]) -> Check
 }
 
 // The first line of a text: its digits as values, and its letters, each to the start of what is lent for them.
-pub fn read_line(text: &[u8], out: &mut [u8], letters: &mut [u8]) -> Answer
+pub fn read_line(text: &[u8], out: &mut [u8], letters: &mut [u8]) -> Result<usize, Refusal>
     ensures { NamedLineRead size named_table text.now out.old letters.old out.new letters.new (told result) }
 {
-    match locate(text) {
-        Span::Refused(k) => Answer::Refused(k, 0),
-        Span::Digits(start, end) => {
-            let n = end - start;
-            match judge(&text[start..end], &text[end + 1..end + 1 + n]) {
-                Check::Refuse(k, p) => Answer::Refused(k, p),
-                Check::Passed => {
-                    if out.len() < n {
-                        return Answer::Refused(15, n);
-                    }
-                    if letters.len() < n {
-                        return Answer::Refused(15, n);
-                    }
-                    lines::read_digits(&text[start..end], out);
-                    lay(&text[end + 1..end + 1 + n], letters);
-                    Answer::Done(n)
-                }
-            }
-        }
-    }
+    let at = locate(text)?;
+    let n = at.end - at.start;
+    let digits = &text[at.start..at.end];
+    let spelling = &text[at.end + 1..at.end + 1 + n];
+    judge(digits, spelling)?;
+    refusal::fits(n, out.len())?;
+    refusal::fits(n, letters.len())?;
+    lines::read_digits(digits, out);
+    lay(spelling, letters);
+    Ok(n)
 }
 
 // How many lines there is room for: SIZE bytes of digits, as many of letters, a number and a place for each.
 fn room(records: usize, letters: usize, numbers: usize, places: usize) -> usize
     ensures { NamedRoom records letters numbers places result }
 {
-    if letters < records {
-        return lines::room(letters, numbers, places);
-    }
-    lines::room(records, numbers, places)
+    lines::room(records.min(letters), numbers, places)
 }
 
 // A text, line after line, as far as there is room.
@@ -292,9 +239,8 @@ pub fn read_text(
         records.new letters.new numbers.new places.new result.lines result.at }
 {
     let many = room(records.len(), letters.len(), numbers.len(), places.len());
-    let mut k = 0;
     let mut at = 0;
-    while k < many {
+    for k in 0..many {
         if at == text.len() {
             return Progress { lines: k, at };
         }
@@ -305,9 +251,8 @@ pub fn read_text(
         );
         lines::note(r, numbers, places, k);
         at = lines::behind(text, at);
-        k += 1;
     }
-    Progress { lines: k, at }
+    Progress { lines: many, at }
 }
 
 // A space and how often `a` stands in `letters`, behind the first `at` bytes of what is lent; the place behind them.
@@ -317,7 +262,7 @@ fn put_count(letters: &[u8], a: u8, out: &mut [u8], at: usize) -> usize
     ensures { Appends (count a letters.now) out.old out.new at result }
 {
     let n = tallied(letters, a);
-    out[at] = 32;
+    out[at] = b' ';
     let m = lines::write_count(n, &mut out[at + 1..]);
     at + 1 + m
 }
@@ -328,9 +273,9 @@ fn put_counts(letters: &[u8], out: &mut [u8], at: usize) -> usize
     requires letters_in_bounds { at + length (counts letters.now) ≤ length out.old }
     ensures { Appends (counts letters.now) out.old out.new at result }
 {
-    let b = put_count(letters, 67, out, at);
-    let c = put_count(letters, 78, out, b);
-    put_count(letters, 79, out, c)
+    let b = put_count(letters, b'C', out, at);
+    let c = put_count(letters, b'N', out, b);
+    put_count(letters, b'O', out, c)
 }
 
 // Count, digits and letters, to the start of what is lent; how many bytes that is.
@@ -341,7 +286,7 @@ fn put_front(code: &[u8], letters: &[u8], out: &mut [u8]) -> usize
     ensures { Laid (opened code.now letters.now) out.old out.new result }
 {
     let at = lines::write(code, out);
-    out[at - 1] = 32;
+    out[at - 1] = b' ';
     lay(letters, &mut out[at..]);
     at + letters.len()
 }
@@ -356,7 +301,7 @@ pub fn write(code: &[u8], letters: &[u8], out: &mut [u8]) -> usize
 {
     let at = put_front(code, letters, out);
     let end = put_counts(letters, out, at);
-    out[end] = 10;
+    out[end] = b'\n';
     end + 1
 }
 
@@ -378,5 +323,5 @@ pub fn extent(letters: &[u8]) -> usize
     ensures { (c : List ℕ) → length c ≡ length letters.now → length (named_line c letters.now) ≡ result }
 {
     let n = letters.len();
-    lines::extent(n) + n + width(letters, 67) + width(letters, 78) + width(letters, 79) + 1
+    lines::extent(n) + n + width(letters, b'C') + width(letters, b'N') + width(letters, b'O') + 1
 }

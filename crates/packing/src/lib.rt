@@ -3,98 +3,123 @@
 #![tactic(auto)]
 
 ghost use Rattle.std.specs.Prelude.{◌≡◌, ◌+◌, ◌*◌, ◌≤◌, ◌<◌};
-ghost use Rattle.refusal.specs.document.Outcome.{told, numbered};
+ghost use Rattle.refusal.specs.document.Outcome.{told, told_of, unwritten};
+ghost use Rattle.refusal.specs.document.Reported as reports;
 ghost use Rattle.refusal.specs.document.Small.{byte_values, Small, SmallOf, SmallAnswer, SmallRefusal};
-ghost use Rattle.fraction.specs.document.Outcome.{told_fraction};
-ghost use Rattle.zurkhovel.specs.document.Same.{said};
-ghost use Rattle.zurkhovel.specs.document.Maps.{mapped};
 ghost use Rattle.packing.specs.document.Packing.{packed, truth, with_list, held};
 
-use fraction::Fraction;
-use refusal::{Answer, Number};
-use zurkhovel::codes::Verdict;
-use zurkhovel::maps::Mapping;
+use refusal::{ListRefusal, Refusal, Reported};
 
 // The values of a byte.
 const BYTE: u32 = 256;
 
 // A refusal: 256 times the number plus the place.
-fn refused(k: u8, p: usize) -> u32
-    requires { p < byte_values }
-    ensures { result ≡ byte_values * k + p }
+fn refused(refusal: Refusal) -> u32
+    requires { refusal.place < byte_values }
+    ensures { result ≡ byte_values * refusal.row + refusal.place }
 {
-    BYTE * k as u32 + p as u32
+    BYTE * refusal.row as u32 + refusal.place as u32
 }
 
-// The answer of a call that writes or only checks.
-pub fn answered(answer: Answer) -> u32
+// The answer of a call that writes.
+pub fn answered(answer: Result<usize, Refusal>) -> u32
     requires { SmallAnswer (told answer) }
     ensures { result ≡ packed (λ k. k) (λ n. n) (told answer) }
 {
     match answer {
-        Answer::Done(n) => n as u32,
-        Answer::Refused(k, p) => refused(k, p),
+        Ok(n) => n as u32,
+        Err(refusal) => refused(refusal),
+    }
+}
+
+// The answer of a call that only checks.
+pub fn passed(check: Result<(), Refusal>) -> u32
+    requires { SmallAnswer (told (unwritten check)) }
+    ensures { result ≡ packed (λ k. k) (λ n. n) (told (unwritten check)) }
+{
+    match check {
+        Ok(()) => 0,
+        Err(refusal) => refused(refusal),
     }
 }
 
 // A refusal of one of several, which are called 1, 2 and 3: each adds 256 times 256 to the one before it. 22, which is called 0, adds nothing.
-fn refused_of(i: u8, k: u8, p: usize) -> u32
-    requires { (i ≤ 3) × (p < byte_values) }
-    ensures { result ≡ byte_values * with_list (i, k) + p }
+fn refused_of(refusal: ListRefusal) -> u32
+    requires { (refusal.list ≤ 3) × (refusal.refusal.place < byte_values) }
+    ensures { result ≡ byte_values * with_list (refusal.list, refusal.refusal.row) + refusal.refusal.place }
 {
-    if i == 0 {
-        return refused(k, p);
-    }
-    BYTE * BYTE * (i as u32 - 1) + refused(k, p)
+    BYTE * BYTE * (refusal.list as u32).saturating_sub(1) + refused(refusal.refusal)
 }
 
 // The verdict.
-pub fn found(verdict: Verdict) -> u32
-    requires { Small (SmallOf 2) (λ b. Unit {0}) (said verdict) }
-    ensures { result ≡ packed with_list truth (said verdict) }
+pub fn found(verdict: Result<bool, ListRefusal>) -> u32
+    requires { Small (SmallOf 2) (λ b. Unit {0}) (told_of verdict) }
+    ensures { result ≡ packed with_list truth (told_of verdict) }
 {
     match verdict {
-        Verdict::Same => 1,
-        Verdict::Different => 0,
-        Verdict::Refused(i, k, p) => refused_of(i, k, p),
+        Ok(same) => u32::from(same),
+        Err(refusal) => refused_of(refusal),
     }
 }
 
-// The answer of a call on maps.
-pub fn sent(answer: Mapping) -> u32
-    requires { Small (SmallOf 3) (λ n. n < byte_values) (mapped answer) }
-    ensures { result ≡ packed with_list (λ n. n) (mapped answer) }
+// The answer of a call that hands out a map.
+pub fn sent(answer: Result<usize, ListRefusal>) -> u32
+    requires { Small (SmallOf 3) (λ n. n < byte_values) (told_of answer) }
+    ensures { result ≡ packed with_list (λ n. n) (told_of answer) }
 {
     match answer {
-        Mapping::Done(n) => n as u32,
-        Mapping::Refused(i, k, p) => refused_of(i, k, p),
+        Ok(n) => n as u32,
+        Err(refusal) => refused_of(refusal),
     }
 }
 
-// The answer of a call that is asked for a number.
-pub fn valued(answer: Number, value: &mut u64) -> u32
-    requires { SmallRefusal (numbered answer) }
-    ensures { (result ≡ packed (λ k. k) (λ a. 0) (numbered answer)) × (value.new ≡ held value.old (numbered answer)) }
+// The answer of a call that only checks a map.
+pub fn judged(check: Result<(), ListRefusal>) -> u32
+    requires { Small (SmallOf 3) (λ n. n < byte_values) (told_of (unwritten check)) }
+    ensures { result ≡ packed with_list (λ n. n) (told_of (unwritten check)) }
+{
+    match check {
+        Ok(()) => 0,
+        Err(refusal) => refused_of(refusal),
+    }
+}
+
+// The answer of a call that is asked for a value.
+pub fn valued<T: Copy>(answer: Result<T, Refusal>, value: &mut T) -> u32
+    requires { SmallRefusal (told answer) }
+    ensures { (result ≡ packed (λ k. k) (λ a. 0) (told answer)) × (value.new ≡ held value.old (told answer)) }
 {
     match answer {
-        Number::Value(v) => {
+        Ok(v) => {
             *value = v;
             0
         }
-        Number::Refused(k, p) => refused(k, p),
+        Err(refusal) => refused(refusal),
     }
 }
 
-// The answer of a call that is asked for a fraction.
-pub fn exact(answer: Fraction, value: &mut f64) -> u32
-    requires { SmallRefusal (told_fraction answer) }
-    ensures { (result ≡ packed (λ k. k) (λ a. 0) (told_fraction answer)) × (value.new ≡ held value.old (told_fraction answer)) }
+// The answer of a call that reports how many pairs it looked at; that number is handed over, and 0 with a refusal.
+pub fn counted<T, E>(call: Result<Reported<T>, E>, pairs: &mut usize) -> Result<T, E>
+    ensures { (result ≡ reports.answer call) × (pairs.new ≡ reports.pairs call) }
 {
-    match answer {
-        Fraction::Exact(x) => {
-            *value = x;
-            0
+    match call {
+        Ok(reported) => {
+            *pairs = reported.pairs;
+            Ok(reported.value)
         }
-        Fraction::Refused(k, p) => refused(k, p),
+        Err(refusal) => {
+            *pairs = 0;
+            Err(refusal)
+        }
+    }
+}
+
+// The same without that number.
+pub fn uncounted<T, E>(call: Result<Reported<T>, E>) -> Result<T, E>
+    ensures { result ≡ reports.answer call }
+{
+    match call {
+        Ok(reported) => Ok(reported.value),
+        Err(refusal) => Err(refusal),
     }
 }

@@ -1,11 +1,17 @@
 -- Laws of the calls that write into a lent output, once for every call. Here stands what rests on `First`; the rest is in `specs.Giving`. Assumes nothing.
-use Rattle.std.specs.Prelude.{◌≡◌, refl, List, [], ◌∷◌, ℕ, ◌≤◌, ◌<◌, length}
+use Rattle.std.specs.Prelude.{◌≡◌, refl, List, [], ◌∷◌, ℕ, ◌≤◌, ◌<◌, length, Result, Err, IsErrAnd}
 use Rattle.std.proofs.Common.{sym, ap, ◌∙◌, arith}
-use Rattle.refusal.specs.document.Table.{Row, Clear, Outcome, gives, refuses, Answered, kept, left, short, Gives}
+use Rattle.refusal.specs.document.Table.{Row, row15, Clear, OutcomeOf, Outcome, gives, refuses, Answered, kept, left, short, Gives}
 use Rattle.refusal.specs.Laws.{clear_left}
-use Rattle.refusal.proofs.Laws.{one_accepted, one_result, first-place, refusal_back}
+use Rattle.refusal.proofs.Laws.{one_accepted, one_result, first-place, refusal_back, is_refusal, short_of}
 use Rattle.refusal.specs.document.Given.{Given}
 use Rattle.refusal.specs.Giving.{one_written, given}
+use Rattle.refusal.specs.declared.Refusal.{Refusal}
+use Rattle.refusal.specs.declared.ListRefusal.{ListRefusal}
+use Rattle.refusal.specs.declared.Reported.{Reported}
+use Rattle.refusal.specs.document.Outcome.{told, told_of}
+use Rattle.refusal.specs.document.Reported.{answer, pairs, Reporting}
+use Rattle.refusal.specs.Checks.{Answers}
 
 -- one answer and one output, where a right result of an input that no row refuses is one
 pub one_clear :
@@ -44,3 +50,23 @@ module _ {rs : List Row} (k : Clear rs) where
 
   pub must_answer : {A : Type 0} {Right : A → Type 0} {o : Outcome A} (a : A) → Right a → ((b : A) → Right b → b ≡ a) → Answered rs Right o → o ≡ gives a
   must_answer a r one g = (one_result (λ x y p q. (one x p ∙ sym (one y q), refl)) g (kept k r)).0
+
+-- ---- a call that reports, where `?` hands a refusal on
+
+module _ {A : Type 0} {Count : ℕ → Type 0} where
+  pub reported_exit :
+      {P : Outcome A → Type 0} (r : Refusal) (a : Result (Reported A) Refusal) → IsErrAnd a (λ d. d ≡ r) → P (refuses r.row r.place)
+      → Reporting P Count (told (answer a)) (pairs a)
+  reported_exit r a h x = rw (is_refusal a h) (record { promised = x; reported = refl })
+
+  -- 15
+  pub reported_short :
+      {P : Outcome A → Type 0} {need lent : ℕ} {r : Refusal} (a : Result (Reported A) Refusal) → IsErrAnd a (λ d. d ≡ r) → Answers (row15 need lent ∷ []) (Err r)
+      → (lent < need → P (refuses 15 need)) → Reporting P Count (told (answer a)) (pairs a)
+  reported_short a h k f = let (e, l) = short_of a h k in rw e (record { promised = f l; reported = refl })
+
+  -- of one of several lists
+  pub list_exit :
+      {P : OutcomeOf (ℕ × ℕ) A → Type 0} (r : ListRefusal) (a : Result (Reported A) ListRefusal) → IsErrAnd a (λ d. d ≡ r)
+      → P (refuses (r.list, r.refusal.row) r.refusal.place) → Reporting P Count (told_of (answer a)) (pairs a)
+  list_exit r a h x = rw (is_refusal a h) (record { promised = x; reported = refl })

@@ -1,11 +1,11 @@
 -- Laws of refusal tables, once for every call. Here stands what rests on `First`; the rest is in `specs.Laws`. Assumes nothing.
-use Rattle.std.specs.Prelude.{◌≡◌, refl, ◌⊎◌, List, [], ◌∷◌, ◌++◌, ℕ, ◌<◌}
+use Rattle.std.specs.Prelude.{◌≡◌, refl, ◌⊎◌, List, [], ◌∷◌, ◌++◌, ℕ, ◌≤◌, ◌<◌, Result, Ok, Err, IsErrAnd, OnOk}
 use Rattle.std.proofs.Common.{sym, ap, ap₂, ◌∙◌, subst, inl, inr, ⊎_elim, arith}
-use Rattle.refusal.specs.declared.Check.{Check}
-use Rattle.refusal.specs.declared.Check.TheVariants.{Passed, Refuse}
-use Rattle.refusal.specs.Checks.{Answers, passes, fails}
-use Rattle.refusal.specs.document.Table.{RowOf, Row, of_list, Clear, First, FirstRefusal, OutcomeOf, gives, refuses, Promise, kept, left}
-use Rattle.refusal.specs.Laws.{not_both, clear_one, clear_both, never, others, was_clear, RowByRow, AlikeBy, Alike, renamed-alike, alike_clear}
+use Rattle.std.proofs.lemmas.Result.{err_from_is_err_and}
+use Rattle.refusal.specs.declared.Refusal.{Refusal}
+use Rattle.refusal.specs.Checks.{Check, Answers, passes, fails}
+use Rattle.refusal.specs.document.Table.{RowOf, Row, row15, of_list, Applies, Clear, First, FirstRefusal, OutcomeOf, gives, refuses, Promise, kept, left}
+use Rattle.refusal.specs.Laws.{applied, not_both, clear_one, clear_both, never, others, was_clear, was_refused, stops, RowByRow, AlikeBy, Alike, renamed-alike, alike_clear}
 
 one-first : {K : Type 0} (rs : List (RowOf K)) (k j : K) (p q : ℕ) → First rs k p → First rs j q → (k ≡ j) × (p ≡ q)
 one-first (r ∷ rs) k j p q (inl a) (inl b) =
@@ -70,13 +70,47 @@ module _ {K : Type 0} {k : K} {p : ℕ} where
   refusal_before xs ys f l = ⊎_elim (λ a. a) (λ b. not_both (f b.0) b.1) (refusal_either xs ys l)
 
 -- behind a check that passes, the rest answers for the whole table
-pub goes_on : {xs ys : List Row} {a b : Check} → Answers xs a → a ≡ Passed → Answers ys b → Answers (xs ++ ys) b
+pub goes_on : {xs ys : List Row} {a b : Check} {u : Unit {0}} → Answers xs a → a ≡ Ok u → Answers ys b → Answers (xs ++ ys) b
 goes_on h e (passes c) = passes (clear_both (was_clear h e) c)
 goes_on h e (fails l) = fails (refusal_back (was_clear h e) l)
 
+-- the same of a check that `?` goes on behind, and what `?` hands on of one that refuses
+pub clear_of : {rs : List Row} {u : Unit {0}} → Answers rs (Ok u) → Clear rs
+clear_of h = was_clear h refl
+
+pub refusal_of : {rs : List Row} {r : Refusal} → Answers rs (Err r) → FirstRefusal rs r.row r.place
+refusal_of h = was_refused h refl
+
+pub behind : {xs ys : List Row} {u : Unit {0}} {b : Check} → Answers xs (Ok u) → Answers ys b → Answers (xs ++ ys) b
+behind h k = goes_on h refl k
+
+pub is_refusal : {A E : Type 0} {r : E} (a : Result A E) → IsErrAnd a (λ d. d ≡ r) → a ≡ Err r
+is_refusal a h = let p = err_from_is_err_and a h in p.1 ∙ ap Err p.2
+
+-- row 15: there is room, or what `?` hands on is 15 with what is needed
+pub room_of : {need lent : ℕ} {u : Unit {0}} → Answers (row15 need lent ∷ []) (Ok u) → need ≤ lent
+room_of {need} {lent} h = let n : lent < need → ⊥ = λ l. never (clear_of h) need (refl, l) in omega arith
+
+pub short_of :
+    {A : Type 0} {need lent : ℕ} {r : Refusal} (a : Result A Refusal) → IsErrAnd a (λ d. d ≡ r) → Answers (row15 need lent ∷ []) (Err r)
+    → (a ≡ Err (record { row = 15; place = need })) × (lent < need)
+short_of {need = need} {lent} {r} a h k = by_cases (applied (refusal_of k))
+  where
+    by_cases : Applies (row15 need lent ∷ []) r.row r.place → (a ≡ Err (record { row = 15; place = need })) × (lent < need)
+    by_cases (inl (e, (q, l))) = (is_refusal a h ∙ ap Err (ap₂ (λ (k p : ℕ). record { row = k; place = p }) e q), l)
+    by_cases (inr n) = absurd n
+
+-- what a clause says of a check that passes
+pub on_passed : {P : Type 0} (a : Check) → ((u : Unit {0}) → a ≡ Ok u → P) → OnOk a P
+on_passed (Ok u) f = f u refl
+on_passed (Err r) f = tt
+
+pub exits : {xs : List Row} (ys : List Row) {r : Refusal} {a : Check} → IsErrAnd a (λ d. d ≡ r) → Answers xs (Err r) → Answers (xs ++ ys) a
+exits ys {a = a} h k = rw (is_refusal a h) (stops ys k refl)
+
 -- one row more behind a clear table, whose place is 0
 module _ {rs : List Row} (k : Clear rs) (r : Row) where
-  pub then_refused : r.applies 0 → Answers (rs ++ (r ∷ [])) (Refuse r.number 0)
+  pub then_refused : r.applies 0 → Answers (rs ++ (r ∷ [])) (Err (record { row = r.number; place = 0 }))
   then_refused d = fails (refusal_back k (first-place {r = r} d (λ q l a. let z : ⊥ = omega arith in z)))
 
 module _ {K L : Type 0} (f : K → L) where

@@ -2,11 +2,11 @@
 --
 -- In order: one answer, and one result with one state of what was lent; a table of one row; tables one behind the other; how an answer of one check becomes an answer of
 -- the whole; tables that apply alike; rows under other names; row 3. Calls that write are in `Giving`. What rests on `First` is in `proofs.Laws`. Assumes nothing.
-use Rattle.std.specs.Prelude.{◌≡◌, refl, ◌⊎◌, ◌↔◌, List, [], ◌∷◌, ◌++◌, map, ℕ, ◌≤◌, ◌<◌}
+use Rattle.std.specs.Prelude.{◌≡◌, refl, ◌⊎◌, ◌↔◌, List, [], ◌∷◌, ◌++◌, map, ℕ, ◌≤◌, ◌<◌, Ok, Err}
 use Rattle.std.proofs.Common.{sym, ap, ◌∙◌, subst, inl, inr, ⊎_elim, arith}
-use Rattle.refusal.specs.declared.Check.{Check}
-use Rattle.refusal.specs.declared.Check.TheVariants.{Passed, Refuse}
-use Rattle.refusal.specs.Checks.{checked, Answers, passes, fails}
+use Rattle.refusal.specs.declared.Refusal.{Refusal}
+use Rattle.refusal.specs.Checks.{Check, Answers, passes, fails}
+use Rattle.refusal.specs.document.Outcome.{told, unwritten}
 use Rattle.refusal.specs.document.Table.{RowOf, Row, renamed, of_list, Applies, Clear, First, FirstRefusal, Outcome, Answered, kept, left, row3}
 
 -- ---- one answer
@@ -78,21 +78,21 @@ module _ {K : Type 0} {k : K} {p : ℕ} where
   refusal_front {xs} ys l = record { is = first-front k p xs ys l.is }
 
 -- what a check answered, as its caller learns it
-pub was_clear : {rs : List Row} {a : Check} → Answers rs a → a ≡ Passed → Clear rs
+pub was_clear : {rs : List Row} {a : Check} {u : Unit {0}} → Answers rs a → a ≡ Ok u → Clear rs
 was_clear (passes c) e = c
-was_clear (fails {k} {p} l) e = let z : ◌≡◌ {A = ℕ} 0 1 = cc in absurd (let n : ⊥ = omega arith in n)
+was_clear (fails l) e = absurd cc
 
-pub was_refused : {rs : List Row} {a : Check} {k p : ℕ} → Answers rs a → a ≡ Refuse k p → FirstRefusal rs k p
-was_refused (passes c) e = let z : ◌≡◌ {A = ℕ} 0 1 = cc in absurd (let n : ⊥ = omega arith in n)
-was_refused {rs} {k = k} {p} (fails {k = j} {p = q} l) e = let a : j ≡ k = cc in let b : q ≡ p = cc in rw (← a, ← b) l
+pub was_refused : {rs : List Row} {a : Check} {r : Refusal} → Answers rs a → a ≡ Err r → FirstRefusal rs r.row r.place
+was_refused (passes c) e = absurd cc
+was_refused {r = r} (fails {r = s} l) e = let a : s ≡ r = cc in rw (← a) l
 
 -- a check that refuses answers for the whole table
-pub stops : {xs : List Row} (ys : List Row) {a : Check} {k p : ℕ} → Answers xs a → a ≡ Refuse k p → Answers (xs ++ ys) (Refuse k p)
+pub stops : {xs : List Row} (ys : List Row) {a : Check} {r : Refusal} → Answers xs a → a ≡ Err r → Answers (xs ++ ys) (Err r)
 stops ys h e = fails (refusal_front ys (was_refused h e))
 
 -- one row more behind a clear table, whose place is 0
 module _ {rs : List Row} (k : Clear rs) (r : Row) where
-  pub then_passed : ((p : ℕ) → r.applies p → ⊥) → Answers (rs ++ (r ∷ [])) Passed
+  pub then_passed : ((p : ℕ) → r.applies p → ⊥) → Answers (rs ++ (r ∷ [])) (Ok tt)
   then_passed e = passes (clear_both k (clear_one {r = r} e))
 
 -- ---- tables that apply alike
@@ -159,6 +159,6 @@ pub size_clear : {most n : ℕ} → 1 ≤ n → n ≤ most → Clear (row3 most 
 size_clear l m = clear_one (λ p a. ⊎_elim (λ h. omega (arith, h)) (λ h. omega (arith, h)) a.1)
 
 -- a check of the whole table keeps the promise of a call that only checks
-pub check-answered : {rs : List Row} {a : Check} {o : Outcome ℕ} → Answers rs a → o ≡ checked a → Answered rs (λ n. n ≡ 0) o
+pub check-answered : {rs : List Row} {a : Check} {o : Outcome ℕ} → Answers rs a → o ≡ told (unwritten a) → Answered rs (λ n. n ≡ 0) o
 check-answered {rs} (passes c) e = subst (Answered rs (λ n. n ≡ 0)) (sym e) (kept c refl)
 check-answered {rs} (fails l) e = subst (Answered rs (λ n. n ≡ 0)) (sym e) (left l refl)

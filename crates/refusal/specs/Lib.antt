@@ -1,5 +1,4 @@
 -- Refusals, once, for every call of every crate. Assumes nothing.
-pub mod Apart
 pub mod Laws
 pub mod Stricter
 pub mod Lowest

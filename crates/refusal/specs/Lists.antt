@@ -1,9 +1,7 @@
 -- The tables of two lists, and of two lists and a map: what their check answered; where none refuses; what each refuses; which of them it is; that it fits into bytes.
 -- What rests on `First` is in `proofs.WhichList`. Assumes nothing.
-use Rattle.std.specs.Prelude.{◌≡◌, ◌↔◌, Bool, true, List, [], ◌∷◌, ◌++◌, ℕ, ltb}
-use Rattle.std.proofs.Common.{arith}
-use Rattle.refusal.specs.declared.Lists.{Lists}
-use Rattle.refusal.specs.declared.Lists.TheVariants.{Accepted, Refused}
+use Rattle.std.specs.Prelude.{◌≡◌, ◌↔◌, Bool, true, List, [], ◌∷◌, ◌++◌, ℕ, ltb, Result, Ok, Err}
+use Rattle.refusal.specs.declared.ListRefusal.{ListRefusal}
 use Rattle.refusal.specs.Checks.{Judges, both_pass, one_fails}
 use Rattle.refusal.specs.document.Table.{RowOf, Row, of_list, Clear, FirstRefusal}
 use Rattle.refusal.specs.document.Lowest.{both}
@@ -13,13 +11,13 @@ use Rattle.refusal.specs.Laws.{clear_both, clear_left, clear_right, refusal_fron
 
 -- what the check of two lists answered, as its caller learns it
 module _ {rs : List (RowOf (ℕ × ℕ))} where
-  pub were_accepted : {r : Lists} → Judges rs r → r ≡ Accepted → Clear rs
+  pub were_accepted : {a : Result (Unit {0}) ListRefusal} {u : Unit {0}} → Judges rs a → a ≡ Ok u → Clear rs
   were_accepted (both_pass c) e = c
-  were_accepted (one_fails f) e = let z : ◌≡◌ {A = ℕ} 0 1 = cc in absurd (let n : ⊥ = omega arith in n)
+  were_accepted (one_fails f) e = absurd cc
 
-  pub one-refused : {r : Lists} {i k p : ℕ} → Judges rs r → r ≡ Refused i k p → FirstRefusal rs (i, k) p
-  one-refused (both_pass c) e = let z : ◌≡◌ {A = ℕ} 0 1 = cc in absurd (let n : ⊥ = omega arith in n)
-  one-refused {i = i} {k} {p} (one_fails {i = h} {k = j} {p = q} f) e = let a : h ≡ i = cc in let b : j ≡ k = cc in let c : q ≡ p = cc in rw (← a, ← b, ← c) f
+  pub one-refused : {a : Result (Unit {0}) ListRefusal} {r : ListRefusal} → Judges rs a → a ≡ Err r → FirstRefusal rs (r.list, r.refusal.row) r.refusal.place
+  one-refused (both_pass c) e = absurd cc
+  one-refused {r = r} (one_fails {r = s} f) e = let a : s ≡ r = cc in rw (← a) f
 
 module _ (Z A B : List Row) where
   -- none refuses

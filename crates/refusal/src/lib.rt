@@ -1,88 +1,53 @@
-// What a call answers. The meaning of each case, and which of several refusals is given, is in specs/Table.antt.
+// What a call answers: what it was asked for, or a refusal. How an answer is told by number and place is in specs/document/Outcome.antt, and which of several
+// refusals is given in specs/document/Table.antt.
 #![tactic(auto)]
 
-ghost use Rattle.std.specs.Prelude.{◌≡◌, [], ◌∷◌};
-ghost use Rattle.refusal.specs.document.Table.{row3};
-ghost use Rattle.refusal.specs.Checks.{Answers, checked};
-ghost use Rattle.refusal.specs.document.Outcome.{told};
-ghost use Rattle.refusal.specs.document.Reported.{Reports};
+ghost use Rattle.std.specs.Prelude.{[], ◌∷◌};
+ghost use Rattle.refusal.specs.document.Table.{row3, row15};
+ghost use Rattle.refusal.specs.Checks.{Answers};
 
-// Of a call that writes a result into a lent output, or only looks at its input.
-#[derive(Clone, Copy)]
-pub enum Answer {
-    // Done: so many bytes are written at the start of the lent output (0 where none is lent).
-    Done(usize),
-    // Refused: the number of document 01's table, and the place.
-    Refused(u8, usize),
+// A refusal: the number of its row in document 01's table, and the place. The row stays a number, as the theorem `answer` of `exports` has it: every outcome, whatever
+// its number, is told of one answer.
+#[derive(Clone, Copy, Debug, PartialEq, Eq)]
+pub struct Refusal {
+    pub row: u8,
+    pub place: usize,
 }
 
-// Of a call that is asked for a whole number.
-#[derive(Clone, Copy)]
-pub enum Number {
-    // The number.
-    Value(u64),
-    // Refused: the number of document 01's table, and the place.
-    Refused(u8, usize),
+// A refusal of a call that takes several lists: which of them is refused, 1 or 2, or 3 for a map between them, or 0 for what belongs to none. It stays a number by
+// the theorem `finding`, which says the same of it.
+#[derive(Clone, Copy, Debug, PartialEq, Eq)]
+pub struct ListRefusal {
+    pub list: u8,
+    pub refusal: Refusal,
 }
 
-// Of a call that writes and orders children: the answer, and how many pairs were looked at to put siblings in order. With a refusal that number is 0.
-#[derive(Clone, Copy)]
-pub struct Reported {
-    pub answer: Answer,
+// What a call gives that puts children in order: what it was asked for, and how many pairs were looked at to put siblings in order.
+#[derive(Clone, Copy, Debug, PartialEq, Eq)]
+pub struct Reported<T> {
+    pub value: T,
     pub pairs: usize,
 }
 
-// Of one check among several: nothing applies, or the first row of its table that does, at its first place.
-#[derive(Clone, Copy)]
-pub enum Check {
-    Passed,
-    Refuse(u8, usize),
-}
-
-// Of the check of two lists.
-#[derive(Clone, Copy)]
-pub enum Lists {
-    // Both are accepted.
-    Accepted,
-    // Refused: which list, 1 or 2, or 0 for what belongs to neither; the number of the table; the place.
-    Refused(u8, u8, usize),
-}
-
-// What a call answers that only checks.
-pub fn handed(check: Check) -> Answer
-    ensures { told result ≡ checked check }
-{
-    match check {
-        Check::Passed => Answer::Done(0),
-        Check::Refuse(k, p) => Answer::Refused(k, p),
-    }
-}
-
 // 3: n is 0 or above most.
-pub fn sized(n: usize, most: usize) -> Check
+pub fn sized(n: usize, most: usize) -> Result<(), Refusal>
     ensures { Answers (row3 most n ∷ []) result }
 {
-    if n == 0 {
-        return Check::Refuse(3, 0);
+    if n == 0 || most < n {
+        return Err(Refusal { row: 3, place: 0 });
     }
-    if most < n {
-        return Check::Refuse(3, 0);
-    }
-    Check::Passed
+    Ok(())
 }
 
-// An answer behind a code for which so many pairs were looked at.
-pub fn report(answer: Answer, looked: usize) -> Reported
-    ensures { (result.answer ≡ answer) × Reports (λ n. n ≡ looked) (told result.answer) result.pairs }
+// 15: what is lent is shorter than what is needed.
+pub fn fits(need: usize, lent: usize) -> Result<(), Refusal>
+    ensures { Answers (row15 need lent ∷ []) result }
 {
-    match answer {
-        Answer::Done(n) => Reported {
-            answer: Answer::Done(n),
-            pairs: looked,
-        },
-        Answer::Refused(k, p) => Reported {
-            answer: Answer::Refused(k, p),
-            pairs: 0,
-        },
+    if lent < need {
+        return Err(Refusal {
+            row: 15,
+            place: need,
+        });
     }
+    Ok(())
 }

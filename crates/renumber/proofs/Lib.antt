@@ -1,4 +1,3 @@
 -- Laws that the proofs of several functions cite. Assumes nothing.
-mod Placing
 mod Found
 mod Atoms

@@ -19,22 +19,18 @@ ghost use Rattle.renumber.specs.document.Map.{Entry, image, Repeats, EdgeSent, r
 ghost use Rattle.renumber.specs.document.Kept.{row18-kept, kept_rows};
 ghost use Rattle.renumber.specs.Parts.{Listed, Placed, Found, FoundKept, LookedAt, LookedKept, Sent};
 
-use digit_code::Order;
 use edge_list::wide;
 use limits::SIZE;
-use refusal::{Answer, Check};
+use refusal::Refusal;
 
 // 5: the sizes of the lists, and the length of the map.
-fn sizes(n1: usize, n2: usize, map: &[u8]) -> Check
+fn sizes(n1: usize, n2: usize, map: &[u8]) -> Result<(), Refusal>
     ensures { Answers (row5_map n1 n2 map.now ∷ []) result }
 {
-    if n1 != n2 {
-        return Check::Refuse(5, 0);
+    if n1 != n2 || map.len() != n1 {
+        return Err(Refusal { row: 5, place: 0 });
     }
-    if map.len() != n1 {
-        return Check::Refuse(5, 0);
-    }
-    Check::Passed
+    Ok(())
 }
 
 // Entry p.
@@ -50,15 +46,7 @@ fn repeats(map: &[u8], p: usize) -> bool
     requires { Entry map.now p }
     ensures { Tells (Repeats map.now p) result }
 {
-    let x = entry(map, p);
-    let mut q: usize = 1;
-    while q < p {
-        if entry(map, q) == x {
-            return true;
-        }
-        q += 1;
-    }
-    false
+    map[..p - 1].contains(&map[p - 1])
 }
 
 // Whether vertex p of the first list and vertex x of the second have one atom.
@@ -70,36 +58,24 @@ fn kept(atoms1: &[u8; SIZE], atoms2: &[u8; SIZE], p: usize, x: usize) -> bool
 }
 
 // 18: every entry.
-fn entries(n: usize, atoms1: &[u8; SIZE], atoms2: &[u8; SIZE], map: &[u8]) -> Check
+fn entries(n: usize, atoms1: &[u8; SIZE], atoms2: &[u8; SIZE], map: &[u8]) -> Result<(), Refusal>
     requires { (n ≤ size) × (length map.now ≡ n) }
     ensures { (l k : ℕ → Atom) → Named n l atoms1.now → Named n k atoms2.now → Answers (row18-kept l k n map.now ∷ []) result }
 {
-    let mut p: usize = 1;
-    while p <= map.len() {
+    for p in 1..=map.len() {
         let x = entry(map, p);
-        if edge_list::outside(n, x) {
-            return Check::Refuse(18, p);
-        }
-        if repeats(map, p) {
-            return Check::Refuse(18, p);
-        }
-        if kept(atoms1, atoms2, p, x) {
-            p += 1;
-        } else {
-            return Check::Refuse(18, p);
+        if edge_list::outside(n, x) || repeats(map, p) || !kept(atoms1, atoms2, p, x) {
+            return Err(Refusal { row: 18, place: p });
         }
     }
-    Check::Passed
+    Ok(())
 }
 
 // Whether from u to v is from a to b.
 fn same(u: usize, v: usize, a: usize, b: usize) -> bool
     ensures { Tells (◌≡◌ {A = Arc} (a, b) (u, v)) result }
 {
-    if u != a {
-        return false;
-    }
-    v == b
+    u == a && v == b
 }
 
 // Whether an edge joins a and b.
@@ -107,17 +83,12 @@ fn joined(edges: &[u8], a: usize, b: usize) -> bool
     ensures { Tells (Memᴰ (a, b) (arcs edges.now)) result }
 {
     let m = edges.len() / 2;
-    let mut p: usize = 1;
-    while p <= m {
+    for p in 1..=m {
         let u = edge_list::one(edges, p);
         let v = edge_list::other(edges, p);
-        if same(u, v, a, b) {
+        if same(u, v, a, b) || same(v, u, a, b) {
             return true;
         }
-        if same(v, u, a, b) {
-            return true;
-        }
-        p += 1;
     }
     false
 }
@@ -133,20 +104,17 @@ fn carried(edges1: &[u8], edges2: &[u8], map: &[u8], p: usize) -> bool
 }
 
 // 19: every edge of the first list.
-fn edges(edges1: &[u8], edges2: &[u8], map: &[u8]) -> Check
+fn edges(edges1: &[u8], edges2: &[u8], map: &[u8]) -> Result<(), Refusal>
     requires { Sent edges1.now map.now }
     ensures { Answers (row19 edges1.now edges2.now map.now ∷ []) result }
 {
     let m = edges1.len() / 2;
-    let mut p: usize = 1;
-    while p <= m {
-        if carried(edges1, edges2, map, p) {
-            p += 1;
-        } else {
-            return Check::Refuse(19, p);
+    for p in 1..=m {
+        if !carried(edges1, edges2, map, p) {
+            return Err(Refusal { row: 19, place: p });
         }
     }
-    Check::Passed
+    Ok(())
 }
 
 // Every refusal of a map from one skeleton to another, whose vertices have atoms.
@@ -158,22 +126,18 @@ pub fn check_marks(
     edges2: &[u8],
     atoms2: &[u8; SIZE],
     map: &[u8],
-) -> Check
+) -> Result<(), Refusal>
     requires { IsSkeleton size width n1 edges1.now }
     ensures { (l k : ℕ → Atom) → Named n1 l atoms1.now → Named n2 k atoms2.now
         → Answers (kept_rows l k n1 edges1.now n2 edges2.now map.now) result }
 {
-    if let Check::Refuse(k, p) = sizes(n1, n2, map) {
-        return Check::Refuse(k, p);
-    }
-    if let Check::Refuse(k, p) = entries(n1, atoms1, atoms2, map) {
-        return Check::Refuse(k, p);
-    }
+    sizes(n1, n2, map)?;
+    entries(n1, atoms1, atoms2, map)?;
     edges(edges1, edges2, map)
 }
 
 // The same of plain skeletons, whose vertices are all carbon.
-pub fn check(n1: usize, edges1: &[u8], n2: usize, edges2: &[u8], map: &[u8]) -> Check
+pub fn check(n1: usize, edges1: &[u8], n2: usize, edges2: &[u8], map: &[u8]) -> Result<(), Refusal>
     requires { IsSkeleton size width n1 edges1.now }
     ensures { Answers (map_rows n1 edges1.now n2 edges2.now map.now) result }
 {
@@ -186,18 +150,15 @@ fn place(first: &[u8; SIZE], second: &[u8; SIZE], n: usize, out: &mut [u8])
     requires { (n ≤ size) × (length first.now ≡ size) × (length second.now ≡ size) × (n ≤ length out.old) × Listed n first.now }
     ensures { Placed n first.now second.now out.old out.new n }
 {
-    let mut i = 0;
-    while i < n {
-        let v = wide(first[i]);
-        out[v - 1] = second[i];
-        i += 1;
+    for (i, v) in first[..n].iter().enumerate() {
+        out[wide(*v) - 1] = second[i];
     }
 }
 
 // What is answered to two skeletons of the same size, and how many pairs were looked at for their centred codes.
 #[derive(Clone, Copy)]
 pub struct Handed {
-    pub answer: Answer,
+    pub answer: Result<usize, Refusal>,
     pub pairs: usize,
 }
 
@@ -224,28 +185,22 @@ pub fn hand_out_marks(
     let one = form_coder::numbered_marks(n, edges1, atoms1, &mut first, &mut a);
     let other = form_coder::numbered_marks(n, edges2, atoms2, &mut second, &mut b);
     let looked = one + other;
-    match digit_code::compare(&a[..n], &b[..n]) {
-        Order::Less(_) => Handed {
-            answer: Answer::Done(0),
+    if a[..n] != b[..n] {
+        return Handed {
+            answer: Ok(0),
             pairs: looked,
-        },
-        Order::Equal(_) => {
-            if out.len() < n {
-                return Handed {
-                    answer: Answer::Refused(15, n),
-                    pairs: looked,
-                };
-            }
-            place(&first, &second, n, out);
-            Handed {
-                answer: Answer::Done(n),
-                pairs: looked,
-            }
-        }
-        Order::Greater(_) => Handed {
-            answer: Answer::Done(0),
+        };
+    }
+    if out.len() < n {
+        return Handed {
+            answer: Err(Refusal { row: 15, place: n }),
             pairs: looked,
-        },
+        };
+    }
+    place(&first, &second, n, out);
+    Handed {
+        answer: Ok(n),
+        pairs: looked,
     }
 }
 

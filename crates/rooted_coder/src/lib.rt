@@ -19,7 +19,7 @@ ghost use Rattle.numbering.specs.document.Order as orders;
 ghost use Rattle.rooted_coder.specs.Ordered.{marked, mark_of, cell, kids, ordered, Rows, Stand, Standing, Spot, met, Exchanged, Waits, Waiting, Settles, end_of, Arranges, Several, Hangs, Covers, Small, Fills, Placed};
 
 use digit_code::Order;
-use edge_list::wide;
+use edge_list::{Table, wide};
 use limits::{ATOMS, BYTES, SIZE, WIDTH};
 
 // A place in the buffer, and how many pairs were looked at to find it.
@@ -39,12 +39,11 @@ fn mark(marks: &[u8; BYTES], v: u8) -> u8
 fn compare(marks: &[u8; BYTES], a: &[u8], b: &[u8]) -> Order
     ensures { result ≡ lex (marked marks.now a.now) (marked marks.now b.now) }
 {
-    let mut i = 0;
-    while i < a.len() {
+    for (i, v) in a.iter().enumerate() {
         if b.len() <= i {
             return Order::Greater(i);
         }
-        let x = mark(marks, a[i]);
+        let x = mark(marks, *v);
         let y = mark(marks, b[i]);
         if x < y {
             return Order::Less(i + 1);
@@ -52,12 +51,11 @@ fn compare(marks: &[u8; BYTES], a: &[u8], b: &[u8]) -> Order
         if y < x {
             return Order::Greater(i + 1);
         }
-        i += 1;
     }
-    if i < b.len() {
-        return Order::Less(i);
+    if a.len() < b.len() {
+        return Order::Less(a.len());
     }
-    Order::Equal(i)
+    Order::Equal(a.len())
 }
 
 // Copies the part of `src` from `a` up to `e` into `dst`, at `at`.
@@ -81,7 +79,7 @@ fn turned(s: &mut [u8], held: &mut [u8], a: usize, m: usize, b: usize)
     transfer(held, 0, n, s, a + (b - m));
 }
 
-// The same, by way of a buffer of its own.
+// The same, by way of a buffer of its own. `rotate_left` has one of 4,096 bytes, which is half of the stack that a call may touch.
 fn exchange(s: &mut [u8], a: usize, m: usize, b: usize)
     requires { (a ≤ m) × (m ≤ b) × (b ≤ length s.old) × (b ≤ size) }
     ensures { Exchanged s.old a m b s.new }
@@ -121,10 +119,7 @@ fn seek(marks: &[u8; BYTES], s: &[u8], lens: &[u8], f: usize, m: usize, b: usize
             }
         }
     }
-    Sought {
-        at: at,
-        looked: looked,
-    }
+    Sought { at, looked }
 }
 
 // Where the part that begins at `at` ends.
@@ -190,11 +185,11 @@ fn vertex(out: &[u8; SIZE], at: usize) -> usize
 }
 
 // What stands in column j of the row of v.
-fn neighbour(rows: &[[u8; WIDTH]; SIZE], v: usize, j: usize) -> usize
+fn neighbour(table: &Table, v: usize, j: usize) -> usize
     requires { (1 ≤ v) × (v ≤ size) × (j < width) }
-    ensures { result ≡ cell rows.now v j }
+    ensures { result ≡ cell table.now.rows v j }
 {
-    wide(rows[v - 1][j])
+    wide(table.rows[v - 1][j])
 }
 
 // Writes w at `m`, a part of its own.
@@ -213,13 +208,7 @@ fn several(lens: &[u8; SIZE], at: usize) -> bool
     ensures { Several lens.now at result }
 {
     let n = wide(lens[at]);
-    if n <= 2 {
-        return false;
-    }
-    if n - 1 <= wide(lens[at + 1]) {
-        return false;
-    }
-    true
+    n > 2 && wide(lens[at + 1]) < n - 1
 }
 
 // Takes the part that begins where the one at `at` ends into it.
@@ -236,7 +225,7 @@ fn extend(lens: &mut [u8; SIZE], at: usize)
 // its order. Each child's part is asked for first, further behind in the buffer, so at each call fewer vertices are left; its own
 // children's parts are then put in order. Returns how many pairs were looked at.
 fn order(
-    rows: &[[u8; WIDTH]; SIZE],
+    table: &Table,
     marks: &[u8; BYTES],
     out: &mut [u8; SIZE],
     lens: &mut [u8; SIZE],
@@ -244,25 +233,23 @@ fn order(
     at: usize,
 ) -> usize
     requires out_len { (length out.old ≡ size) × (length lens.old ≡ size) × (get_or lens.old at 0 ≡ 1) }
-    requires rows { Rows rows.now (get_or out.old at 0) }
-    requires at_bound { at + length (ordered marks.now rows.now parent (get_or out.old at 0)) ≤ size }
-    ensures { Hangs marks.now rows.now out.old lens.old out.new lens.new
-        (get_or out.old at 0) at (kids rows.now parent (get_or out.old at 0)) result }
+    requires rows { Rows table.now.rows (get_or out.old at 0) }
+    requires at_bound { at + length (ordered marks.now table.now.rows parent (get_or out.old at 0)) ≤ size }
+    ensures { Hangs marks.now table.now.rows out.old lens.old out.new lens.new
+        (get_or out.old at 0) at (kids table.now.rows parent (get_or out.old at 0)) result }
 {
     let v = vertex(out, at);
     let mut looked = 0;
-    let mut j = 0;
-    while j < WIDTH {
-        let w = neighbour(rows, v, j);
+    for j in 0..WIDTH {
+        let w = neighbour(table, v, j);
         if w == 0 {
             return looked;
         }
-        j += 1;
         if w != parent {
             let m = end(lens, at);
             lay(out, lens, m, w);
-            if neighbour(rows, w, 1) != 0 {
-                looked += order(rows, marks, out, lens, v, m);
+            if neighbour(table, w, 1) != 0 {
+                looked += order(table, marks, out, lens, v, m);
                 let q = end(lens, at);
                 if several(lens, q) {
                     looked += arrange(marks, out, lens, q);
@@ -275,32 +262,18 @@ fn order(
 }
 
 // Writes what hangs at `root`, which has no parent, in its order from the start of the buffer. Returns how many pairs were looked at.
-fn cover(
-    rows: &[[u8; WIDTH]; SIZE],
-    marks: &[u8; BYTES],
-    root: usize,
-    out: &mut [u8; SIZE],
-) -> usize
-    requires rows { Rows rows.now root }
-    requires out_len { (length out.old ≡ size) × (length (ordered marks.now rows.now 0 root) ≤ size) }
-    ensures { Covers marks.now rows.now root out.new result }
+fn cover(table: &Table, marks: &[u8; BYTES], root: usize, out: &mut [u8; SIZE]) -> usize
+    requires rows { Rows table.now.rows root }
+    requires out_len { (length out.old ≡ size) × (length (ordered marks.now table.now.rows 0 root) ≤ size) }
+    ensures { Covers marks.now table.now.rows root out.new result }
 {
     let mut lens = [0u8; SIZE];
     lay(out, &mut lens, 0, root);
-    let looked = order(rows, marks, out, &mut lens, 0, 0);
+    let looked = order(table, marks, out, &mut lens, 0, 0);
     if several(&lens, 0) {
         return looked + arrange(marks, out, &mut lens, 0);
     }
     looked
-}
-
-fn less(k: u8) -> u8
-    ensures { result ≡ k - 1 }
-{
-    if k == 0 {
-        return 0;
-    }
-    k - 1
 }
 
 // The mark of a vertex with k children.
@@ -313,18 +286,15 @@ fn written(k: u8, atom: u8) -> u8
 
 // Writes the mark of each vertex at its number: three times its digit, and its atom. The digit is how many neighbours it has, and but for the
 // root all but one.
-fn fill(degs: &[u8; SIZE], atoms: &[u8; SIZE], n: usize, root: usize, marks: &mut [u8; BYTES])
-    requires { (1 ≤ root) × (root ≤ n) × (n ≤ size) × (size < length marks.old) × Small degs.now atoms.now n }
-    ensures { Fills degs.now atoms.now root n marks.new }
+fn fill(table: &Table, atoms: &[u8; SIZE], n: usize, root: usize, marks: &mut [u8; BYTES])
+    requires { (1 ≤ root) × (root ≤ n) × (n ≤ size) × (size < length marks.old) × Small table.now.degs atoms.now n }
+    ensures { Fills table.now.degs atoms.now root n marks.new }
 {
-    let mut v = 0;
-    while v < n {
-        let k = less(degs[v]);
-        let m = written(k, atoms[v]);
-        v += 1;
-        marks[v] = m;
+    for v in 0..n {
+        let k = table.degs[v].saturating_sub(1);
+        marks[v + 1] = written(k, atoms[v]);
     }
-    marks[root] = written(degs[root - 1], atoms[root - 1]);
+    marks[root] = written(table.degs[root - 1], atoms[root - 1]);
 }
 
 // Writes the mark of each of the first n of `s` from the start of `out`.
@@ -332,53 +302,49 @@ pub fn read(marks: &[u8; BYTES], s: &[u8], n: usize, out: &mut [u8])
     requires { (n ≤ length s.now) × (n ≤ length out.old) }
     ensures { out.new ≡ laid_over (marked marks.now (take n s.now)) out.old }
 {
-    let mut i = 0;
-    while i < n {
-        out[i] = mark(marks, s[i]);
-        i += 1;
+    for (i, v) in s[..n].iter().enumerate() {
+        out[i] = mark(marks, *v);
     }
 }
 
 // Fills in the marks, and writes the vertices in the order of the rooted code at `root` from the start of the buffer.
 fn vertices(
-    rows: &[[u8; WIDTH]; SIZE],
-    degs: &[u8; SIZE],
+    table: &Table,
     atoms: &[u8; SIZE],
     n: usize,
     root: usize,
     marks: &mut [u8; BYTES],
     buffer: &mut [u8; SIZE],
 ) -> usize
-    requires held { Held n rows.now degs.now × Ranked n atoms.now }
+    requires held { Held n table.now.rows table.now.degs × Ranked n atoms.now }
     requires le_root { (1 ≤ root) × (root ≤ n) × (size < length marks.old) × (length buffer.old ≡ size) }
     ensures buffer_len { length buffer.new ≡ size }
-    ensures by_index { (E : List ℕ) (label : ℕ → Atom) → tree.IsTree n E → IsTable n E rows.now degs.now → Named n label atoms.now
+    ensures by_index { (E : List ℕ) (label : ℕ → Atom) → tree.IsTree n E → IsTable n E table.now.rows table.now.degs → Named n label atoms.now
         → Placed names.atoms label n E root marks.new buffer.new result }
 {
-    fill(degs, atoms, n, root, marks);
-    cover(rows, marks, root, buffer)
+    fill(table, atoms, n, root, marks);
+    cover(table, marks, root, buffer)
 }
 
 // Writes the marks of the rooted code at `root` of the skeleton of n vertices whose table and atoms are given, and into `order` the vertex of
 // each. Returns how many pairs of marks were looked at, where every two siblings were compared once.
 pub fn rooted(
-    rows: &[[u8; WIDTH]; SIZE],
-    degs: &[u8; SIZE],
+    table: &Table,
     atoms: &[u8; SIZE],
     n: usize,
     root: usize,
     order: &mut [u8; SIZE],
     out: &mut [u8],
 ) -> usize
-    requires held { Held n rows.now degs.now × Ranked n atoms.now }
+    requires held { Held n table.now.rows table.now.degs × Ranked n atoms.now }
     requires le_root { (1 ≤ root) × (root ≤ n) × (length order.old ≡ size) × (n ≤ length out.old) }
     ensures order_len { length order.new ≡ size }
-    ensures by_index { (E : List ℕ) (label : ℕ → Atom) → tree.IsTree n E → IsTable n E rows.now degs.now → Named n label atoms.now
+    ensures by_index { (E : List ℕ) (label : ℕ → Atom) → tree.IsTree n E → IsTable n E table.now.rows table.now.degs → Named n label atoms.now
         → (take n order.new ≡ orders.orderₗ names.atoms label n E root) × (out.new ≡ laid_over (rootedₗ names.atoms label n E root) out.old)
         × (result ≡ numbers.pairsₗ names.atoms label n E root) }
 {
     let mut marks = [0u8; BYTES];
-    let looked = vertices(rows, degs, atoms, n, root, &mut marks, order);
+    let looked = vertices(table, atoms, n, root, &mut marks, order);
     read(&marks, order, n, out);
     looked
 }

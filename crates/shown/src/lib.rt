@@ -3,37 +3,19 @@
 
 pub mod report;
 
-use refusal::{Answer, Number, Reported};
+use refusal::{ListRefusal, Refusal, Reported};
 use std::io;
-use zurkhovel::reported::ReportedNumber;
 
 pub fn text(rt: &impl Print, s: &[u8]) -> io::Result<()> {
     rt.write_all(s)
 }
 
-pub fn number(rt: &impl Print, n: u64) -> io::Result<()> {
-    rt.print(n)
-}
-
-fn byte(rt: &impl Print, b: u8) -> io::Result<()> {
-    text(rt, b" ")?;
-    number(rt, b as u64)
-}
-
 // Bytes by their values.
 pub fn list(rt: &impl Print, s: &[u8]) -> io::Result<()> {
     for b in s {
-        byte(rt, *b)?;
+        print!(rt; " {b}")?;
     }
     Ok(())
-}
-
-// The first n bytes of an output.
-pub fn front(rt: &impl Print, out: &[u8], n: usize) -> io::Result<()> {
-    if out.len() < n {
-        return Ok(());
-    }
-    list(rt, &out[..n])
 }
 
 // A call by its name, with a list that it is handed.
@@ -45,19 +27,20 @@ pub fn given(rt: &impl Print, name: &[u8], s: &[u8]) -> io::Result<()> {
 // With N and a list.
 pub fn sized(rt: &impl Print, name: &[u8], n: usize, s: &[u8]) -> io::Result<()> {
     text(rt, name)?;
-    text(rt, b" ")?;
-    number(rt, n as u64)?;
-    text(rt, b",")?;
+    print!(rt; " {n},")?;
     list(rt, s)
+}
+
+// With N, a list and a vertex.
+pub fn rooted(rt: &impl Print, name: &[u8], n: usize, s: &[u8], v: usize) -> io::Result<()> {
+    sized(rt, name, n, s)?;
+    print!(rt; ", {v}")
 }
 
 // With N and a number.
 pub fn numbered(rt: &impl Print, name: &[u8], n: usize, value: u64) -> io::Result<()> {
     text(rt, name)?;
-    text(rt, b" ")?;
-    number(rt, n as u64)?;
-    text(rt, b", ")?;
-    number(rt, value)
+    print!(rt; " {n}, {value}")
 }
 
 // A call on named atoms, with digits and a letter for each.
@@ -82,86 +65,102 @@ pub fn lettered(
     text(rt, letters)
 }
 
-// A refusal: its number, and its place.
-pub fn refused(rt: &impl Print, k: u8, p: usize) -> io::Result<()> {
-    text(rt, b" = Refused(")?;
-    number(rt, k as u64)?;
-    text(rt, b", ")?;
-    number(rt, p as u64)?;
-    text(rt, b")\n")
+// What a call gives, where it may have written into `out`, or what it refuses.
+pub trait Shown {
+    fn show<R: Print>(&self, rt: &R, out: &[u8]) -> io::Result<()>;
 }
 
-// What is given: its length, and what was written.
-fn done(rt: &impl Print, n: usize, out: &[u8]) -> io::Result<()> {
-    text(rt, b" = Done(")?;
-    number(rt, n as u64)?;
-    text(rt, b")")?;
-    front(rt, out, n)
+// How many bytes were written, and which.
+impl Shown for usize {
+    fn show<R: Print>(&self, rt: &R, out: &[u8]) -> io::Result<()> {
+        print!(rt; " = Done({self})")?;
+        front(rt, out, *self)
+    }
+}
+
+// That a check passed.
+impl Shown for () {
+    fn show<R: Print>(&self, rt: &R, _: &[u8]) -> io::Result<()> {
+        text(rt, b" = Done(0)")
+    }
+}
+
+impl Shown for u64 {
+    fn show<R: Print>(&self, rt: &R, _: &[u8]) -> io::Result<()> {
+        print!(rt; " = Value({self})")
+    }
+}
+
+impl Shown for f64 {
+    fn show<R: Print>(&self, rt: &R, _: &[u8]) -> io::Result<()> {
+        print!(rt; " = Exact({self})")
+    }
+}
+
+// The verdict.
+impl Shown for bool {
+    fn show<R: Print>(&self, rt: &R, _: &[u8]) -> io::Result<()> {
+        text(rt, if *self { b" = Same" } else { b" = Different" })
+    }
+}
+
+// Without the number that is reported.
+impl<T: Shown> Shown for Reported<T> {
+    fn show<R: Print>(&self, rt: &R, out: &[u8]) -> io::Result<()> {
+        self.value.show(rt, out)
+    }
+}
+
+// The number, and the place.
+impl Shown for Refusal {
+    fn show<R: Print>(&self, rt: &R, _: &[u8]) -> io::Result<()> {
+        print!(rt; " = Refused({}, {})", self.row, self.place)
+    }
+}
+
+// Which list, or 3 for the map, or 0 for the edition; the number, and the place.
+impl Shown for ListRefusal {
+    fn show<R: Print>(&self, rt: &R, _: &[u8]) -> io::Result<()> {
+        print!(rt;
+            " = Refused({}, {}, {})",
+            self.list, self.refusal.row, self.refusal.place
+        )
+    }
 }
 
 // An answer, and what was written.
-pub fn answer(rt: &impl Print, a: Answer, out: &[u8]) -> io::Result<()> {
-    match a {
-        Answer::Done(n) => {
-            done(rt, n, out)?;
-            text(rt, b"\n")
-        }
-        Answer::Refused(k, p) => refused(rt, k, p),
+pub fn answer<T: Shown + Drop, E: Shown + Drop>(
+    rt: &impl Print,
+    answer: Result<T, E>,
+    out: &[u8],
+) -> io::Result<()> {
+    match answer {
+        Ok(given) => given.show(rt, out)?,
+        Err(refusal) => refusal.show(rt, out)?,
     }
+    text(rt, b"\n")
 }
 
-// The first n letters of an output.
-fn letters(rt: &impl Print, out: &[u8], n: usize) -> io::Result<()> {
-    if out.len() < n {
-        return Ok(());
-    }
-    text(rt, &out[..n])
+// The first n bytes of an output.
+pub fn front(rt: &impl Print, out: &[u8], n: usize) -> io::Result<()> {
+    list(rt, out.get(..n).unwrap_or(&[]))
 }
 
 // An answer, what was written, and the n letters that were written beside it.
-pub fn both(rt: &impl Print, a: Answer, out: &[u8], spelling: &[u8], n: usize) -> io::Result<()> {
-    match a {
-        Answer::Done(k) => {
-            done(rt, k, out)?;
-            text(rt, b", ")?;
-            letters(rt, spelling, n)?;
-            text(rt, b"\n")
-        }
-        Answer::Refused(k, p) => refused(rt, k, p),
-    }
-}
-
-pub fn value(rt: &impl Print, a: Number) -> io::Result<()> {
-    match a {
-        Number::Value(v) => {
-            text(rt, b" = Value(")?;
-            number(rt, v)?;
-            text(rt, b")\n")
-        }
-        Number::Refused(k, p) => refused(rt, k, p),
-    }
-}
-
-// The answer of a call that reports, without the number.
-pub fn reported(rt: &impl Print, r: Reported, out: &[u8]) -> io::Result<()> {
-    let a = r.answer;
-    answer(rt, a, out)
-}
-
-// The same with letters.
-pub fn both_reported(
+pub fn both<T: Shown + Drop>(
     rt: &impl Print,
-    r: Reported,
+    answer: Result<T, Refusal>,
     out: &[u8],
     spelling: &[u8],
     n: usize,
 ) -> io::Result<()> {
-    let a = r.answer;
-    both(rt, a, out, spelling, n)
-}
-
-// The same of a number.
-pub fn valued(rt: &impl Print, r: ReportedNumber) -> io::Result<()> {
-    let a = r.answer;
-    value(rt, a)
+    match answer {
+        Ok(given) => {
+            given.show(rt, out)?;
+            text(rt, b", ")?;
+            text(rt, spelling.get(..n).unwrap_or(&[]))?;
+        }
+        Err(refusal) => refusal.show(rt, out)?,
+    }
+    text(rt, b"\n")
 }

@@ -19,19 +19,8 @@ ghost use Rattle.orbits.specs.Half.{restₗ};
 ghost use Rattle.orbits.specs.Classes.{classesₗ};
 ghost use Rattle.vertices.specs.Search.{Above, Turns, Test, test?};
 
-use digit_code::{Order, compare, ends_of, write_edges};
+use digit_code::{ends_of, write_edges};
 use limits::{ATOMS, ENDS, SIZE};
-
-// Whether two codes are equal.
-fn equal(a: &[u8], b: &[u8]) -> bool
-    ensures { Tells (a.now ≡ b.now) result }
-{
-    match compare(a, b) {
-        Order::Less(_) => false,
-        Order::Equal(_) => true,
-        Order::Greater(_) => false,
-    }
-}
 
 // Whether the part of mark v, which ends before mark b, is what the code is without it: as long, the root's mark with one child fewer, and then mark
 // by mark. What stands before the part is held against the part's first marks, what stands behind it against its last.
@@ -42,17 +31,11 @@ fn halves(code: &[u8], v: usize, b: usize) -> bool
     ensures { Tells (subtreeₗ atoms code.now (suc v) ≡ restₗ atoms code.now (suc v)) result }
 {
     let n = code.len();
-    if b - v != n - (b - v) {
-        return false;
-    }
-    if code[v] != code[0] - ATOMS {
+    if b - v != n - (b - v) || code[v] != code[0] - ATOMS {
         return false;
     }
     let w = v + v;
-    if equal(&code[v + 1..w], &code[1..v]) {
-        return equal(&code[w..b], &code[b..n]);
-    }
-    false
+    code[v + 1..w] == code[1..v] && code[w..b] == code[b..n]
 }
 
 // Whether the root is like the vertex of mark v: a child of its own, and the skeleton can be turned over there.
@@ -62,10 +45,7 @@ fn turns(code: &[u8], ends: &[u8], edges: &[u8], v: usize) -> bool
     requires le_v { (1 ≤ v) × (v < length code.now) }
     ensures { Tells (Turns code.now (suc v)) result }
 {
-    if edges[v + v - 2] != 1 {
-        return false;
-    }
-    halves(code, v, ends[v] as usize)
+    edges[v + v - 2] == 1 && halves(code, v, ends[v] as usize)
 }
 
 // Whether the vertex of mark u, which is not the root, is like that of mark v behind it: their parents are of one class, and their subtree codes
@@ -84,10 +64,7 @@ fn alike(code: &[u8], ends: &[u8], edges: &[u8], known: &[u8], u: usize, v: usiz
     }
     let a = ends[u] as usize;
     let b = ends[v] as usize;
-    if a - u != b - v {
-        return false;
-    }
-    equal(&code[u..a], &code[v..b])
+    a - u == b - v && code[u..a] == code[v..b]
 }
 
 // The class of the first vertex before that of mark v which is like it; `new` where there is none.
@@ -104,12 +81,10 @@ fn class_of(code: &[u8], ends: &[u8], edges: &[u8], known: &[u8], v: usize, new:
     if turns(code, ends, edges, v) {
         return known[0];
     }
-    let mut u = 1;
-    while u < v {
+    for u in 1..v {
         if alike(code, ends, edges, known, u, v) {
             return known[u];
         }
-        u += 1;
     }
     new
 }
@@ -127,14 +102,10 @@ pub fn write_classes(ds: &[u8], code: &[u8], out: &mut [u8]) -> usize
     let mut edges = [0u8; ENDS];
     write_edges(ds, &mut edges);
     let mut top = 0;
-    let mut i = 0;
-    while i < code.len() {
+    for i in 0..code.len() {
         let k = class_of(code, &ends, &edges, out, i, top + 1);
         out[i] = k;
-        if top < k {
-            top = k;
-        }
-        i += 1;
+        top = top.max(k);
     }
-    i
+    code.len()
 }

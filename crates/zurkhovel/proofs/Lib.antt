@@ -5,7 +5,6 @@ pub mod Derived
 pub mod Carried
 pub mod Rooted
 pub mod Judged
-pub mod Counting
 pub mod Verdicts
 pub mod Handing
 pub mod Made

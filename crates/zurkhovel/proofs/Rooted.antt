@@ -1,7 +1,7 @@
 -- The rooted code at a vertex of an accepted edge list, as the bit forms take it.
 --
 -- In order: the code of an accepted list; what the writers require; a value; the packed form, laid out. Assumes nothing.
-use mathlib.Core.Path.{◌≡◌, sym, ap, ◌∙◌, subst}
+use mathlib.Core.Path.{◌≡◌, ap, ◌∙◌}
 use mathlib.Core.List.{List, [], ◌++◌}
 use Prim.Native.Nat.{ℕ, ◌≤◌}
 use native.Mathlib.Nat.{le_refl}
@@ -9,9 +9,7 @@ use native.Mathlib.Omega.{arith}
 use lib.ListN.{length, take, drop}
 use lib.Seq.{take_all}
 use Rattle.laws.specs.document.Laid.{laid_over, Laid}
-use Rattle.refusal.specs.document.Table.{Clear, Outcome, gives, refuses, Answered, kept, Writes, Gives}
-use Rattle.refusal.specs.document.Outcome.{told}
-use Rattle.refusal.specs.declared.Answer.{Answer}
+use Rattle.refusal.specs.document.Table.{Clear, Outcome, gives, Answered, kept, Writes, Gives}
 use Rattle.refusal.specs.Laws.{others, at_most}
 use Rattle.refusal.specs.Giving.{written}
 use Rattle.limits.specs.document.Limits.{size}
@@ -21,9 +19,8 @@ use Rattle.skeleton.specs.Theorems.{right, degrees}
 use Rattle.skeleton.specs.Accepted.{digits_pass}
 use Rattle.bits.specs.Written.{Coded, packed_again, right_coded}
 use Rattle.bits.specs.document.Written.{Packs}
-use Rattle.refusal.specs.document.Reported.{Reports, Reporting}
+use Rattle.refusal.specs.document.Reported.{Reporting}
 use Rattle.zurkhovel.specs.document.Reported.{ReportedAtRoot}
-use Rattle.refusal.specs.declared.Reported.{Reported}
 use Rattle.zurkhovel.specs.Rooting.{Rooted}
 use Rattle.zurkhovel.specs.Accepted.{skeleton_of, root_of, rooted-size}
 use Rattle.refusal.proofs.Behind.{behind}
@@ -74,24 +71,9 @@ pub copied : {c old new : List ℕ} → new ≡ take (length c) c ++ drop (lengt
 unfolding laid_over
 copied {c} {old} e n l = record { count = l; lies = e ∙ ap (λ (s : List ℕ). s ++ drop (length c) old) (take_all (length c) c (le_refl (length c))) }
 
-packed-given :
+pub packed-given :
     {e N r m n : ℕ} {E code blank packed old new : List ℕ} {o : Outcome ℕ} → Rooted e size N E r code n → Writes (Packs (take N code)) blank m packed
     → Gives [] (λ c. c ≡ take m packed) old new o → Gives (edge_table e size N E r) (Packs (rooted N E r)) old new o
 packed-given {N = N} {r} {m} {E = E} {packed = packed} t w g =
     let p : Packs (rooted N E r) (take m packed) = rw (written w) (rw t.digits at w.right) in
     behind t.clear (λ c e. rw e p) (λ c q. packed_again q p) g
-
--- and what is reported of it is what was counted for the code
-pub packed-reported :
-    {e N r m n : ℕ} {E code blank packed old new : List ℕ} {a : Answer} (s : Reported) → Rooted e size N E r code n → Writes (Packs (take N code)) blank m packed
-    → Gives [] (λ c. c ≡ take m packed) old new (told a) → (s.answer ≡ a) × Reports (λ k. k ≡ n) (told s.answer) s.pairs
-    → Reporting (Gives (edge_table e size N E r) (Packs (rooted N E r)) old new) (ReportedAtRoot N E r) (told s.answer) s.pairs
-packed-reported {e} {N} {r} {n = n} {E} {old = old} {new} s t w g (q, c) =
-    record {
-      promised = subst (λ b. Gives (edge_table e size N E r) (Packs (rooted N E r)) old new (told b)) (sym q) (packed-given t w g);
-      reported = counted (told s.answer) c;
-    }
-  where
-    counted : (o : Outcome ℕ) → Reports (λ k. k ≡ n) o s.pairs → Reports (ReportedAtRoot N E r) o s.pairs
-    counted (gives i) q = q ∙ t.count
-    counted (refuses k p) q = q

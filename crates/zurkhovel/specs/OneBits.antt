@@ -1,21 +1,17 @@
 -- Read from its promise alone, every public call on the bit-tuple has one possible result and one possible state of its lent output, as in
 -- `One`. Assumes nothing.
+use Rattle.std.specs.Prelude.{Result}
+use Rattle.refusal.specs.declared.Refusal.{Refusal}
 use Rattle.std.specs.Prelude.{◌≡◌, refl, Bool, List, ℕ, Float}
 use Rattle.std.proofs.Common.{sym, ap, ◌∙◌}
 use Rattle.refusal.specs.document.Table.{Row, Outcome, Answered}
-use Rattle.refusal.specs.document.Outcome.{told, numbered}
-use Rattle.refusal.specs.declared.Answer.{Answer}
-use Rattle.refusal.specs.declared.Number.{Number}
-use Rattle.refusal.specs.Apart.{numbered_apart}
-use Rattle.refusal.proofs.Apart.{told-both}
+use Rattle.refusal.specs.document.Outcome.{told}
+use Rattle.refusal.proofs.Apart.{told_apart, told-both}
 use Rattle.refusal.proofs.Laws.{one_result}
 use Rattle.refusal.proofs.Giving.{one-given}
 use Rattle.digit_code.specs.document.Code.{decode}
 use Rattle.bits.specs.Reading.{one_reading}
 use Rattle.bits.specs.Written.{packed_again, number_again}
-use Rattle.fraction.specs.declared.Fraction.{Fraction}
-use Rattle.fraction.specs.document.Outcome as fraction
-use Rattle.fraction.specs.Apart as apart
 use Rattle.fraction.specs.Back.{fraction_again}
 use Rattle.zurkhovel.specs.document.Bits.{Pack, Whole, InFraction, Decodes, Unpack, Unwhole, Unfraction}
 use Rattle.zurkhovel.specs.document.InEdition.{EdgeTable}
@@ -34,24 +30,24 @@ one-decoded E F d e = d.edges ∙ ap decode (one_reading d.reads e.reads) ∙ sy
 
 module _ (T : EdgeTable) where
   pub one-pack :
-      (N : ℕ) (E : List ℕ) (root : ℕ) (old new new' : List ℕ) (r s : Answer) → Pack T N E root old new (told r) → Pack T N E root old new' (told s)
+      (N : ℕ) (E : List ℕ) (root : ℕ) (old new new' : List ℕ) (r s : Result ℕ Refusal) → Pack T N E root old new (told r) → Pack T N E root old new' (told s)
       → (r ≡ s) × (new ≡ new')
   one-pack N E root old new new' r s a b = told-both r s (one-given (λ c d p q. packed_again p q) a b)
 
-  pub one-whole : (N : ℕ) (E : List ℕ) (root : ℕ) (r s : Number) → Whole T N E root (numbered r) → Whole T N E root (numbered s) → r ≡ s
-  one-whole N E root r s a b = numbered_apart r s (one_value (λ x y p q. number_again p q) a b)
+  pub one-whole : (N : ℕ) (E : List ℕ) (root : ℕ) (r s : Result ℕ Refusal) → Whole T N E root (told r) → Whole T N E root (told s) → r ≡ s
+  one-whole N E root r s a b = told_apart r s (one_value (λ x y p q. number_again p q) a b)
 
   pub one-fraction :
-      (N : ℕ) (E : List ℕ) (root : ℕ) (r s : Fraction) → InFraction T N E root (fraction.told_fraction r) → InFraction T N E root (fraction.told_fraction s) → r ≡ s
-  one-fraction N E root r s a b = apart.told_apart r s (one_value (λ x y p q. fraction_again p q) a b)
+      (N : ℕ) (E : List ℕ) (root : ℕ) (r s : Result Float Refusal) → InFraction T N E root (told r) → InFraction T N E root (told s) → r ≡ s
+  one-fraction N E root r s a b = told_apart r s (one_value (λ x y p q. fraction_again p q) a b)
 
 module _ (e : ℕ) where
-  pub one-unpack : (b old new new' : List ℕ) (r s : Answer) → Unpack e b old new (told r) → Unpack e b old new' (told s) → (r ≡ s) × (new ≡ new')
+  pub one-unpack : (b old new new' : List ℕ) (r s : Result ℕ Refusal) → Unpack e b old new (told r) → Unpack e b old new' (told s) → (r ≡ s) × (new ≡ new')
   one-unpack b old new new' r s g h = told-both r s (one-given one-decoded g h)
 
-  pub one-unwhole : (N x : ℕ) (old new new' : List ℕ) (r s : Answer) → Unwhole e N x old new (told r) → Unwhole e N x old new' (told s) → (r ≡ s) × (new ≡ new')
+  pub one-unwhole : (N x : ℕ) (old new new' : List ℕ) (r s : Result ℕ Refusal) → Unwhole e N x old new (told r) → Unwhole e N x old new' (told s) → (r ≡ s) × (new ≡ new')
   one-unwhole N x old new new' r s a b = told-both r s (one-given one-decoded a b)
 
   pub one-unfraction :
-      (x : Float) (old new new' : List ℕ) (r s : Answer) → Unfraction e x old new (told r) → Unfraction e x old new' (told s) → (r ≡ s) × (new ≡ new')
+      (x : Float) (old new new' : List ℕ) (r s : Result ℕ Refusal) → Unfraction e x old new (told r) → Unfraction e x old new' (told s) → (r ≡ s) × (new ≡ new')
   one-unfraction x old new new' r s a b = told-both r s (one-given one-decoded a b)

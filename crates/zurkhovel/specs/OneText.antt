@@ -1,10 +1,11 @@
 -- Read from its promise alone, every call on lines, and the call on equal vertices, has one possible result and one possible state of what it
 -- is lent, as in `One`. Assumes nothing.
+use Rattle.std.specs.Prelude.{Result}
+use Rattle.refusal.specs.declared.Refusal.{Refusal}
 use Rattle.std.specs.Prelude.{◌≡◌, List, [], ◌∷◌, ℕ}
 use Rattle.std.proofs.Common.{sym, ap₂, subst, ◌∙◌, arith}
 use Rattle.refusal.specs.document.Table.{Clear}
 use Rattle.refusal.specs.document.Outcome.{told}
-use Rattle.refusal.specs.declared.Answer.{Answer}
 use Rattle.refusal.proofs.Apart.{told-both}
 use Rattle.refusal.proofs.Giving.{one_clear}
 use Rattle.limits.specs.document.Limits.{size, valence}
@@ -48,13 +49,13 @@ module _ {T : EdgeTable} {R : ℕ} (t : Tabled T R) where
   one_derived {N} {E} {Of} one k l m (c, x, o) (d, y, p) = one c l m o (subst (λ (b : List ℕ). Of b m) (centred-form.one (t.skeleton N E 1 k).tree y x) p)
 
   pub one-write-line :
-      (N : ℕ) (E old new new' : List ℕ) (r s : Answer) → WriteLine T N E old new (told r) → WriteLine T N E old new' (told s) → (r ≡ s) × (new ≡ new')
+      (N : ℕ) (E old new new' : List ℕ) (r s : Result ℕ Refusal) → WriteLine T N E old new (told r) → WriteLine T N E old new' (told s) → (r ≡ s) × (new ≡ new')
   one-write-line N E old new new' r s a b = told-both r s (one_clear (one_derived (λ c l m e f. e ∙ sym f)) a b)
 
 -- ---- the calls that are told the edition, e
 
 module _ (e : ℕ) where
-  pub one-read-line : (t old new new' : List ℕ) (r s : Answer) → ReadLine e t old new (told r) → ReadLine e t old new' (told s) → (r ≡ s) × (new ≡ new')
+  pub one-read-line : (t old new new' : List ℕ) (r s : Result ℕ Refusal) → ReadLine e t old new (told r) → ReadLine e t old new' (told s) → (r ≡ s) × (new ≡ new')
   one-read-line t old new new' r s a b =
       let (o, q) = Texts.one_line (lines_of e) plain_once (digits_lent size) t (old ∷ []) (new ∷ []) (new' ∷ []) (told r) (told s) a b in
       told-both r s (o, same-only q)
@@ -68,5 +69,5 @@ module _ (e : ℕ) where
       (ap₂ (λ (i j : ℕ). record { lines = i; at = j }) k at, same-only q, f, g)
 
   pub one-equal-vertices :
-      (N : ℕ) (E old new new' : List ℕ) (r s : Answer) → EqualVertices e N E old new (told r) → EqualVertices e N E old new' (told s) → (r ≡ s) × (new ≡ new')
+      (N : ℕ) (E old new new' : List ℕ) (r s : Result ℕ Refusal) → EqualVertices e N E old new (told r) → EqualVertices e N E old new' (told s) → (r ≡ s) × (new ≡ new')
   one-equal-vertices N E old new new' r s a b = told-both r s (one_clear (one_derived (in-edition e) {Of = ClassesOf} one-classes) a b)

@@ -2,35 +2,30 @@
 ghost use Rattle.refusal.specs.document.Outcome.{told};
 ghost use Rattle.form_coder.specs.document.Pairs.{CentredPairs};
 ghost use Rattle.zurkhovel.specs.document.Alike.{EqualVertices};
-ghost use Rattle.refusal.specs.document.Reported.{Reporting};
+ghost use Rattle.refusal.specs.document.Reported.{answer, pairs, Reporting};
 
 use super::editions;
 use limits::SIZE;
-use refusal::{Answer, Check, Reported};
+use refusal::{Refusal, Reported};
 
 // The class of each vertex, in the centred code's numbering: one for two vertices that a renumbering of the skeleton onto itself carries to one
 // another.
-pub fn equal_vertices(edition: usize, n: usize, edges: &[u8], out: &mut [u8]) -> Reported
-    ensures { Reporting (EqualVertices edition n edges.now out.old out.new) (CentredPairs n edges.now) (told result.answer) result.pairs }
+pub fn equal_vertices(
+    edition: usize,
+    n: usize,
+    edges: &[u8],
+    out: &mut [u8],
+) -> Result<Reported<usize>, Refusal>
+    ensures { Reporting (EqualVertices edition n edges.now out.old out.new) (CentredPairs n edges.now) (told (answer result)) (pairs result) }
 {
-    if let Check::Refuse(k, p) = editions::edges(edition, SIZE, n, edges, 1) {
-        return Reported {
-            answer: Answer::Refused(k, p),
-            pairs: 0,
-        };
-    }
-    if out.len() < n {
-        return Reported {
-            answer: Answer::Refused(15, n),
-            pairs: 0,
-        };
-    }
+    editions::edges(edition, SIZE, n, edges, 1)?;
+    refusal::fits(n, out.len())?;
     let carbon = [0u8; SIZE];
     let mut ds = [0u8; SIZE];
     let mut marks = [0u8; SIZE];
-    let looked = form_coder::centred_marks(n, edges, &carbon, &mut ds, &mut marks);
-    Reported {
-        answer: Answer::Done(vertices::write_classes(&ds[..n], &marks[..n], out)),
-        pairs: looked,
-    }
+    let pairs = form_coder::centred_marks(n, edges, &carbon, &mut ds, &mut marks);
+    Ok(Reported {
+        value: vertices::write_classes(&ds[..n], &marks[..n], out),
+        pairs,
+    })
 }

@@ -1,20 +1,17 @@
 // The bit-tuple: packed bytes, a whole number, a fraction.
 ghost use Rattle.std.specs.Prelude.{◌≡◌, [], ◌≤◌, length};
 ghost use Rattle.refusal.specs.document.Table.{Gives};
-ghost use Rattle.refusal.specs.document.Outcome.{told, numbered};
+ghost use Rattle.refusal.specs.document.Outcome.{told};
 ghost use Rattle.limits.specs.document.Limits.{size};
-ghost use Rattle.fraction.specs.document.Outcome as fraction;
 ghost use Rattle.zurkhovel.specs.Rooting.{Rooting, Readable, EdgesOf};
-ghost use Rattle.refusal.specs.document.Reported.{Reporting};
+ghost use Rattle.refusal.specs.document.Reported.{answer, pairs, Reporting};
 ghost use Rattle.zurkhovel.specs.document.Reported.{ReportedAtRoot};
 ghost use Rattle.zurkhovel.specs.document.Bits.{Pack, Unpack, Whole, Unwhole, InFraction, Unfraction};
 ghost use Rattle.zurkhovel.specs.document.InEdition.{edge_table};
 
 use super::editions;
-use super::reported::{Looked, ReportedFraction, ReportedNumber};
-use fraction::Fraction;
 use limits::SIZE;
-use refusal::{Answer, Check, Number, Reported, report};
+use refusal::{Refusal, Reported};
 
 // The rooted code at a vertex of a skeleton of at most `most` vertices.
 fn rooted(
@@ -24,91 +21,80 @@ fn rooted(
     edges: &[u8],
     root: usize,
     code: &mut [u8],
-) -> Looked
+) -> Result<usize, Refusal>
     requires { (most ≤ size) × (length code.old ≡ size) }
     ensures { Rooting edition most n edges.now root code.new result }
 {
-    if let Check::Refuse(k, p) = editions::edges(edition, most, n, edges, root) {
-        return Looked::Refused(k, p);
-    }
-    Looked::Pairs(form_coder::rooted(n, edges, root, code))
+    editions::edges(edition, most, n, edges, root)?;
+    Ok(form_coder::rooted(n, edges, root, code))
 }
 
 // A result at the start of the lent output, with row 15.
-fn laid(res: &[u8], out: &mut [u8]) -> Answer
+fn laid(res: &[u8], out: &mut [u8]) -> Result<usize, Refusal>
     ensures { Gives [] (λ c. c ≡ res.now) out.old out.new (told result) }
 {
-    if out.len() < res.len() {
-        return Answer::Refused(15, res.len());
-    }
-    Answer::Done(copying::copy(res, out))
+    refusal::fits(res.len(), out.len())?;
+    Ok(copying::copy(res, out))
 }
 
 // The packed form of the rooted code at a vertex.
-pub fn pack(edition: usize, n: usize, edges: &[u8], root: usize, out: &mut [u8]) -> Reported
-    ensures { Reporting (Pack (edge_table edition) n edges.now root out.old out.new) (ReportedAtRoot n edges.now root) (told result.answer) result.pairs }
+pub fn pack(
+    edition: usize,
+    n: usize,
+    edges: &[u8],
+    root: usize,
+    out: &mut [u8],
+) -> Result<Reported<usize>, Refusal>
+    ensures { Reporting (Pack (edge_table edition) n edges.now root out.old out.new) (ReportedAtRoot n edges.now root) (told (answer result)) (pairs result) }
 {
     let mut code = [0u8; SIZE];
-    match rooted(edition, SIZE, n, edges, root, &mut code) {
-        Looked::Refused(k, p) => Reported {
-            answer: Answer::Refused(k, p),
-            pairs: 0,
-        },
-        Looked::Pairs(looked) => {
-            let mut packed = [0u8; limits::PACKED];
-            let m = bits::pack(&code[..n], &mut packed);
-            report(laid(&packed[..m], out), looked)
-        }
-    }
+    let pairs = rooted(edition, SIZE, n, edges, root, &mut code)?;
+    let mut packed = [0u8; limits::PACKED];
+    let m = bits::pack(&code[..n], &mut packed);
+    let value = laid(&packed[..m], out)?;
+    Ok(Reported { value, pairs })
 }
 
 // The whole number of the rooted code at a vertex.
-pub fn whole(edition: usize, n: usize, edges: &[u8], root: usize) -> ReportedNumber
-    ensures { Reporting (Whole (edge_table edition) n edges.now root) (ReportedAtRoot n edges.now root) (numbered result.answer) result.pairs }
+pub fn whole(edition: usize, n: usize, edges: &[u8], root: usize) -> Result<Reported<u64>, Refusal>
+    ensures { Reporting (Whole (edge_table edition) n edges.now root) (ReportedAtRoot n edges.now root) (told (answer result)) (pairs result) }
 {
     let mut code = [0u8; SIZE];
-    match rooted(edition, limits::WHOLE, n, edges, root, &mut code) {
-        Looked::Refused(k, p) => ReportedNumber {
-            answer: Number::Refused(k, p),
-            pairs: 0,
-        },
-        Looked::Pairs(looked) => ReportedNumber {
-            answer: Number::Value(bits::number_of(&code[..n])),
-            pairs: looked,
-        },
-    }
+    let pairs = rooted(edition, limits::WHOLE, n, edges, root, &mut code)?;
+    Ok(Reported {
+        value: bits::number_of(&code[..n]),
+        pairs,
+    })
 }
 
 // The fraction of the rooted code at a vertex.
-pub fn fraction(edition: usize, n: usize, edges: &[u8], root: usize) -> ReportedFraction
-    ensures { Reporting (InFraction (edge_table edition) n edges.now root) (ReportedAtRoot n edges.now root) (fraction.told_fraction result.answer) result.pairs }
+pub fn fraction(
+    edition: usize,
+    n: usize,
+    edges: &[u8],
+    root: usize,
+) -> Result<Reported<f64>, Refusal>
+    ensures { Reporting (InFraction (edge_table edition) n edges.now root) (ReportedAtRoot n edges.now root) (told (answer result)) (pairs result) }
 {
     let mut code = [0u8; SIZE];
-    match rooted(edition, limits::FRACTION, n, edges, root, &mut code) {
-        Looked::Refused(k, p) => ReportedFraction {
-            answer: Fraction::Refused(k, p),
-            pairs: 0,
-        },
-        Looked::Pairs(looked) => ReportedFraction {
-            answer: Fraction::Exact(fraction::fraction_of(&code[..n])),
-            pairs: looked,
-        },
-    }
+    let pairs = rooted(edition, limits::FRACTION, n, edges, root, &mut code)?;
+    Ok(Reported {
+        value: fraction::fraction_of(&code[..n]),
+        pairs,
+    })
 }
 
 // The edges of the code that a form was read to; a refusal stays.
-fn edges_of(read: Answer, digits: &[u8], out: &mut [u8]) -> Answer
+fn edges_of(read: Result<usize, Refusal>, digits: &[u8], out: &mut [u8]) -> Result<usize, Refusal>
     requires { Readable digits.now read }
     ensures { EdgesOf digits.now out.old out.new read result }
 {
-    match read {
-        Answer::Refused(k, p) => Answer::Refused(k, p),
-        Answer::Done(n) => super::codes::lay_edges(&digits[..n], out),
-    }
+    let n = read?;
+    super::codes::lay_edges(&digits[..n], out)
 }
 
 // The edges of the code in a packed code.
-pub fn unpack(edition: usize, bytes: &[u8], out: &mut [u8]) -> Answer
+pub fn unpack(edition: usize, bytes: &[u8], out: &mut [u8]) -> Result<usize, Refusal>
     ensures { Unpack edition bytes.now out.old out.new (told result) }
 {
     let mut digits = [0u8; SIZE];
@@ -117,7 +103,7 @@ pub fn unpack(edition: usize, bytes: &[u8], out: &mut [u8]) -> Answer
 }
 
 // The edges of the code in a whole number, with N beside it.
-pub fn unwhole(edition: usize, n: usize, value: u64, out: &mut [u8]) -> Answer
+pub fn unwhole(edition: usize, n: usize, value: u64, out: &mut [u8]) -> Result<usize, Refusal>
     ensures { Unwhole edition n value out.old out.new (told result) }
 {
     let mut digits = [0u8; SIZE];
@@ -126,7 +112,7 @@ pub fn unwhole(edition: usize, n: usize, value: u64, out: &mut [u8]) -> Answer
 }
 
 // The edges of the code in a fraction.
-pub fn unfraction(edition: usize, x: f64, out: &mut [u8]) -> Answer
+pub fn unfraction(edition: usize, x: f64, out: &mut [u8]) -> Result<usize, Refusal>
     ensures { Unfraction edition x out.old out.new (told result) }
 {
     let mut digits = [0u8; SIZE];

@@ -2,24 +2,18 @@
 ghost use Rattle.refusal.specs.document.Table.{Clear};
 ghost use Rattle.limits.specs.document.Limits.{size};
 ghost use Rattle.zurkhovel.specs.document.InEdition.{edge_table};
-ghost use Rattle.refusal.specs.document.Reported.{Reporting};
+ghost use Rattle.refusal.specs.document.Outcome.{told_of, unwritten};
+ghost use Rattle.refusal.specs.document.Reported.{answer, pairs, Reporting};
 ghost use Rattle.zurkhovel.specs.document.Reported.{OfBoth};
-ghost use Rattle.zurkhovel.specs.document.Maps.{HandOut, CheckRenumbering, mapped};
+ghost use Rattle.zurkhovel.specs.document.Maps.{HandOut, CheckRenumbering};
 
 use super::editions;
-use super::reported::ReportedMapping;
-use refusal::{Answer, Check, Lists};
+use refusal::{ListRefusal, Reported};
 
-// Of two edge lists and a map.
-#[derive(Clone, Copy)]
-pub enum Mapping {
-    // Done: so many bytes are written at the start of the lent output (0 where none is lent, or where there is no map to write).
-    Done(usize),
-    // Refused: list 1 or 2, or 3 for the map, or 0 for 22, which belongs to none of them; the number of the table; the place.
-    Refused(u8, u8, usize),
-}
+// The list that a refusal of the map is told with.
+pub const MAP: u8 = 3;
 
-// The renumbering of two accepted edge lists. Lists of different sizes are not coded.
+// The renumbering of two accepted edge lists: how many bytes are written, 0 where they are not the same. Lists of different sizes are not coded.
 fn hand_out(
     edition: usize,
     n1: usize,
@@ -27,29 +21,21 @@ fn hand_out(
     n2: usize,
     edges2: &[u8],
     out: &mut [u8],
-) -> ReportedMapping
+) -> Result<Reported<usize>, ListRefusal>
     requires clear { Clear (edge_table edition size n1 edges1.now 1) }
     requires clear_2 { Clear (edge_table edition size n2 edges2.now 1) }
-    ensures { Reporting (HandOut edition n1 edges1.now n2 edges2.now out.old out.new) (OfBoth n1 edges1.now n2 edges2.now) (mapped result.answer) result.pairs }
+    ensures { Reporting (HandOut edition n1 edges1.now n2 edges2.now out.old out.new) (OfBoth n1 edges1.now n2 edges2.now) (told_of (answer result)) (pairs result) }
 {
     if n1 != n2 {
-        return ReportedMapping {
-            answer: Mapping::Done(0),
-            pairs: 0,
-        };
+        return Ok(Reported { value: 0, pairs: 0 });
     }
     let handed = renumber::hand_out(n1, edges1, edges2, out);
-    let looked = handed.pairs;
-    let found = handed.answer;
-    match found {
-        Answer::Done(k) => ReportedMapping {
-            answer: Mapping::Done(k),
-            pairs: looked,
-        },
-        Answer::Refused(k, p) => ReportedMapping {
-            answer: Mapping::Refused(3, k, p),
-            pairs: 0,
-        },
+    match handed.answer {
+        Ok(value) => Ok(Reported {
+            value,
+            pairs: handed.pairs,
+        }),
+        Err(refusal) => Err(ListRefusal { list: MAP, refusal }),
     }
 }
 
@@ -61,27 +47,29 @@ pub fn renumbering(
     n2: usize,
     edges2: &[u8],
     out: &mut [u8],
-) -> ReportedMapping
-    ensures { Reporting (HandOut edition n1 edges1.now n2 edges2.now out.old out.new) (OfBoth n1 edges1.now n2 edges2.now) (mapped result.answer) result.pairs }
+) -> Result<Reported<usize>, ListRefusal>
+    ensures { Reporting (HandOut edition n1 edges1.now n2 edges2.now out.old out.new) (OfBoth n1 edges1.now n2 edges2.now) (told_of (answer result)) (pairs result) }
 {
-    if let Lists::Refused(i, k, p) = editions::both(edition, n1, edges1, n2, edges2) {
-        return ReportedMapping {
-            answer: Mapping::Refused(i, k, p),
-            pairs: 0,
-        };
-    }
+    editions::both(edition, n1, edges1, n2, edges2)?;
     hand_out(edition, n1, edges1, n2, edges2, out)
 }
 
 // Whether a map is a renumbering of one accepted edge list onto another.
-fn judge(edition: usize, n1: usize, edges1: &[u8], n2: usize, edges2: &[u8], map: &[u8]) -> Mapping
+fn judge(
+    edition: usize,
+    n1: usize,
+    edges1: &[u8],
+    n2: usize,
+    edges2: &[u8],
+    map: &[u8],
+) -> Result<(), ListRefusal>
     requires clear { Clear (edge_table edition size n1 edges1.now 1) }
     requires clear_2 { Clear (edge_table edition size n2 edges2.now 1) }
-    ensures { CheckRenumbering edition n1 edges1.now n2 edges2.now map.now (mapped result) }
+    ensures { CheckRenumbering edition n1 edges1.now n2 edges2.now map.now (told_of (unwritten result)) }
 {
     match renumber::check(n1, edges1, n2, edges2, map) {
-        Check::Passed => Mapping::Done(0),
-        Check::Refuse(k, p) => Mapping::Refused(3, k, p),
+        Ok(()) => Ok(()),
+        Err(refusal) => Err(ListRefusal { list: MAP, refusal }),
     }
 }
 
@@ -93,11 +81,9 @@ pub fn check_renumbering(
     n2: usize,
     edges2: &[u8],
     map: &[u8],
-) -> Mapping
-    ensures { CheckRenumbering edition n1 edges1.now n2 edges2.now map.now (mapped result) }
+) -> Result<(), ListRefusal>
+    ensures { CheckRenumbering edition n1 edges1.now n2 edges2.now map.now (told_of (unwritten result)) }
 {
-    if let Lists::Refused(i, k, p) = editions::both(edition, n1, edges1, n2, edges2) {
-        return Mapping::Refused(i, k, p);
-    }
+    editions::both(edition, n1, edges1, n2, edges2)?; // The map's own refusals come behind these.
     judge(edition, n1, edges1, n2, edges2, map)
 }

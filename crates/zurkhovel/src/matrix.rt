@@ -1,96 +1,79 @@
 // CAM, 0A and A0.
 ghost use Rattle.std.specs.Prelude.{◌≡◌, ◌-◌, ◌*◌, ◌≤◌, ◌<◌, length};
 ghost use Rattle.refusal.specs.Checks.{Answers};
-ghost use Rattle.refusal.specs.document.Outcome.{told, numbered};
+ghost use Rattle.refusal.specs.document.Outcome.{told};
 ghost use Rattle.limits.specs.document.Limits.{size, zero_size};
 ghost use Rattle.limits.specs.Width.{width};
 ghost use Rattle.skeleton.specs.document.Skeleton.{IsSkeleton};
 ghost use Rattle.adjacency.specs.document.Adjacency as adjacency;
 ghost use Rattle.form_coder.specs.document.Pairs.{CentredPairs};
-ghost use Rattle.refusal.specs.document.Reported.{Reporting};
+ghost use Rattle.refusal.specs.document.Reported.{answer, pairs, Reporting};
 ghost use Rattle.zurkhovel.specs.Rooting.{LaysCam, ListingByCode};
 ghost use Rattle.zurkhovel.specs.document.InEdition.{edge_table, physical_table};
 ghost use Rattle.zurkhovel.specs.document.Matrix.{DecodeCam, DecodeZeroA, DecodeAZero, Cam, ZeroA, AZero, CamByCode, ZeroAByCode, AZeroByCode};
 
 use super::editions;
-use super::reported::{Looked, ReportedNumber};
 use limits::SIZE;
-use refusal::{Answer, Check, Number, Reported};
+use refusal::{Refusal, Reported};
 
 // The edges of a CAM that is accepted, with row 15.
-fn lay_cam(cam: &[u8], out: &mut [u8]) -> Answer
+fn lay_cam(cam: &[u8], out: &mut [u8]) -> Result<usize, Refusal>
     requires { length cam.now < size }
     ensures { LaysCam cam.now out.old out.new (told result) }
 {
     let need = 2 * cam.len();
-    if out.len() < need {
-        return Answer::Refused(15, need);
-    }
+    refusal::fits(need, out.len())?;
     adjacency::cam_edges(cam, out);
-    Answer::Done(need)
+    Ok(need)
 }
 
 // The edges (lower, higher) of a CAM, in order of the higher.
-pub fn decode_cam(edition: usize, n: usize, cam: &[u8], out: &mut [u8]) -> Answer
+pub fn decode_cam(edition: usize, n: usize, cam: &[u8], out: &mut [u8]) -> Result<usize, Refusal>
     ensures { DecodeCam edition n cam.now out.old out.new (told result) }
 {
-    if let Check::Refuse(k, p) = editions::cam(edition, n, cam) {
-        return Answer::Refused(k, p);
-    }
+    editions::cam(edition, n, cam)?;
     lay_cam(cam, out)
 }
 
 // The edges of a 0A.
-pub fn decode_zero_a(edition: usize, n: usize, value: u64, out: &mut [u8]) -> Answer
+pub fn decode_zero_a(edition: usize, n: usize, value: u64, out: &mut [u8]) -> Result<usize, Refusal>
     ensures { DecodeZeroA edition n value out.old out.new (told result) }
 {
-    if let Check::Refuse(k, p) = editions::zero_a(edition, n, value) {
-        return Answer::Refused(k, p);
-    }
+    editions::zero_a(edition, n, value)?;
     let mut cam = [0u8; adjacency::ENTRIES];
     adjacency::zero_cam(n, value, &mut cam);
     lay_cam(&cam[..n - 1], out)
 }
 
 // The edges of an A0, in order of the higher, then of the lower.
-pub fn decode_a_zero(edition: usize, n: usize, value: u64, out: &mut [u8]) -> Answer
+pub fn decode_a_zero(edition: usize, n: usize, value: u64, out: &mut [u8]) -> Result<usize, Refusal>
     ensures { DecodeAZero edition n value out.old out.new (told result) }
 {
-    if let Check::Refuse(k, p) = editions::a_zero(edition, n, value) {
-        return Answer::Refused(k, p);
-    }
+    editions::a_zero(edition, n, value)?;
     let need = 2 * (n - 1);
-    if out.len() < need {
-        return Answer::Refused(15, need);
-    }
+    refusal::fits(need, out.len())?;
     adjacency::a_edges(n, value, out);
-    Answer::Done(need)
+    Ok(need)
 }
 
 // Every refusal of an edge list whose numbering is to be physical, with the form's limit of N.
-fn check(edition: usize, most: usize, n: usize, edges: &[u8]) -> Check
+fn check(edition: usize, most: usize, n: usize, edges: &[u8]) -> Result<(), Refusal>
     requires { most ≤ size }
     ensures { Answers (physical_table (edge_table edition) most n edges.now) result }
 {
-    if let Check::Refuse(k, p) = editions::edges(edition, most, n, edges, 1) {
-        return Check::Refuse(k, p);
-    }
+    editions::edges(edition, most, n, edges, 1)?;
     adjacency::physical(n, edges)
 }
 
 // The CAM, in the caller's numbering.
-pub fn cam(edition: usize, n: usize, edges: &[u8], out: &mut [u8]) -> Answer
+pub fn cam(edition: usize, n: usize, edges: &[u8], out: &mut [u8]) -> Result<usize, Refusal>
     ensures { Cam (edge_table edition) n edges.now out.old out.new (told result) }
 {
-    if let Check::Refuse(k, p) = check(edition, SIZE, n, edges) {
-        return Answer::Refused(k, p);
-    }
+    check(edition, SIZE, n, edges)?;
     let need = n - 1;
-    if out.len() < need {
-        return Answer::Refused(15, need);
-    }
+    refusal::fits(need, out.len())?;
     adjacency::write_cam(n, edges, out);
-    Answer::Done(need)
+    Ok(need)
 }
 
 // The 0A of a skeleton in a physical numbering.
@@ -104,96 +87,76 @@ fn zero_of(n: usize, edges: &[u8]) -> u64
 }
 
 // The 0A, in the caller's numbering.
-pub fn zero_a(edition: usize, n: usize, edges: &[u8]) -> Number
-    ensures { ZeroA (edge_table edition) n edges.now (numbered result) }
+pub fn zero_a(edition: usize, n: usize, edges: &[u8]) -> Result<u64, Refusal>
+    ensures { ZeroA (edge_table edition) n edges.now (told result) }
 {
-    if let Check::Refuse(k, p) = check(edition, limits::ZERO_A, n, edges) {
-        return Number::Refused(k, p);
-    }
-    Number::Value(zero_of(n, edges))
+    check(edition, limits::ZERO_A, n, edges)?;
+    Ok(zero_of(n, edges))
 }
 
 // The A0, in the caller's numbering.
-pub fn a_zero(edition: usize, n: usize, edges: &[u8]) -> Number
-    ensures { AZero (edge_table edition) n edges.now (numbered result) }
+pub fn a_zero(edition: usize, n: usize, edges: &[u8]) -> Result<u64, Refusal>
+    ensures { AZero (edge_table edition) n edges.now (told result) }
 {
-    if let Check::Refuse(k, p) = editions::edges(edition, limits::A_ZERO, n, edges, 1) {
-        return Number::Refused(k, p);
-    }
-    Number::Value(adjacency::a_zero(n, edges))
+    editions::edges(edition, limits::A_ZERO, n, edges, 1)?;
+    Ok(adjacency::a_zero(n, edges))
 }
 
 // The edges in the numbering by code of a skeleton of at most `most` vertices.
-fn by_code(edition: usize, most: usize, n: usize, edges: &[u8], ends: &mut [u8]) -> Looked
+fn by_code(
+    edition: usize,
+    most: usize,
+    n: usize,
+    edges: &[u8],
+    ends: &mut [u8],
+) -> Result<usize, Refusal>
     requires { (most ≤ size) × (length ends.old ≡ 2 * (size - 1)) }
     ensures { ListingByCode edition most n edges.now ends.new result }
 {
-    if let Check::Refuse(k, p) = editions::edges(edition, most, n, edges, 1) {
-        return Looked::Refused(k, p);
-    }
-    Looked::Pairs(form_coder::by_code(n, edges, ends))
+    editions::edges(edition, most, n, edges, 1)?;
+    Ok(form_coder::by_code(n, edges, ends))
 }
 
 // The CAM by code.
-pub fn cam_by_code(edition: usize, n: usize, edges: &[u8], out: &mut [u8]) -> Reported
-    ensures { Reporting (CamByCode (edge_table edition) n edges.now out.old out.new) (CentredPairs n edges.now) (told result.answer) result.pairs }
+pub fn cam_by_code(
+    edition: usize,
+    n: usize,
+    edges: &[u8],
+    out: &mut [u8],
+) -> Result<Reported<usize>, Refusal>
+    ensures { Reporting (CamByCode (edge_table edition) n edges.now out.old out.new) (CentredPairs n edges.now) (told (answer result)) (pairs result) }
 {
     let mut ends = [0u8; limits::ENDS];
     let m = edges.len();
-    match by_code(edition, SIZE, n, edges, &mut ends) {
-        Looked::Refused(k, p) => Reported {
-            answer: Answer::Refused(k, p),
-            pairs: 0,
-        },
-        Looked::Pairs(looked) => {
-            let need = n - 1;
-            if out.len() < need {
-                return Reported {
-                    answer: Answer::Refused(15, need),
-                    pairs: 0,
-                };
-            }
-            adjacency::write_cam(n, &ends[..m], out);
-            Reported {
-                answer: Answer::Done(need),
-                pairs: looked,
-            }
-        }
-    }
+    let pairs = by_code(edition, SIZE, n, edges, &mut ends)?;
+    let need = n - 1;
+    refusal::fits(need, out.len())?;
+    adjacency::write_cam(n, &ends[..m], out);
+    Ok(Reported { value: need, pairs })
 }
 
 // The 0A by code.
-pub fn zero_a_by_code(edition: usize, n: usize, edges: &[u8]) -> ReportedNumber
-    ensures { Reporting (ZeroAByCode (edge_table edition) n edges.now) (CentredPairs n edges.now) (numbered result.answer) result.pairs }
+pub fn zero_a_by_code(edition: usize, n: usize, edges: &[u8]) -> Result<Reported<u64>, Refusal>
+    ensures { Reporting (ZeroAByCode (edge_table edition) n edges.now) (CentredPairs n edges.now) (told (answer result)) (pairs result) }
 {
     let mut ends = [0u8; limits::ENDS];
     let m = edges.len();
-    match by_code(edition, limits::ZERO_A, n, edges, &mut ends) {
-        Looked::Refused(k, p) => ReportedNumber {
-            answer: Number::Refused(k, p),
-            pairs: 0,
-        },
-        Looked::Pairs(looked) => ReportedNumber {
-            answer: Number::Value(zero_of(n, &ends[..m])),
-            pairs: looked,
-        },
-    }
+    let pairs = by_code(edition, limits::ZERO_A, n, edges, &mut ends)?;
+    Ok(Reported {
+        value: zero_of(n, &ends[..m]),
+        pairs,
+    })
 }
 
 // The A0 by code.
-pub fn a_zero_by_code(edition: usize, n: usize, edges: &[u8]) -> ReportedNumber
-    ensures { Reporting (AZeroByCode (edge_table edition) n edges.now) (CentredPairs n edges.now) (numbered result.answer) result.pairs }
+pub fn a_zero_by_code(edition: usize, n: usize, edges: &[u8]) -> Result<Reported<u64>, Refusal>
+    ensures { Reporting (AZeroByCode (edge_table edition) n edges.now) (CentredPairs n edges.now) (told (answer result)) (pairs result) }
 {
     let mut ends = [0u8; limits::ENDS];
     let m = edges.len();
-    match by_code(edition, limits::A_ZERO, n, edges, &mut ends) {
-        Looked::Refused(k, p) => ReportedNumber {
-            answer: Number::Refused(k, p),
-            pairs: 0,
-        },
-        Looked::Pairs(looked) => ReportedNumber {
-            answer: Number::Value(adjacency::a_zero(n, &ends[..m])),
-            pairs: looked,
-        },
-    }
+    let pairs = by_code(edition, limits::A_ZERO, n, edges, &mut ends)?;
+    Ok(Reported {
+        value: adjacency::a_zero(n, &ends[..m]),
+        pairs,
+    })
 }

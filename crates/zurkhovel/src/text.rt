@@ -1,7 +1,7 @@
 // Lines: one, and a text of them.
 ghost use Rattle.refusal.specs.document.Outcome.{told};
 ghost use Rattle.form_coder.specs.document.Pairs.{CentredPairs};
-ghost use Rattle.refusal.specs.document.Reported.{Reporting};
+ghost use Rattle.refusal.specs.document.Reported.{answer, pairs, Reporting};
 ghost use Rattle.zurkhovel.specs.document.Lines.{ReadLine, WriteLine, ReadText, ListText};
 ghost use Rattle.zurkhovel.specs.document.InEdition.{edge_table};
 ghost use Rattle.texts.specs.document.Demand.{Counted};
@@ -9,38 +9,33 @@ ghost use Rattle.texts.specs.document.Demand.{Counted};
 use super::editions;
 use limits::{SIZE, VALENCE};
 use lines::Progress;
-use refusal::{Answer, Check, Reported};
+use refusal::{Refusal, Reported};
 
 // The digits of a text's first line, as values.
-pub fn read_line(edition: usize, text: &[u8], out: &mut [u8]) -> Answer
+pub fn read_line(edition: usize, text: &[u8], out: &mut [u8]) -> Result<usize, Refusal>
     ensures { ReadLine edition text.now out.old out.new (told result) }
 {
     lines::read_line_of(edition, text, out)
 }
 
 // The line of a skeleton's centred code.
-pub fn write_line(edition: usize, n: usize, edges: &[u8], out: &mut [u8]) -> Reported
-    ensures { Reporting (WriteLine (edge_table edition) n edges.now out.old out.new) (CentredPairs n edges.now) (told result.answer) result.pairs }
+pub fn write_line(
+    edition: usize,
+    n: usize,
+    edges: &[u8],
+    out: &mut [u8],
+) -> Result<Reported<usize>, Refusal>
+    ensures { Reporting (WriteLine (edge_table edition) n edges.now out.old out.new) (CentredPairs n edges.now) (told (answer result)) (pairs result) }
 {
-    if let Check::Refuse(k, p) = editions::edges(edition, SIZE, n, edges, 1) {
-        return Reported {
-            answer: Answer::Refused(k, p),
-            pairs: 0,
-        };
-    }
+    editions::edges(edition, SIZE, n, edges, 1)?;
     let need = lines::extent(n);
-    if out.len() < need {
-        return Reported {
-            answer: Answer::Refused(15, need),
-            pairs: 0,
-        };
-    }
+    refusal::fits(need, out.len())?;
     let mut digits = [0u8; SIZE];
-    let looked = form_coder::centred(n, edges, &mut digits);
-    Reported {
-        answer: Answer::Done(lines::write(&digits[..n], out)),
-        pairs: looked,
-    }
+    let pairs = form_coder::centred(n, edges, &mut digits);
+    Ok(Reported {
+        value: lines::write(&digits[..n], out),
+        pairs,
+    })
 }
 
 // A text, line after line: for each line 64 bytes of `records`, one number and one place. It stops where the text ends, or where one of the
@@ -69,21 +64,17 @@ pub struct Counts {
 pub fn count(numbers: &[u8]) -> Counts
     ensures { Counted numbers.now result.read result.refused }
 {
-    let mut t = Counts {
-        read: 0,
-        refused: 0,
-    };
-    let mut i = 0;
-    while i < numbers.len() {
-        let k = numbers[i];
-        i += 1;
-        if k == 0 {
-            t.read += 1;
-        } else {
-            t.refused += 1;
+    let mut read = 0;
+    // `filter` and `count` take more than twice as many instructions.
+    for k in numbers {
+        if *k == 0 {
+            read += 1;
         }
     }
-    t
+    Counts {
+        read,
+        refused: numbers.len() - read,
+    }
 }
 
 // The listing of a text, in edition 1: the bytes from number `from` on, counted from 0, as many as there is room for; how many that is. Where they are fewer

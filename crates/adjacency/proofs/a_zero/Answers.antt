@@ -7,23 +7,11 @@ use Rattle.adjacency.proofs.a_zero.Goals as goal
 pub loop-i-init : goal.loop-i-init
 loop-i-init c = rated_none _ _
 
-pub overflow_shl-x : goal.overflow_shl-x
-overflow_shl-x c = omega (arith, c.requires.few)
-
-pub overflow_add-i : goal.overflow_add-i
-overflow_add-i c = omega (arith, c.requires.few)
-
 pub bin-requires : goal.bin-requires
 bin-requires c = (numbered c.requires, omega (arith, c.requires.few), omega (arith, c.requires.few, c.requires.tree.edges))
 
 pub overflow_add-x : goal.overflow_add-x
 overflow_add-x c = omega (arith, (rated_next c.requires c.loop-i.invariant (omega arith) c.bin.ensures).1)
-
-pub overflow_add-i-in-loop-i : goal.overflow_add-i-in-loop-i
-overflow_add-i-in-loop-i c = omega arith
-
-pub loop-i-smaller : goal.loop-i-smaller
-loop-i-smaller c = omega arith
 
 pub loop-i-preserved : goal.loop-i-preserved
 loop-i-preserved c = (rated_next c.requires c.loop-i.invariant (omega arith) c.bin.ensures).0

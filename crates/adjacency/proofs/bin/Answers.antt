@@ -1,42 +1,36 @@
 -- `adjacency::bin` meets its contract. The loop's invariant: b is what the edges before p give. Assumes nothing.
-use Prim.Native.Nat.{◌-◌, ◌≤◌, ◌<◌}
+use Prim.Native.Nat.{◌+◌, ◌-◌, ◌≤◌, ◌<◌}
 use Rattle.limits.specs.document.Limits.{a_size}
-use Rattle.adjacency.proofs.Summing.{summed_none, summed_miss, summed_hit, summed_all, shift_one, power_small}
+use Rattle.adjacency.proofs.Summing.{Summed, summed_none, summed_miss, summed_hit, summed_all, shift_one, power_small}
 use native.Mathlib.Omega.{arith}
 use Rattle.adjacency.proofs.bin.Goals as goal
+use Rattle.adjacency.proofs.bin.Goals.{Joined-lower_at, in-Some, in_default}
+
+-- one edge more
+step : (c : Joined-lower_at) → Summed c.args.edges.now c.args.v (c.loop-p.p + 1) c.match-lower_at.b
+step c =
+    elim c.match-lower_at.branch [
+      | in-Some w ↦
+          let d = w.in-Some.ensures in
+          let k : w.in-Some.u - 1 < 64 = omega (arith, d.2, c.requires) in
+          rw (w.b-is, shift_one k) (summed_hit c.loop-p.invariant (omega arith, omega arith) d c.requires.1)
+      | in_default w ↦ rw w.b-is (summed_miss c.loop-p.invariant (omega arith, omega arith) w.in_default.ensures)
+    ]
 
 pub loop-p-init : goal.loop-p-init
 loop-p-init c = summed_none _ _
 
-pub lower_at-u-requires : goal.lower_at-u-requires
-lower_at-u-requires c = (c.requires.0, (omega arith, omega arith))
-
-pub overflow_add-p : goal.overflow_add-p
-overflow_add-p c = omega arith
-
-pub overflow_sub-b : goal.overflow_sub-b
-overflow_sub-b c = omega arith
-
-pub overflow_shl-b : goal.overflow_shl-b
-overflow_shl-b c = omega (arith, c.lower_at-u.ensures.small)
-
 pub overflow_add-b : goal.overflow_add-b
-overflow_add-b c = let k : c.lower_at-u.result - 1 < 64 = omega (arith, c.lower_at-u.ensures.small) in
-    let u : c.lower_at-u.result ≤ a_size = omega (arith, c.lower_at-u.ensures.small) in
+overflow_add-b c = let d = c.in-Some.ensures in
+    let k : c.in-Some.u - 1 < 64 = omega (arith, d.2, c.requires) in
+    let u : c.in-Some.u ≤ a_size = omega (arith, d.2, c.requires) in
     omega (arith, c.loop-p.invariant.small, shift_one k, power_small u)
 
-pub loop-p-smaller-then-u-ne0 : goal.loop-p-smaller-then-u-ne0
-loop-p-smaller-then-u-ne0 c = omega arith
-
-pub loop-p-preserved-then-u-ne0 : goal.loop-p-preserved-then-u-ne0
-loop-p-preserved-then-u-ne0 c = let k : c.lower_at-u.result - 1 < 64 = omega (arith, c.lower_at-u.ensures.small) in
-    rw (shift_one k) (summed_hit c.loop-p.invariant (omega arith, omega arith) c.lower_at-u.ensures (omega arith) (omega arith))
-
-pub loop-p-smaller : goal.loop-p-smaller
-loop-p-smaller c = omega arith
-
 pub loop-p-preserved : goal.loop-p-preserved
-loop-p-preserved c = summed_miss c.loop-p.invariant (omega arith, omega arith) c.lower_at-u.ensures (omega arith)
+loop-p-preserved c = step (goal.at.loop-p-preserved c).Joined-lower_at
 
 pub returns : goal.returns
 returns c = summed_all c.loop-p.invariant (omega arith)
+
+pub returns-after-lower_at : goal.returns-after-lower_at
+returns-after-lower_at c = summed_all (step (goal.at.returns-after-lower_at c).Joined-lower_at) (omega arith)

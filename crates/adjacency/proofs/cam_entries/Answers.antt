@@ -1,40 +1,32 @@
--- `adjacency::cam_entries` meets its contract. The loop's invariant: 6 applies at no entry before i. Assumes nothing.
+-- `adjacency::cam_entries` meets its contract. The loop's invariant: 6 applies at no entry that is passed. Assumes nothing.
+use mathlib.Core.Path.{◌≡◌, sym, ap, ◌∙◌}
 use mathlib.Core.Logic.{inl, inr, ⊎_elim}
-use Prim.Native.Nat.{◌-◌}
+use mathlib.Core.List.{List}
+use Prim.Native.Nat.{ℕ, ◌+◌, ◌-◌}
+use lib.ListN.{get_or}
 use borrow.Author.Count.{below_more}
 use Rattle.refusal.specs.Checks.{passes, fails}
 use Rattle.refusal.specs.Laws.{clear_one}
 use Rattle.refusal.proofs.Laws.{first-place}
 use native.Mathlib.Omega.{arith}
 use Rattle.adjacency.proofs.cam_entries.Goals as goal
+use Rattle.adjacency.proofs.cam_entries.Goals.{then-x-eq0-via-then-x-eq0, then-x-eq0-via-else-x-eq0+then-i-x}
 
-pub loop-i-init : goal.loop-i-init
-loop-i-init c = (omega arith, omega arith, λ q l a. let n : ⊥ = omega (arith, a.0) in n)
-
-pub overflow_sub-x : goal.overflow_sub-x
-overflow_sub-x c = omega arith
-
-pub bounds-cam-i : goal.bounds-cam-i
-bounds-cam-i c = omega arith
-
-pub overflow_cast-x : goal.overflow_cast-x
-overflow_cast-x c = omega (arith, c.type_inv.cam (c.loop-i.i - 1))
+-- the entry at i has the number i + 1
+at-place : (c : List ℕ) (i : ℕ) → get_or c (i + 1 - 1) 0 ≡ get_or c i 0
+at-place c i = ap (λ k. get_or c k 0) (omega arith)
 
 pub returns-then-x-eq0 : goal.returns-then-x-eq0
-returns-then-x-eq0 c = fails (first-place (omega arith, omega arith, inl c.if-x-eq0.true) c.loop-i.invariant.2)
-
-pub returns-then-i-x : goal.returns-then-i-x
-returns-then-i-x c = fails (first-place (omega arith, omega arith, inr c.if-i-x.true) c.loop-i.invariant.2)
-
-pub overflow_add-i : goal.overflow_add-i
-overflow_add-i c = omega arith
-
-pub loop-i-smaller : goal.loop-i-smaller
-loop-i-smaller c = omega arith
+returns-then-x-eq0 c =
+    elim c.then-x-eq0.branch [
+      | then-x-eq0-via-then-x-eq0 w ↦ fails (first-place (omega arith, omega arith, inl (at-place c.args.cam.now c.loop-i.i ∙ w.if-x-eq0.true)) c.loop-i.invariant)
+      | then-x-eq0-via-else-x-eq0+then-i-x w ↦ fails (first-place (omega arith, omega arith, inr (omega (arith, at-place c.args.cam.now c.loop-i.i, w.if-i-x.true))) c.loop-i.invariant)
+    ]
 
 pub loop-i-preserved : goal.loop-i-preserved
-loop-i-preserved c = let i = c.loop-i.invariant in
-    (omega arith, omega arith, below_more _ _ i.2 (λ a. ⊎_elim (λ z. c.if-x-eq0.false z) (λ z. let n : ⊥ = omega arith in n) a.2))
+loop-i-preserved c =
+    let e = at-place c.args.cam.now c.loop-i.i in
+    below_more _ _ c.loop-i.invariant (λ a. ⊎_elim (λ z. c.if-x-eq0.false (sym e ∙ z)) (λ z. let n : ⊥ = omega (arith, e, z, c.if-i-x.false) in n) a.2)
 
 pub returns : goal.returns
-returns c = passes (clear_one (λ q a. c.loop-i.invariant.2 q (omega (arith, a.1)) a))
+returns c = passes (clear_one (λ q a. c.loop-i.invariant q (omega (arith, a.1)) a))

@@ -5,7 +5,7 @@ use lib.ListN.{length}
 use Rattle.adjacency.specs.Made.{few, edge_front, front-cam, made_length}
 use Rattle.limits.specs.document.Limits.{size}
 use Rattle.adjacency.specs.document.Adjacency.{cam_edges_lem, made_rows}
-use Rattle.adjacency.proofs.Behind.{front_length, array_length, front_is, front-laid, behind}
+use Rattle.adjacency.proofs.Behind.{front_length, array_length, front_is, front-laid, only-behind}
 use native.Mathlib.Omega.{arith}
 use Rattle.adjacency.proofs.made.Goals as goal
 
@@ -44,4 +44,4 @@ returns c = let short : 2 * length c.args.cam.now ≤ ends = omega (arith, few c
     let s = c.args in
     let e = front_is ends (2 * length s.cam.now) c.cam_edges.new.out (long) ∙ written in
     let a = c.check.ensures in
-    behind (edge_front size s.n (cam_edges_lem s.cam.now)) (made_rows s.limit (cam_edges_lem s.cam.now)) (front-cam size s.n s.cam.now c.requires.clear) (rw e at a)
+    only-behind (edge_front size s.n (cam_edges_lem s.cam.now)) (made_rows s.limit (cam_edges_lem s.cam.now)) (front-cam size s.n s.cam.now c.requires.clear) (rw e at a)

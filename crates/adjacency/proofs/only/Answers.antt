@@ -1,35 +1,30 @@
--- `adjacency::only` meets its contract. The loop's invariant: w is what the edges before p give. Assumes nothing.
+-- `adjacency::only` meets its contract. The loop's invariant: one is what the edges before p give. Assumes nothing.
+use mathlib.Core.Path.{sym}
+use Prim.Native.Nat.{◌+◌}
 use native.Mathlib.Omega.{arith}
-use Rattle.adjacency.proofs.Search.{sofar_none, sofar_miss, sofar_hit, sofar_over, sofar_all}
+use Rattle.adjacency.proofs.Search.{Sofar, sofar_none, sofar_miss, sofar_hit, sofar_over, sofar_all}
 use Rattle.adjacency.proofs.only.Goals as goal
+use Rattle.adjacency.proofs.only.Goals.{Joined-lower_at, in-Some+else-is_some, in_default}
+
+-- one edge more
+step : (c : Joined-lower_at) → Sofar c.args.edges.now c.args.v (c.loop-p.p + 1) c.match-lower_at.one
+step c =
+    elim c.match-lower_at.branch [
+      | in-Some+else-is_some w ↦ rw w.one-is (sofar_hit c.args.edges.now c.args.v c.loop-p.p (omega arith, omega arith) c.loop-p.one (sym w.if-is_some.ensures) c.loop-p.invariant w.in-Some.ensures)
+      | in_default w ↦ rw w.one-is (sofar_miss c.args.edges.now c.args.v c.loop-p.p (omega arith, omega arith) c.loop-p.one c.loop-p.invariant w.in_default.ensures)
+    ]
 
 pub loop-p-init : goal.loop-p-init
-loop-p-init c = sofar_none _ _
+loop-p-init c = sofar_none c.args.edges.now c.args.v
 
-pub lower_at-u-requires : goal.lower_at-u-requires
-lower_at-u-requires c = (c.requires, (omega arith, omega arith))
-
-pub overflow_add-p : goal.overflow_add-p
-overflow_add-p c = omega arith
-
-pub returns-then-w-ne0 : goal.returns-then-w-ne0
-returns-then-w-ne0 c = record {
-  is = λ h. absurd (let n : ⊥ = omega arith in n);
-  none = λ z. sofar_over c.loop-p.invariant (omega arith, omega arith) c.lower_at-u.ensures (omega arith) (omega arith);
-  small = omega arith;
-}
-
-pub loop-p-smaller-then-u-ne0 : goal.loop-p-smaller-then-u-ne0
-loop-p-smaller-then-u-ne0 c = omega arith
-
-pub loop-p-preserved-then-u-ne0 : goal.loop-p-preserved-then-u-ne0
-loop-p-preserved-then-u-ne0 c = sofar_hit c.loop-p.invariant (omega arith, omega arith) c.lower_at-u.ensures (omega arith)
-
-pub loop-p-smaller : goal.loop-p-smaller
-loop-p-smaller c = omega arith
+pub returns-then-is_some : goal.returns-then-is_some
+returns-then-is_some c = sofar_over c.args.edges.now c.args.v c.loop-p.p (omega arith, omega arith) c.loop-p.one (sym c.if-is_some.ensures) c.loop-p.invariant c.in-Some.ensures
 
 pub loop-p-preserved : goal.loop-p-preserved
-loop-p-preserved c = sofar_miss c.loop-p.invariant (omega arith, omega arith) c.lower_at-u.ensures (omega arith)
+loop-p-preserved c = step (goal.at.loop-p-preserved c).Joined-lower_at
 
 pub returns : goal.returns
-returns c = sofar_all c.loop-p.invariant (omega arith)
+returns c = sofar_all c.args.edges.now c.args.v c.loop-p.p c.loop-p.one c.loop-p.invariant (omega arith)
+
+pub returns-after-lower_at : goal.returns-after-lower_at
+returns-after-lower_at c = sofar_all c.args.edges.now c.args.v (c.loop-p.p + 1) c.match-lower_at.one (step (goal.at.returns-after-lower_at c).Joined-lower_at) (omega arith)

@@ -7,29 +7,14 @@ use Rattle.adjacency.proofs.zero_a.Goals as goal
 pub loop-i-init : goal.loop-i-init
 loop-i-init c = ranked-none _
 
-pub overflow_add-x : goal.overflow_add-x
-overflow_add-x c = omega arith
-
 pub overflow_mul-x : goal.overflow_mul-x
 overflow_mul-x c = omega (arith, ranked_fits c.requires.0 c.requires.1 (ranked-more c.loop-i.invariant (omega arith)) (omega arith))
-
-pub bounds-cam-i : goal.bounds-cam-i
-bounds-cam-i c = omega arith
-
-pub overflow_cast-x : goal.overflow_cast-x
-overflow_cast-x c = omega (arith, c.type_inv.cam c.loop-i.i)
 
 pub overflow_sub-x : goal.overflow_sub-x
 overflow_sub-x c = (entry_at c.requires.0 c.loop-i.i (omega arith)).0
 
 pub overflow_add-x-in-loop-i : goal.overflow_add-x-in-loop-i
 overflow_add-x-in-loop-i c = omega (arith, ranked_fits c.requires.0 c.requires.1 (ranked-more c.loop-i.invariant (omega arith)) (omega arith))
-
-pub overflow_add-i : goal.overflow_add-i
-overflow_add-i c = omega arith
-
-pub loop-i-smaller : goal.loop-i-smaller
-loop-i-smaller c = omega arith
 
 pub loop-i-preserved : goal.loop-i-preserved
 loop-i-preserved c = ranked-more c.loop-i.invariant (omega arith)

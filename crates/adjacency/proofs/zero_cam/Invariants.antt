@@ -4,6 +4,3 @@ use Rattle.adjacency.proofs.zero_cam.Given as goal
 
 abbrev pub invariant-loop-i : goal.invariant-loop-i
 invariant-loop-i l = Unranked l.n l.x l.initial.out l.i l.out l.v
-
-abbrev pub decreases-loop-i : goal.decreases-loop-i
-decreases-loop-i l = l.i

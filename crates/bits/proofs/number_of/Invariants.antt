@@ -1,11 +1,6 @@
--- `bits::number_of` meets its contract. The loop's invariant: i digits are in x. Assumes nothing.
-use Prim.Native.Nat.{◌-◌}
-use lib.ListN.{length}
+-- `bits::number_of` meets its contract. The loop's invariant: as many digits are in x as were read. Assumes nothing.
 use Rattle.bits.specs.Writing.{Numbering}
 use Rattle.bits.proofs.number_of.Given as goal
 
-abbrev pub invariant-loop-i : goal.invariant-loop-i
-invariant-loop-i l = Numbering l.code l.i l.x
-
-abbrev pub decreases-loop-i : goal.decreases-loop-i
-decreases-loop-i l = length l.code - l.i
+abbrev pub invariant-loop-k : goal.invariant-loop-k
+invariant-loop-k l = Numbering l.code l.k-index l.x

@@ -5,11 +5,8 @@ use native.Mathlib.Numerals.{add-one}
 use native.Mathlib.Omega.{arith}
 use lib.ListN.{replicate}
 use Rattle.limits.specs.document.Limits.{size}
-use Rattle.centre.proofs.Walked.{ground, start, next_one, finish, some_found, most_found, one_waits, next_in, next_few, in_some}
+use Rattle.centre.proofs.Walked.{ground, start, next_one, finish, most_found, one_waits, next_in, next_few, in_some}
 use Rattle.centre.proofs.walk.Goals as goal
-
-pub bounds-up-wide : goal.bounds-up-wide
-bounds-up-wide c = omega (arith, c.wide.ensures.0, c.requires.starts.high, c.requires.held.skeleton.few)
 
 pub loop-e-init : goal.loop-e-init
 loop-e-init c = λ E g t. rw c.wide.ensures.0 (start g c.requires.starts (replicate {A = ℕ} size 0) refl)
@@ -18,23 +15,16 @@ pub bounds-o-h : goal.bounds-o-h
 bounds-o-h c = let l = c.loop-e in
     omega (arith, one_waits c.requires.held c.requires.starts l.invariant (omega arith), most_found c.requires.held c.requires.starts l.invariant, c.requires.held.skeleton.few)
 
-pub overflow_sub-i : goal.overflow_sub-i
-overflow_sub-i c = let l = c.loop-e in
-    omega (arith, c.wide-i.ensures.0, next_in c.requires.held c.requires.starts l.invariant (omega arith))
-
-pub bounds-degs-i : goal.bounds-degs-i
-bounds-degs-i c = let l = c.loop-e in
-    omega (arith, c.wide-i.ensures.0, next_in c.requires.held c.requires.starts l.invariant (omega arith), c.requires.held.skeleton.few)
-
-pub offset_bounds-rows-i : goal.offset_bounds-rows-i
-offset_bounds-rows-i c = omega arith
-
-pub bounds-rows-i : goal.bounds-rows-i
-bounds-rows-i c = let l = c.loop-e in
-    omega (arith, c.wide-i.ensures.0, next_in c.requires.held c.requires.starts l.invariant (omega arith), c.requires.held.skeleton.few)
+pub neighbours-requires : goal.neighbours-requires
+neighbours-requires c = let l = c.loop-e in
+    let i = next_in c.requires.held c.requires.starts l.invariant (omega arith) in
+    record {
+      shaped = c.requires.held.table.shaped;
+      le_v = rw c.wide-in-loop-e.ensures.0 (i.0, omega (arith, i, c.requires.held.skeleton.few), next_few c.requires.held c.requires.starts l.invariant (omega arith));
+    }
 
 pub visit-e-requires : goal.visit-e-requires
-visit-e-requires c = let l = c.loop-e in rw (c.wide-m.ensures.0, c.wide-i.ensures.0) (record { m_le_width = next_few c.requires.held c.requires.starts l.invariant (omega arith); visit = in_some c.requires.held c.requires.starts l.invariant (omega arith) })
+visit-e-requires c = let l = c.loop-e in rw (c.neighbours.ensures, c.wide-in-loop-e.ensures.0) (in_some c.requires.held c.requires.starts l.invariant (omega arith))
 
 pub overflow_add-h : goal.overflow_add-h
 overflow_add-h c = let l = c.loop-e in
@@ -50,11 +40,7 @@ loop-e-preserved c = let l = c.loop-e in
     let waits = one_waits c.requires.held c.requires.starts l.invariant (omega arith) in
     λ E g t.
     rw add-one
-    (c.visit-e.ensures _ _ _ E g (rw (c.wide-m.ensures.0, c.wide-i.ensures.0) (next_one g (l.invariant E g t) t _ refl waits few)))
-
-pub overflow_sub-result : goal.overflow_sub-result
-overflow_sub-result c = let l = c.loop-e in
-    some_found c.requires.held c.requires.starts l.invariant
+    (c.visit-e.ensures _ _ _ E g (rw (c.neighbours.ensures, c.wide-in-loop-e.ensures.0) (next_one g (l.invariant E g t) t _ refl waits few)))
 
 pub bounds-o-e : goal.bounds-o-e
 bounds-o-e c = let l = c.loop-e in

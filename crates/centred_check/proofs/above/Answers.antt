@@ -10,6 +10,7 @@ use Rattle.digit_code.specs.Two.{as_long}
 use Rattle.centred_check.specs.Kinds.{kinds, more_is, unit_fits}
 use Rattle.centred_check.specs.Skip.{Skips, skips_after, root-codes, codes_many, skips_marks}
 use Rattle.centred_check.specs.Over.{branch_some, branch_inside, above_not, above_so, above_by}
+use Rattle.centred_check.proofs.Smaller.{by_smaller}
 use Rattle.centred_check.proofs.above.Goals as goal
 
 pub skip-x-requires : goal.skip-x-requires
@@ -45,17 +46,9 @@ returns-then-left-there c = let arity : ℕ → ℕ = (kinds c.args.named).arity
     let whole : Ends 1 (digits (arity) c.args.code.now) = subst (Ends 1) c.requires.ds_value c.requires.ends in
     let child : 1 ≤ arity (get_or c.args.code.now 0 0) = omega (arith, root-codes (arity) c.args.code.now (whole), c.requires.p_in_bounds) in
     let fits : c.step.result ≤ get_or c.args.code.now 0 0 = omega (arith, c.step.ensures, unit_fits c.args.named (get_or c.args.code.now 0 0) (child)) in
-    above_not (kinds c.args.named) c.args.code.now c.args.p c.skip-x.result (branch) (some) (omega (arith, c.step.ensures, fits, more_is c.args.named (get_or c.args.code.now c.skip-x.result 0)))
-
-pub returns-then-there-left : goal.returns-then-there-left
-returns-then-there-left c = let arity : ℕ → ℕ = (kinds c.args.named).arity in
-    let branch : Skips (arity) c.args.code.now 1 c.args.p c.skip-x.result = skips_marks (arity) c.args.code.now c.requires.ds_value c.skip-x.ensures in
-    let long : length c.args.ds.now ≡ length c.args.code.now = as_long (arity) c.args.code.now c.requires.ds_value in
-    let some : 1 ≤ length c.args.code.now = omega (arith, ends_sum 1 c.args.ds.now c.requires.ends, long) in
-    let whole : Ends 1 (digits (arity) c.args.code.now) = subst (Ends 1) c.requires.ds_value c.requires.ends in
-    let child : 1 ≤ arity (get_or c.args.code.now 0 0) = omega (arith, root-codes (arity) c.args.code.now (whole), c.requires.p_in_bounds) in
-    let fits : c.step.result ≤ get_or c.args.code.now 0 0 = omega (arith, c.step.ensures, unit_fits c.args.named (get_or c.args.code.now 0 0) (child)) in
-    above_so (kinds c.args.named) c.args.code.now c.args.p c.skip-x.result (branch) (some) (omega (arith, c.step.ensures, fits, more_is c.args.named (get_or c.args.code.now c.skip-x.result 0)))
+    by_smaller (λ e. c.if-left-there.true (omega arith))
+    (λ l. above_so (kinds c.args.named) c.args.code.now c.args.p c.skip-x.result (branch) (some) (omega (arith, c.step.ensures, fits, more_is c.args.named (get_or c.args.code.now c.skip-x.result 0))))
+    (λ l. above_not (kinds c.args.named) c.args.code.now c.args.p c.skip-x.result (branch) (some) (omega (arith, c.step.ensures, fits, more_is c.args.named (get_or c.args.code.now c.skip-x.result 0))))
 
 pub skip-e-requires : goal.skip-e-requires
 skip-e-requires c = let arity : ℕ → ℕ = (kinds c.args.named).arity in

@@ -6,6 +6,3 @@ use Rattle.centred_check.proofs.joined.Given as goal
 
 abbrev pub invariant-loop-j : goal.invariant-loop-j
 invariant-loop-j l = Joining (kinds l.named).arity l.code l.hs (get_or l.starts l.at 0) l.at l.end l.j l.best
-
-abbrev pub decreases-loop-j : goal.decreases-loop-j
-decreases-loop-j l = l.j

@@ -4,6 +4,3 @@ use Rattle.centred_check.proofs.middle.Given as goal
 
 abbrev pub invariant-loop-j : goal.invariant-loop-j
 invariant-loop-j l = Race l.hs l.from l.j l.first l.next l.at
-
-abbrev pub decreases-loop-j : goal.decreases-loop-j
-decreases-loop-j l = l.j

@@ -1,6 +1,6 @@
 -- `centred_check::scan` meets its contract: the loop keeps what the marks read say. Assumes nothing.
 use mathlib.Core.Path.{◌≡◌, sym, ◌∙◌, subst}
-use Prim.Native.Nat.{ℕ, ◌+◌, ◌-◌, ◌≤◌, ◌<◌}
+use Prim.Native.Nat.{ℕ, ◌+◌, ◌-◌, ◌≤◌}
 use native.Mathlib.Omega.{arith}
 use lib.ListN.{length, get_or}
 use Rattle.limits.specs.document.Limits.{size}
@@ -8,26 +8,20 @@ use Rattle.digit_code.specs.Two.{as_long, digit_at}
 use Rattle.centred_check.specs.Kinds.{kinds}
 use Rattle.centred_check.specs.Stack.{stack-low, stack-last}
 use Rattle.laws.specs.Tells.{was_held, was_denied}
-use Rattle.centred_check.specs.Scan.{Scan, scan_start, scan-room, scan-next, from_first, to_first, not_small, not_served, not_falling, no_code, is_code}
+use Rattle.centred_check.specs.Scan.{Scan, scan_start, scan-room, scan-next, from_first, to_first, to_none, not_small, not_served, not_falling}
 use Rattle.centred_check.proofs.scan.Goals as goal
+use Rattle.centred_check.proofs.scan.Goals.{then-n-eq0-via-then-n-eq0, then-n-eq0-via-else-n-eq0+then-n-gt-SIZE}
 
 pub returns-then-n-eq0 : goal.returns-then-n-eq0
-returns-then-n-eq0 c = no_code c.args.code.now c.args.hs.now (λ r. let z : ⊥ = omega (arith, r.some, c.if-n-eq0.true) in z)
-
-pub returns-then-n-gt-SIZE : goal.returns-then-n-gt-SIZE
-returns-then-n-gt-SIZE c = no_code c.args.code.now c.args.hs.now (λ r. let z : ⊥ = omega (arith, r.few, c.if-n-gt-SIZE.true) in z)
-
-pub overflow_cast-starts : goal.overflow_cast-starts
-overflow_cast-starts c = omega arith
-
-pub bounds-starts-64 : goal.bounds-starts-64
-bounds-starts-64 c = omega arith
+returns-then-n-eq0 c =
+    λ r.
+    elim c.then-n-eq0.branch [
+      | then-n-eq0-via-then-n-eq0 w ↦ omega (arith, r.some, w.if-n-eq0.true)
+      | then-n-eq0-via-else-n-eq0+then-n-gt-SIZE w ↦ omega (arith, r.few, w.if-n-gt-SIZE.true)
+    ]
 
 pub loop-i-init : goal.loop-i-init
 loop-i-init c = scan_start (kinds c.args.named) (λ m. c.args.limit) c.args.code.now c.args.hs.now c.args.starts.now (omega arith) c.requires.hs_len c.requires.starts_len
-
-pub overflow_sub-i : goal.overflow_sub-i
-overflow_sub-i c = omega arith
 
 pub bounds-ds-i : goal.bounds-ds-i
 bounds-ds-i c = omega (arith, c.loop-i.invariant.stacked.within, as_long (kinds c.args.named).arity c.args.code.now c.requires.ds_value)
@@ -40,8 +34,8 @@ shape_of-starts-then-limit-k c = c.loop-i.invariant.laid.long ∙ sym c.requires
 
 pub returns-then-limit-k : goal.returns-then-limit-k
 returns-then-limit-k c = let few : length c.args.code.now ≤ size = omega (arith, c.if-n-gt-SIZE) in
-    let counts : 1 < c.loop-i.i → get_or c.args.ds.now (c.loop-i.i - 1) 0 ≡ (kinds c.args.named).arity (get_or c.args.code.now (c.loop-i.i - 1) 0) = λ h. digit_at (kinds c.args.named).arity c.args.code.now c.requires.ds_value (c.loop-i.i - 1) (omega (arith, c.loop-i.invariant.stacked.within)) in
-    no_code c.args.code.now _ (not_small c.loop-i.invariant (few) (omega arith) c.requires.le_limit (omega (arith, counts (omega arith), c.if-limit-k.true)))
+    let counts = digit_at (kinds c.args.named).arity c.args.code.now c.requires.ds_value (c.loop-i.i - 1) (omega (arith, c.loop-i.invariant.stacked.within)) in
+    not_small c.loop-i.invariant few (omega arith) c.requires.le_limit (omega (arith, counts, c.if-limit-k.true))
 
 pub overflow_cast-end : goal.overflow_cast-end
 overflow_cast-end c = omega (arith, c.type_inv.ds (c.loop-i.i - 1))
@@ -57,30 +51,30 @@ shape_of-starts-then-end-gt-SIZE c = c.loop-i.invariant.laid.long ∙ sym c.requ
 
 pub returns-then-end-gt-SIZE : goal.returns-then-end-gt-SIZE
 returns-then-end-gt-SIZE c = let few : length c.args.code.now ≤ size = omega (arith, c.if-n-gt-SIZE) in
-    let counts : 1 < c.loop-i.i → get_or c.args.ds.now (c.loop-i.i - 1) 0 ≡ (kinds c.args.named).arity (get_or c.args.code.now (c.loop-i.i - 1) 0) = λ h. digit_at (kinds c.args.named).arity c.args.code.now c.requires.ds_value (c.loop-i.i - 1) (omega (arith, c.loop-i.invariant.stacked.within)) in
-    no_code c.args.code.now _ (not_served c.loop-i.invariant (few) (omega arith) (omega (arith, counts (omega arith))))
+    let counts = digit_at (kinds c.args.named).arity c.args.code.now c.requires.ds_value (c.loop-i.i - 1) (omega (arith, c.loop-i.invariant.stacked.within)) in
+    not_served c.loop-i.invariant few (omega arith) (omega (arith, counts))
 
-pub joined-h-requires : goal.joined-h-requires
-joined-h-requires c = let few : length c.args.code.now ≤ size = omega (arith, c.if-n-gt-SIZE) in record { placed = from_first c.loop-i.invariant; at_le_end = omega arith; end_le_size = omega arith; hs_len = c.loop-i.invariant.stacked.long; hs_bound = omega (arith, stack-low c.loop-i.invariant.stacked (c.loop-i.at + get_or c.args.ds.now (c.loop-i.i - 1) 0), few) }
+pub joined-requires : goal.joined-requires
+joined-requires c = let few : length c.args.code.now ≤ size = omega (arith, c.if-n-gt-SIZE) in record { placed = from_first c.loop-i.invariant; at_le_end = omega arith; end_le_size = omega arith; hs_len = c.loop-i.invariant.stacked.long; hs_bound = omega (arith, stack-low c.loop-i.invariant.stacked (c.loop-i.at + get_or c.args.ds.now (c.loop-i.i - 1) 0), few) }
 
-pub shape_of-hs-then-h-eq0 : goal.shape_of-hs-then-h-eq0
-shape_of-hs-then-h-eq0 c = c.loop-i.invariant.stacked.long ∙ sym c.requires.hs_len
+pub shape_of-hs-in_err-h : goal.shape_of-hs-in_err-h
+shape_of-hs-in_err-h c = c.loop-i.invariant.stacked.long ∙ sym c.requires.hs_len
 
-pub shape_of-starts-then-h-eq0 : goal.shape_of-starts-then-h-eq0
-shape_of-starts-then-h-eq0 c = c.loop-i.invariant.laid.long ∙ sym c.requires.starts_len
+pub shape_of-starts-in_err-h : goal.shape_of-starts-in_err-h
+shape_of-starts-in_err-h c = c.loop-i.invariant.laid.long ∙ sym c.requires.starts_len
 
-pub returns-then-h-eq0 : goal.returns-then-h-eq0
-returns-then-h-eq0 c = let few : length c.args.code.now ≤ size = omega (arith, c.if-n-gt-SIZE) in
-    let counts : 1 < c.loop-i.i → get_or c.args.ds.now (c.loop-i.i - 1) 0 ≡ (kinds c.args.named).arity (get_or c.args.code.now (c.loop-i.i - 1) 0) = λ h. digit_at (kinds c.args.named).arity c.args.code.now c.requires.ds_value (c.loop-i.i - 1) (omega (arith, c.loop-i.invariant.stacked.within)) in
-    no_code c.args.code.now _ (not_falling c.loop-i.invariant (few) (omega arith) (counts (omega arith)) (to_first c.loop-i.invariant c.joined-h.ensures) c.if-h-eq0.true)
+pub returns-in_err-h : goal.returns-in_err-h
+returns-in_err-h c = let few : length c.args.code.now ≤ size = omega (arith, c.if-n-gt-SIZE) in
+    let counts = digit_at (kinds c.args.named).arity c.args.code.now c.requires.ds_value (c.loop-i.i - 1) (omega (arith, c.loop-i.invariant.stacked.within)) in
+    rw c.from_residual.ensures (not_falling c.loop-i.invariant few (omega arith) counts (to_none c.loop-i.invariant _ c.in_err-h.ensures))
 
 pub overflow_sub-at : goal.overflow_sub-at
 overflow_sub-at c = let few : length c.args.code.now ≤ size = omega (arith, c.if-n-gt-SIZE) in
-    let m = scan-room c.loop-i.invariant (few) (omega arith) in omega arith
+    let m = scan-room c.loop-i.invariant few (omega arith) in omega arith
 
 pub bounds-hs-at : goal.bounds-hs-at
 bounds-hs-at c = let few : length c.args.code.now ≤ size = omega (arith, c.if-n-gt-SIZE) in
-    let m = scan-room c.loop-i.invariant (few) (omega arith) in omega (arith, c.loop-i.invariant.stacked.long, c.if-end-gt-SIZE.false)
+    let m = scan-room c.loop-i.invariant few (omega arith) in omega (arith, c.loop-i.invariant.stacked.long, c.if-end-gt-SIZE.false)
 
 pub overflow_cast-starts-in-loop-i : goal.overflow_cast-starts-in-loop-i
 overflow_cast-starts-in-loop-i c = let few : length c.args.code.now ≤ size = omega (arith, c.if-n-gt-SIZE) in
@@ -88,15 +82,12 @@ overflow_cast-starts-in-loop-i c = let few : length c.args.code.now ≤ size = o
 
 pub bounds-starts-at : goal.bounds-starts-at
 bounds-starts-at c = let few : length c.args.code.now ≤ size = omega (arith, c.if-n-gt-SIZE) in
-    let m = scan-room c.loop-i.invariant (few) (omega arith) in omega (arith, c.loop-i.invariant.laid.long, c.if-end-gt-SIZE.false)
-
-pub loop-i-smaller : goal.loop-i-smaller
-loop-i-smaller c = omega arith
+    let m = scan-room c.loop-i.invariant few (omega arith) in omega (arith, c.loop-i.invariant.laid.long, c.if-end-gt-SIZE.false)
 
 pub loop-i-preserved : goal.loop-i-preserved
 loop-i-preserved c = let few : length c.args.code.now ≤ size = omega (arith, c.if-n-gt-SIZE) in
-    let counts : 1 < c.loop-i.i → get_or c.args.ds.now (c.loop-i.i - 1) 0 ≡ (kinds c.args.named).arity (get_or c.args.code.now (c.loop-i.i - 1) 0) = λ h. digit_at (kinds c.args.named).arity c.args.code.now c.requires.ds_value (c.loop-i.i - 1) (omega (arith, c.loop-i.invariant.stacked.within)) in
-    scan-next c.loop-i.invariant (few) (omega arith) (counts (omega arith)) (omega (arith, c.if-limit-k.false)) (omega arith) (to_first c.loop-i.invariant c.joined-h.ensures) (omega arith)
+    let counts = digit_at (kinds c.args.named).arity c.args.code.now c.requires.ds_value (c.loop-i.i - 1) (omega (arith, c.loop-i.invariant.stacked.within)) in
+    scan-next c.loop-i.invariant few (omega arith) counts (omega (arith, c.if-limit-k.false)) (omega arith) (to_first c.loop-i.invariant c.in_ok-h.ensures)
 
 pub rooted-requires : goal.rooted-requires
 rooted-requires c = let few : length c.args.code.now ≤ size = omega (arith, c.if-n-gt-SIZE) in
@@ -109,7 +100,7 @@ pub shape_of-starts-then-not-rooted : goal.shape_of-starts-then-not-rooted
 shape_of-starts-then-not-rooted c = c.loop-i.invariant.laid.long ∙ sym c.requires.starts_len
 
 pub returns-then-not-rooted : goal.returns-then-not-rooted
-returns-then-not-rooted c = no_code c.args.code.now _ (was_denied c.rooted.ensures c.if-not-rooted.true)
+returns-then-not-rooted c = was_denied c.rooted.ensures c.if-not-rooted.true
 
 pub shape_of-hs : goal.shape_of-hs
 shape_of-hs c = c.loop-i.invariant.stacked.long ∙ sym c.requires.hs_len
@@ -118,4 +109,4 @@ pub shape_of-starts : goal.shape_of-starts
 shape_of-starts c = c.loop-i.invariant.laid.long ∙ sym c.requires.starts_len
 
 pub returns : goal.returns
-returns c = is_code c.loop-i.invariant.laid.inside (was_held c.rooted.ensures c.if-not-rooted.false) (stack-last (kinds c.args.named) c.loop-i.invariant.stacked (omega arith))
+returns c = (was_held c.rooted.ensures c.if-not-rooted.false, stack-last (kinds c.args.named) c.loop-i.invariant.stacked (omega arith))

@@ -5,6 +5,3 @@ use Rattle.centred_check.proofs.scan.Given as goal
 
 abbrev pub invariant-loop-i : goal.invariant-loop-i
 invariant-loop-i l = Scan (kinds l.named) (λ m. l.limit) l.code l.hs l.starts l.i l.at
-
-abbrev pub decreases-loop-i : goal.decreases-loop-i
-decreases-loop-i l = l.i

@@ -1,14 +1,11 @@
 -- `centred_check::spot` meets its contract: the loop keeps that what is left stands before none of the children passed. Assumes nothing.
-use mathlib.Core.Path.{◌≡◌, subst}
-use Prim.Native.Nat.{◌<◌}
+use mathlib.Core.Path.{subst}
 use native.Mathlib.Omega.{arith}
-use lib.ListN.{length, get_or}
-use Rattle.digit_code.specs.Digits.{digits}
 use Rattle.digit_code.specs.Ends.{Ends}
 use Rattle.digit_code.specs.Two.{as_long, digit_at}
 use Rattle.laws.specs.Tells.{was_held, was_denied}
 use Rattle.centred_check.specs.Kinds.{kinds}
-use Rattle.centred_check.specs.Skip.{Skips, skips_after, one-after, codes_many, skips_marks}
+use Rattle.centred_check.specs.Skip.{skips_after, one-after, codes_many, skips_marks}
 use Rattle.centred_check.specs.Spot.{seek_start, seek_some, seek_inside, seek-next, seek_stop, seek-last}
 use Rattle.centred_check.proofs.spot.Goals as goal
 
@@ -22,40 +19,34 @@ pub loop-m-init : goal.loop-m-init
 loop-m-init c = seek_start c.requires.x_in_bounds
 
 pub skip-z-requires : goal.skip-z-requires
-skip-z-requires c = let whole : Ends 1 (digits (kinds c.args.named).arity c.args.code.now) = subst (Ends 1) c.requires.ds_value c.requires.ends in
-    let counts : get_or c.args.ds.now c.args.x 0 ≡ (kinds c.args.named).arity (get_or c.args.code.now c.args.x 0) = digit_at (kinds c.args.named).arity c.args.code.now c.requires.ds_value c.args.x c.requires.x_in_bounds in
-    let inside : c.loop-m.y < length c.args.code.now = seek_inside c.loop-m.invariant (whole) c.requires.x_in_bounds (omega (arith, counts)) in
-    let arity = (kinds c.args.named).arity in record { ends = c.requires.ends; from_in_bounds = omega (arith, inside, as_long arity c.args.code.now c.requires.ds_value); many_in_bounds = omega (arith, seek_some c.loop-m.invariant (whole) c.requires.x_in_bounds (omega (arith, counts)), codes_many arity c.args.code.now c.requires.ds_value c.loop-m.y) }
+skip-z-requires c = let whole = subst (Ends 1) c.requires.ds_value c.requires.ends in
+    let counts = digit_at (kinds c.args.named).arity c.args.code.now c.requires.ds_value c.args.x c.requires.x_in_bounds in
+    let inside = seek_inside c.loop-m.invariant whole c.requires.x_in_bounds (omega (arith, counts)) in
+    let arity = (kinds c.args.named).arity in record { ends = c.requires.ends; from_in_bounds = omega (arith, inside, as_long arity c.args.code.now c.requires.ds_value); many_in_bounds = omega (arith, seek_some c.loop-m.invariant whole c.requires.x_in_bounds (omega (arith, counts)), codes_many arity c.args.code.now c.requires.ds_value c.loop-m.y) }
 
 pub covers-requires : goal.covers-requires
-covers-requires c = let passed : Skips (kinds c.args.named).arity c.args.code.now c.loop-m.y 1 c.skip-z.result = skips_marks (kinds c.args.named).arity c.args.code.now c.requires.ds_value c.skip-z.ensures in
-    let whole : Ends 1 (digits (kinds c.args.named).arity c.args.code.now) = subst (Ends 1) c.requires.ds_value c.requires.ends in
-    let counts : get_or c.args.ds.now c.args.x 0 ≡ (kinds c.args.named).arity (get_or c.args.code.now c.args.x 0) = digit_at (kinds c.args.named).arity c.args.code.now c.requires.ds_value c.args.x c.requires.x_in_bounds in
-    let inside : c.loop-m.y < length c.args.code.now = seek_inside c.loop-m.invariant (whole) c.requires.x_in_bounds (omega (arith, counts)) in
+covers-requires c = let passed = skips_marks (kinds c.args.named).arity c.args.code.now c.requires.ds_value c.skip-z.ensures in
+    let whole = subst (Ends 1) c.requires.ds_value c.requires.ends in
+    let counts = digit_at (kinds c.args.named).arity c.args.code.now c.requires.ds_value c.args.x c.requires.x_in_bounds in
+    let inside = seek_inside c.loop-m.invariant whole c.requires.x_in_bounds (omega (arith, counts)) in
     let y = skips_after c.loop-m.invariant.passed in
-    let z = one-after (passed) (inside) in record { le_x = c.requires.le_x; x_lt_y = y; y_lt_z = z; z_in_bounds = passed.within; e_in_bounds = c.requires.skips.within; bound = c.requires.bound }
+    let z = one-after passed inside in record { le_x = c.requires.le_x; x_lt_y = y; y_lt_z = z; z_in_bounds = passed.within; e_in_bounds = c.requires.skips.within; bound = c.requires.bound }
 
 pub returns-then-covers : goal.returns-then-covers
-returns-then-covers c = let whole : Ends 1 (digits (kinds c.args.named).arity c.args.code.now) = subst (Ends 1) c.requires.ds_value c.requires.ends in
-    let counts : get_or c.args.ds.now c.args.x 0 ≡ (kinds c.args.named).arity (get_or c.args.code.now c.args.x 0) = digit_at (kinds c.args.named).arity c.args.code.now c.requires.ds_value c.args.x c.requires.x_in_bounds in
-    let passed : Skips (kinds c.args.named).arity c.args.code.now c.loop-m.y 1 c.skip-z.result = skips_marks (kinds c.args.named).arity c.args.code.now c.requires.ds_value c.skip-z.ensures in
-    let inside : c.loop-m.y < length c.args.code.now = seek_inside c.loop-m.invariant (whole) c.requires.x_in_bounds (omega (arith, counts)) in
-    seek_stop c.loop-m.invariant (whole) c.requires.x_in_bounds c.requires.skips (omega (arith, counts)) (passed) (inside) (was_held c.covers.ensures c.if-covers.true)
-
-pub overflow_add-m : goal.overflow_add-m
-overflow_add-m c = omega (arith, c.type_inv.ds c.args.x)
-
-pub loop-m-smaller : goal.loop-m-smaller
-loop-m-smaller c = omega arith
+returns-then-covers c = let whole = subst (Ends 1) c.requires.ds_value c.requires.ends in
+    let counts = digit_at (kinds c.args.named).arity c.args.code.now c.requires.ds_value c.args.x c.requires.x_in_bounds in
+    let passed = skips_marks (kinds c.args.named).arity c.args.code.now c.requires.ds_value c.skip-z.ensures in
+    let inside = seek_inside c.loop-m.invariant whole c.requires.x_in_bounds (omega (arith, counts)) in
+    seek_stop c.loop-m.invariant whole c.requires.x_in_bounds c.requires.skips (omega (arith, counts)) passed inside (was_held c.covers.ensures c.if-covers.true)
 
 pub loop-m-preserved : goal.loop-m-preserved
-loop-m-preserved c = let whole : Ends 1 (digits (kinds c.args.named).arity c.args.code.now) = subst (Ends 1) c.requires.ds_value c.requires.ends in
-    let counts : get_or c.args.ds.now c.args.x 0 ≡ (kinds c.args.named).arity (get_or c.args.code.now c.args.x 0) = digit_at (kinds c.args.named).arity c.args.code.now c.requires.ds_value c.args.x c.requires.x_in_bounds in
-    let passed : Skips (kinds c.args.named).arity c.args.code.now c.loop-m.y 1 c.skip-z.result = skips_marks (kinds c.args.named).arity c.args.code.now c.requires.ds_value c.skip-z.ensures in
-    let inside : c.loop-m.y < length c.args.code.now = seek_inside c.loop-m.invariant (whole) c.requires.x_in_bounds (omega (arith, counts)) in
-    seek-next c.loop-m.invariant (whole) c.requires.x_in_bounds (omega (arith, counts)) (passed) (inside) (was_denied c.covers.ensures c.if-covers.false)
+loop-m-preserved c = let whole = subst (Ends 1) c.requires.ds_value c.requires.ends in
+    let counts = digit_at (kinds c.args.named).arity c.args.code.now c.requires.ds_value c.args.x c.requires.x_in_bounds in
+    let passed = skips_marks (kinds c.args.named).arity c.args.code.now c.requires.ds_value c.skip-z.ensures in
+    let inside = seek_inside c.loop-m.invariant whole c.requires.x_in_bounds (omega (arith, counts)) in
+    seek-next c.loop-m.invariant whole c.requires.x_in_bounds (omega (arith, counts)) passed inside (was_denied c.covers.ensures c.if-covers.false)
 
 pub returns : goal.returns
-returns c = let whole : Ends 1 (digits (kinds c.args.named).arity c.args.code.now) = subst (Ends 1) c.requires.ds_value c.requires.ends in
-    let counts : get_or c.args.ds.now c.args.x 0 ≡ (kinds c.args.named).arity (get_or c.args.code.now c.args.x 0) = digit_at (kinds c.args.named).arity c.args.code.now c.requires.ds_value c.args.x c.requires.x_in_bounds in
-    seek-last c.loop-m.invariant (whole) c.requires.x_in_bounds c.requires.skips (omega (arith, counts))
+returns c = let whole = subst (Ends 1) c.requires.ds_value c.requires.ends in
+    let counts = digit_at (kinds c.args.named).arity c.args.code.now c.requires.ds_value c.args.x c.requires.x_in_bounds in
+    seek-last c.loop-m.invariant whole c.requires.x_in_bounds c.requires.skips (omega (arith, counts))

@@ -1,11 +1,7 @@
 -- `centred_check::spot` meets its contract: the loop keeps that what is left stands before none of the children passed. Assumes nothing.
-use Prim.Native.Nat.{◌-◌}
 use Rattle.centred_check.specs.Kinds.{kinds}
 use Rattle.centred_check.specs.Spot.{Seeking}
 use Rattle.centred_check.proofs.spot.Given as goal
 
 abbrev pub invariant-loop-m : goal.invariant-loop-m
 invariant-loop-m l = Seeking (kinds l.named) l.code l.x l.e l.y l.m
-
-abbrev pub decreases-loop-m : goal.decreases-loop-m
-decreases-loop-m l = l.k - l.m

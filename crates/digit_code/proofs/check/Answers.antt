@@ -1,28 +1,27 @@
 -- `digit_code::check` meets its contract: its checks answer for the table's rows in order. Assumes nothing.
-use Rattle.refusal.specs.Laws.{stops, was_clear, at_most}
-use Rattle.refusal.proofs.Laws.{goes_on}
+use Rattle.refusal.specs.Laws.{at_most}
+use Rattle.refusal.proofs.Laws.{clear_of, behind, exits}
 use Rattle.digit_code.specs.Ends.{ends_iff}
 use Rattle.digit_code.specs.Counting.{clear_ends}
 use Rattle.digit_code.proofs.check.Goals as goal
 
-pub returns-in-Refuse : goal.returns-in-Refuse
-returns-in-Refuse c = stops _ c.sized.ensures c.in-Refuse.is
+pub returns-in_err-sized : goal.returns-in_err-sized
+returns-in_err-sized c = exits _ c.from_residual.ensures.1 c.in_err-sized.ensures
 
-pub returns-in-Refuse-capped : goal.returns-in-Refuse-capped
-returns-in-Refuse-capped c = goes_on c.sized.ensures c.in_default.is (stops _ c.capped.ensures c.in-Refuse-capped.is)
+pub returns-in_err-capped : goal.returns-in_err-capped
+returns-in_err-capped c = behind c.in_ok-sized.ensures (exits _ c.from_residual-in_err-capped.ensures.1 c.in_err-capped.ensures)
 
 pub ended-requires : goal.ended-requires
-ended-requires c = at_most (was_clear c.sized.ensures c.in_default.is)
+ended-requires c = at_most (clear_of c.in_ok-sized.ensures)
 
-pub returns-in-Refuse-ended : goal.returns-in-Refuse-ended
-returns-in-Refuse-ended c = goes_on c.sized.ensures c.in_default.is
-    (goes_on c.capped.ensures c.in_default-capped.is
-    (stops _ c.ended.ensures c.in-Refuse-ended.is))
+pub returns-in_err-ended : goal.returns-in_err-ended
+returns-in_err-ended c = behind c.in_ok-sized.ensures (behind c.in_ok-capped.ensures (exits _ c.from_residual-in_err-ended.ensures.1 c.in_err-ended.ensures))
 
-pub ordered-requires : goal.ordered-requires
-ordered-requires c = record { ends = (ends_iff c.args.code.now).1 (clear_ends (was_clear c.ended.ensures c.in_default-ended.is)); code_len_bound = at_most (was_clear c.sized.ensures c.in_default.is) }
+pub ordered-requires-clause-ends : goal.ordered-requires-clause-ends
+ordered-requires-clause-ends c = (ends_iff c.args.code.now).1 (clear_ends (clear_of c.in_ok-ended.ensures))
+
+pub ordered-requires-clause-code_len_bound : goal.ordered-requires-clause-code_len_bound
+ordered-requires-clause-code_len_bound c = at_most (clear_of c.in_ok-sized.ensures)
 
 pub returns : goal.returns
-returns c = goes_on c.sized.ensures c.in_default.is
-    (goes_on c.capped.ensures c.in_default-capped.is
-    (goes_on c.ended.ensures c.in_default-ended.is c.ordered.ensures))
+returns c = behind c.in_ok-sized.ensures (behind c.in_ok-capped.ensures (behind c.in_ok-ended.ensures c.ordered.ensures))

@@ -1,10 +1,7 @@
 -- `digit_code::push` meets its contract. Assumes nothing.
-use Prim.Native.Nat.{◌-◌, ◌≤◌}
+use Prim.Native.Nat.{◌-◌}
 use Rattle.digit_code.specs.Stack.{Pushed}
 use Rattle.digit_code.proofs.push.Given as goal
 
 abbrev pub invariant-loop-i : goal.invariant-loop-i
-invariant-loop-i l = (l.i ≤ l.k) × Pushed l.initial.places l.places l.t l.v l.i l.r
-
-abbrev pub decreases-loop-i : goal.decreases-loop-i
-decreases-loop-i l = l.k - l.i
+invariant-loop-i l = Pushed l.initial.places l.places l.t l.v (l.i - l.t) l.i

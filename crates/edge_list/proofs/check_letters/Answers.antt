@@ -1,4 +1,5 @@
 -- `edge_list::check_letters` meets its contract: a check that refuses answers for the whole table, and behind one that passes the rest does. Assumes nothing.
+use Rattle.refusal.proofs.Laws.{clear_of, behind, exits}
 use mathlib.Core.Path.{refl}
 use mathlib.Core.List.{List, [], ◌∷◌}
 use Prim.Native.Nat.{ℕ, ◌≤◌}
@@ -6,8 +7,7 @@ use native.Mathlib.Omega.{arith}
 use lib.ListN.{length}
 use Rattle.limits.specs.document.Limits.{size}
 use Rattle.refusal.specs.document.Table.{Clear, row3}
-use Rattle.refusal.specs.Laws.{stops, was_clear, clear_left, others, never, at_most}
-use Rattle.refusal.proofs.Laws.{goes_on}
+use Rattle.refusal.specs.Laws.{clear_left, others, never, at_most}
 use Rattle.letters.specs.document.Letters.{row21-letters}
 use Rattle.letters.specs.Lettered.{so_many}
 use Rattle.edge_list.specs.document.Edges.{row5_edges, row7, row8, row9}
@@ -17,30 +17,30 @@ use Rattle.edge_list.proofs.check_letters.Goals as goal
 few : {most n : ℕ} (E s : List ℕ) → most ≤ size → Clear (row3 most n ∷ row5_edges n E ∷ []) → Clear (row21-letters n s ∷ []) → length s ≤ size
 few {most} {n} E s h c d = omega (arith, so_many n s (never d), at_most c)
 
-pub returns-in-Refuse : goal.returns-in-Refuse
-returns-in-Refuse c = stops _ c.known.ensures c.in-Refuse.is
+pub returns-in_err-known : goal.returns-in_err-known
+returns-in_err-known c = exits _ c.from_residual.ensures.1 c.in_err-known.ensures
 
-pub returns-in-Refuse-sizes : goal.returns-in-Refuse-sizes
-returns-in-Refuse-sizes c = goes_on c.known.ensures c.in_default.is (stops _ c.sizes.ensures c.in-Refuse-sizes.is)
+pub returns-in_err-sizes : goal.returns-in_err-sizes
+returns-in_err-sizes c = behind c.in_ok-known.ensures (exits _ c.from_residual-in_err-sizes.ensures.1 c.in_err-sizes.ensures)
 
-pub returns-in-Refuse-as_many : goal.returns-in-Refuse-as_many
-returns-in-Refuse-as_many c = goes_on c.known.ensures c.in_default.is
-    (goes_on c.sizes.ensures c.in_default-sizes.is (stops _ c.as_many.ensures c.in-Refuse-as_many.is))
+pub returns-in_err-as_many : goal.returns-in_err-as_many
+returns-in_err-as_many c = behind c.in_ok-known.ensures
+    (behind c.in_ok-sizes.ensures (exits _ c.from_residual-in_err-as_many.ensures.1 c.in_err-as_many.ensures))
 
-pub returns-in-Refuse-joins : goal.returns-in-Refuse-joins
-returns-in-Refuse-joins c = goes_on c.known.ensures c.in_default.is
-    (goes_on c.sizes.ensures c.in_default-sizes.is
-    (goes_on c.as_many.ensures c.in_default-as_many.is (stops _ c.joins.ensures c.in-Refuse-joins.is)))
+pub returns-in_err-joins : goal.returns-in_err-joins
+returns-in_err-joins c = behind c.in_ok-known.ensures
+    (behind c.in_ok-sizes.ensures
+    (behind c.in_ok-as_many.ensures (exits _ c.from_residual-in_err-joins.ensures.1 c.in_err-joins.ensures)))
 
 pub allow-requires : goal.allow-requires
-allow-requires c = (few c.args.edges.now c.args.letters.now c.requires.0 (was_clear c.sizes.ensures c.in_default-sizes.is) (was_clear c.as_many.ensures c.in_default-as_many.is), refl)
+allow-requires c = (few c.args.edges.now c.args.letters.now c.requires.0 (clear_of c.in_ok-sizes.ensures) (clear_of c.in_ok-as_many.ensures), refl)
 
 pub degrees-requires : goal.degrees-requires
 degrees-requires c = let s = c.args in
-    let k = was_clear c.joins.ensures c.in_default-joins.is in record { room_len = c.allow.ensures.long; clear = clear_left (row7 s.edges.now ∷ []) (row8 s.edges.now ∷ row9 s.limit s.edges.now ∷ []) (others k) }
+    let k = clear_of c.in_ok-joins.ensures in record { room_len = c.allow.ensures.long; clear = clear_left (row7 s.edges.now ∷ []) (row8 s.edges.now ∷ row9 s.limit s.edges.now ∷ []) (others k) }
 
 pub returns : goal.returns
-returns c = goes_on c.known.ensures c.in_default.is
-    (goes_on c.sizes.ensures c.in_default-sizes.is
-    (goes_on c.as_many.ensures c.in_default-as_many.is
-    (goes_on c.joins.ensures c.in_default-joins.is (c.degrees.ensures _ c.allow.ensures))))
+returns c = behind c.in_ok-known.ensures
+    (behind c.in_ok-sizes.ensures
+    (behind c.in_ok-as_many.ensures
+    (behind c.in_ok-joins.ensures (c.degrees.ensures _ c.allow.ensures))))

@@ -4,4 +4,4 @@ use Rattle.zurkhovel.specs.Places.{places-centred-code}
 use Rattle.exports.proofs.zk_centred_code_pairs.Goals as goal
 
 pub answered-requires : goal.answered-requires
-answered-requires c = search (rules, places-centred-code)
+answered-requires c = rw c.counted.ensures.0 (search (rules, places-centred-code))

@@ -3,5 +3,5 @@ use borrow.Author.Rules.{rules}
 use Rattle.zurkhovel.specs.Places.{places-check-edges}
 use Rattle.exports.proofs.zk_check_edges.Goals as goal
 
-pub answered-requires : goal.answered-requires
-answered-requires c = search (rules, places-check-edges)
+pub passed-requires : goal.passed-requires
+passed-requires c = search (rules, places-check-edges)

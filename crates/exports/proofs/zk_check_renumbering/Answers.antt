@@ -3,5 +3,5 @@ use borrow.Author.Rules.{rules}
 use Rattle.zurkhovel.specs.PlacesMaps.{places-check-renumbering}
 use Rattle.exports.proofs.zk_check_renumbering.Goals as goal
 
-pub sent-requires : goal.sent-requires
-sent-requires c = search (rules, places-check-renumbering)
+pub judged-requires : goal.judged-requires
+judged-requires c = search (rules, places-check-renumbering)

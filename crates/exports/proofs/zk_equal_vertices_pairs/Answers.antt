@@ -4,4 +4,4 @@ use Rattle.zurkhovel.specs.PlacesText.{places-equal-vertices}
 use Rattle.exports.proofs.zk_equal_vertices_pairs.Goals as goal
 
 pub answered-requires : goal.answered-requires
-answered-requires c = search (rules, places-equal-vertices)
+answered-requires c = rw c.counted.ensures.0 (search (rules, places-equal-vertices))

@@ -4,5 +4,5 @@ use Rattle.zurkhovel.specs.PlacesBits.{places-fraction}
 use Rattle.zurkhovel.specs.Tabled.{in-edition}
 use Rattle.exports.proofs.zk_fraction_pairs.Goals as goal
 
-pub exact-requires : goal.exact-requires
-exact-requires c = let h = places-fraction (in-edition c.args.edition) in search (rules, h)
+pub valued-requires : goal.valued-requires
+valued-requires c = let h = places-fraction (in-edition c.args.edition) in rw c.counted.ensures.0 (search (rules, h))

@@ -4,4 +4,4 @@ use Rattle.zurkhovel.specs.Places.{places-n_tuple-code}
 use Rattle.exports.proofs.zk_n_tuple_code_pairs.Goals as goal
 
 pub answered-requires : goal.answered-requires
-answered-requires c = search (rules, places-n_tuple-code)
+answered-requires c = rw c.counted.ensures.0 (search (rules, places-n_tuple-code))

@@ -1,7 +1,10 @@
 -- `exports::zk_renumbering` keeps its promise. Assumes nothing.
-use borrow.Author.Rules.{rules}
+use mathlib.Core.Path.{refl}
 use Rattle.zurkhovel.specs.PlacesMaps.{places-renumbering}
 use Rattle.exports.proofs.zk_renumbering.Goals as goal
 
 pub sent-requires : goal.sent-requires
-sent-requires c = search (rules, places-renumbering)
+sent-requires c = rw c.uncounted.ensures (places-renumbering _ _ _ _ _ _ _ _ c.renumbering.ensures.promised)
+
+pub returns : goal.returns
+returns c = (_, c.renumbering.ensures.promised, rw c.sent.ensures (rw c.uncounted.ensures refl))

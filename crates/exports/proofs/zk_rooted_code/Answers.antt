@@ -4,4 +4,4 @@ use Rattle.zurkhovel.specs.Places.{places-rooted-code}
 use Rattle.exports.proofs.zk_rooted_code.Goals as goal
 
 pub answered-requires : goal.answered-requires
-answered-requires c = search (rules, places-rooted-code)
+answered-requires c = rw c.uncounted.ensures (search (rules, places-rooted-code))

@@ -5,4 +5,4 @@ use Rattle.zurkhovel.specs.Tabled.{in-edition}
 use Rattle.exports.proofs.zk_whole_pairs.Goals as goal
 
 pub valued-requires : goal.valued-requires
-valued-requires c = let h = places-whole (in-edition c.args.edition) in search (rules, h)
+valued-requires c = let h = places-whole (in-edition c.args.edition) in rw c.counted.ensures.0 (search (rules, h))

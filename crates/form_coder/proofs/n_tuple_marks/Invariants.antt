@@ -1,6 +1,6 @@
 -- `form_coder::n_tuple_marks` meets its contract: the loop keeps the largest code of those passed. Assumes nothing.
 use mathlib.Core.List.{List}
-use Prim.Native.Nat.{ℕ, ◌-◌}
+use Prim.Native.Nat.{ℕ}
 use Rattle.skeleton.specs.document.Label.{rootedₗ}
 use Rattle.skeleton.specs.document.Atom.{Atom}
 use Rattle.skeleton.specs.document.AtomMarks.{atoms}
@@ -15,6 +15,3 @@ Search label n E d best other o x v = Best n E (rootedₗ atoms label n E) d bes
 
 abbrev pub invariant-loop-v : goal.invariant-loop-v
 invariant-loop-v l = (label : ℕ → Atom) → Named l.n label l.atoms → Search label l.n l.edges l.d l.best l.other l.order l.looked l.v
-
-abbrev pub decreases-loop-v : goal.decreases-loop-v
-decreases-loop-v l = l.n - l.v

@@ -21,13 +21,13 @@ use Rattle.form_coder.proofs.numbered_marks.Goals as goal
 pub rooted-looked-requires : goal.rooted-looked-requires
 rooted-looked-requires c = let centre : IsCentre c.args.n c.args.edges.now c.middles-m.result.first c.middles-m.result.second = c.middles-m.ensures.by_index c.args.edges.now c.requires.skeleton.0.tree c.fill.ensures in
     let one_inside : (1 ≤ c.middles-m.result.first) × (c.middles-m.result.first ≤ c.args.n) = (centre_inside _ _ c.requires.skeleton.0.tree _ _ (centre)).0 in
-    let held : Held c.args.n c.fill.new.rows c.fill.new.degs = record { edges = c.args.edges.now; skeleton = c.requires.skeleton.0; table = c.fill.ensures } in
+    let held : Held c.args.n c.fill.new.self.rows c.fill.new.self.degs = record { edges = c.args.edges.now; skeleton = c.requires.skeleton.0; table = c.fill.ensures } in
     let (h, k) = one_inside in record { held = (held, c.requires.skeleton.1); le_root = (h, k, c.requires.order_len.0, c.requires.order_len.1) }
 
 pub rooted-looked-requires-then-u-v : goal.rooted-looked-requires-then-u-v
 rooted-looked-requires-then-u-v c = let centre : IsCentre c.args.n c.args.edges.now c.middles-m.result.first c.middles-m.result.second = c.middles-m.ensures.by_index c.args.edges.now c.requires.skeleton.0.tree c.fill.ensures in
     let other-inside : (1 ≤ c.middles-m.result.second) × (c.middles-m.result.second ≤ c.args.n) = (centre_inside _ _ c.requires.skeleton.0.tree _ _ (centre)).1 in
-    let held : Held c.args.n c.fill.new.rows c.fill.new.degs = record { edges = c.args.edges.now; skeleton = c.requires.skeleton.0; table = c.fill.ensures } in
+    let held : Held c.args.n c.fill.new.self.rows c.fill.new.self.degs = record { edges = c.args.edges.now; skeleton = c.requires.skeleton.0; table = c.fill.ensures } in
     let (h, k) = other-inside in record { held = (held, c.requires.skeleton.1); le_root = (h, k, refl, c.requires.skeleton.0.few) }
 
 pub overflow_add-looked : goal.overflow_add-looked

@@ -1,6 +1,5 @@
 -- `form_coder::read_atoms` meets its contract. Assumes nothing.
-use Prim.Native.Nat.{ℕ, ◌-◌, ◌%◌}
-use lib.ListN.{length}
+use Prim.Native.Nat.{ℕ, ◌%◌}
 use Rattle.laws.specs.Laying.{Mapped}
 use Rattle.form_coder.proofs.read_atoms.Given as goal
 
@@ -9,6 +8,3 @@ rest m = m % 3
 
 abbrev pub invariant-loop-i : goal.invariant-loop-i
 invariant-loop-i l = Mapped rest l.code l.initial.atoms l.atoms l.i
-
-abbrev pub decreases-loop-i : goal.decreases-loop-i
-decreases-loop-i l = length l.code - l.i

@@ -1,9 +1,11 @@
 -- `form_coder::read_digits` meets its contract. Assumes nothing.
-use mathlib.Core.Path.{◌≡◌, sym, ◌∙◌, subst}
-use Prim.Native.Nat.{ℕ, ◌+◌, ◌/◌}
+use mathlib.Core.Path.{◌≡◌, refl, sym, subst}
+use mathlib.Core.List.{List, ◌++◌, append-nil}
+use Prim.Native.Nat.{ℕ, ◌+◌, ◌/◌, ◌≤◌}
 use native.Mathlib.Omega.{arith}
-use lib.ListN.{length, take, set}
-use lib.Seq.{length-take-le, get_or-take}
+use lib.ListN.{length, take, drop, set, length-map, drop_of_length-le}
+use lib.Seq.{length-take-le}
+use Rattle.laws.specs.document.Laid.{laid_over}
 use Rattle.laws.specs.Laying.{Mapped, mapped-none, mapped-more, mapped-all}
 use Rattle.skeleton.specs.document.Label.{digits}
 use Rattle.form_coder.proofs.Written.{mapped-behind}
@@ -12,27 +14,23 @@ use Rattle.form_coder.proofs.read_digits.Goals as goal
 abbrev third : ℕ → ℕ
 third m = m / 3
 
-pub loop-i-init : goal.loop-i-init
-loop-i-init c = let many : length (take c.args.n c.args.marks.now) ≡ c.args.n = length-take-le c.args.n c.args.marks.now c.requires in
-    mapped-none _ _ _ (omega (arith, many, c.requires))
+-- what is written over all of the first n stands over the whole
+over_front : (c old out : List ℕ) (n : ℕ) → n ≤ length old → length c ≡ n → out ≡ laid_over c (take n old) → out ++ drop n old ≡ laid_over c old
+unfolding laid_over
+over_front c old out n h l e =
+    let m : length (take n old) ≤ n = omega (arith, length-take-le n old h) in
+    rw (e, l, drop_of_length-le (take n old) m, append-nil) refl
 
-pub bounds-marks-i : goal.bounds-marks-i
-bounds-marks-i c = omega (arith, c.loop-i.invariant.long, c.loop-i-test.true, c.requires)
+pub loop-mark-init : goal.loop-mark-init
+loop-mark-init c = mapped-none _ _ _ (omega arith)
 
-pub bounds-marks-i-in-loop-i : goal.bounds-marks-i-in-loop-i
-bounds-marks-i-in-loop-i c = omega (arith, c.loop-i.invariant.long, c.loop-i-test.true, c.requires)
-
-pub loop-i-preserved : goal.loop-i-preserved
-loop-i-preserved c = let many : length (take c.args.n c.args.marks.now) ≡ c.args.n = length-take-le c.args.n c.args.marks.now c.requires in
-    let h = c.loop-i-test.true in
-    subst (λ x. Mapped third (take c.args.n c.args.marks.now) c.args.marks.now (set c.loop-i.marks c.loop-i.i (third x)) (c.loop-i.i + 1))
-    (get_or-take c.args.n c.args.marks.now c.loop-i.i 0 h ∙ sym (mapped-behind c.loop-i.invariant))
-    (mapped-more _ _ _ (omega (arith, many, c.requires)) c.loop-i.invariant (omega (arith, many, h)))
-
-pub shape_of-marks : goal.shape_of-marks
-shape_of-marks c = c.loop-i.invariant.long
+pub loop-mark-preserved : goal.loop-mark-preserved
+loop-mark-preserved c = let t : List ℕ = take c.args.n c.args.marks.now in
+    subst (λ x. Mapped third t t (set c.loop-mark.mark-items c.loop-mark.mark-index (third x)) (c.loop-mark.mark-index + 1))
+    (sym (mapped-behind c.loop-mark.invariant))
+    (mapped-more _ _ _ (omega arith) c.loop-mark.invariant (omega arith))
 
 pub returns : goal.returns
 unfolding digits
-returns c = let many : length (take c.args.n c.args.marks.now) ≡ c.args.n = length-take-le c.args.n c.args.marks.now c.requires in
-    mapped-all _ _ _ (omega (arith, many, c.requires)) c.loop-i.invariant (omega (arith, many, c.loop-i-test.false))
+returns c = let t : List ℕ = take c.args.n c.args.marks.now in
+    over_front _ _ _ _ c.requires (simp length-map (length-take-le c.args.n c.args.marks.now c.requires)) (mapped-all third t t (omega arith) c.loop-mark.invariant (omega arith))

@@ -1,28 +1,16 @@
--- `form_coder::widest` meets its contract: the loop keeps the greatest of those passed. Assumes nothing.
+-- `form_coder::widest` meets its contract: the greatest of none is 0. Assumes nothing.
+use mathlib.Core.Path.{◌≡◌, sym, ◌∙◌}
 use native.Mathlib.Omega.{arith}
-use Rattle.form_coder.proofs.Largest.{passed_none, passed_up, passed_by, passed-all}
+use lib.ListN.{take}
+use Rattle.std.specs.Prelude.{max}
+use Rattle.std.specs.List.{reduce}
+use Rattle.std.proofs.lemmas.Iterator.{YieldsList-from_slice}
+use Rattle.std.proofs.lemmas.Iterator.Adapters.{option_map_id}
+use Rattle.std.proofs.lemmas.Iterator.Consumers.{max_from_yields_List, YieldsList-from_copied}
+use Rattle.form_coder.proofs.Largest.{greatest}
 use Rattle.form_coder.proofs.widest.Goals as goal
 
-pub loop-i-init : goal.loop-i-init
-loop-i-init c = (omega arith, passed_none c.args.degs.now)
-
-pub bounds-degs-i : goal.bounds-degs-i
-bounds-degs-i c = omega arith
-
-pub overflow_add-i : goal.overflow_add-i
-overflow_add-i c = omega arith
-
-pub loop-i-smaller-then-d-k : goal.loop-i-smaller-then-d-k
-loop-i-smaller-then-d-k c = omega arith
-
-pub loop-i-preserved-then-d-k : goal.loop-i-preserved-then-d-k
-loop-i-preserved-then-d-k c = (omega arith, passed_up c.loop-i.invariant.1 (omega arith))
-
-pub loop-i-smaller : goal.loop-i-smaller
-loop-i-smaller c = omega arith
-
-pub loop-i-preserved : goal.loop-i-preserved
-loop-i-preserved c = (omega arith, passed_by c.loop-i.invariant.1 (λ h. omega arith))
-
 pub returns : goal.returns
-returns c = passed-all c.loop-i.invariant.1 (omega arith)
+returns c = let D = c.args.table.now.degs in
+    let e : c.max.result ≡ reduce max (take c.args.n D) = sym (option_map_id c.max.result) ∙ max_from_yields_List _ _ c.max.ensures.ran (YieldsList-from_copied (YieldsList-from_slice (take c.args.n D) cc)) in
+    rw (c.unwrap_or.ensures, e) (greatest D c.args.n (omega arith))

@@ -1,4 +1,5 @@
 -- `lettered_check::check` meets its contract: the marks of digits and letters are judged. Assumes nothing.
+use Rattle.refusal.proofs.Laws.{clear_of, behind, exits}
 use mathlib.Core.Path.{◌≡◌, sym, ap, ◌∙◌, subst}
 use mathlib.Core.List.{List, [], ◌∷◌, ◌++◌}
 use Prim.Native.Nat.{ℕ}
@@ -7,10 +8,8 @@ use lib.ListN.{length, take, replicate}
 use Rattle.laws.specs.document.Laid.{laid_over}
 use Rattle.laws.specs.Laying.{laid-front}
 use Rattle.refusal.specs.document.Table.{Clear, row3}
-use Rattle.refusal.specs.Checks.{Answers}
-use Rattle.refusal.specs.declared.Check.{Check}
-use Rattle.refusal.specs.Laws.{stops, was_clear, clear_left, others, at_least, at_most}
-use Rattle.refusal.proofs.Laws.{goes_on}
+use Rattle.refusal.specs.Checks.{Check, Answers}
+use Rattle.refusal.specs.Laws.{clear_left, others, at_least, at_most}
 use Rattle.limits.specs.document.Limits.{size, valence}
 use Rattle.digit_code.specs.Digits.{digits}
 use Rattle.skeleton.specs.document.Label.{row20}
@@ -22,14 +21,14 @@ use Rattle.lettered_check.specs.Lettered.{marks-digits, length_marks}
 use Rattle.lettered_check.specs.Rows.{lettered_rows, ends_there}
 use Rattle.lettered_check.proofs.check.Goals as goal
 
-pub returns-in-Refuse : goal.returns-in-Refuse
-returns-in-Refuse c = stops _ c.sized.ensures c.in-Refuse.is
+pub returns-in_err-sized : goal.returns-in_err-sized
+returns-in_err-sized c = exits _ c.from_residual.ensures.1 c.in_err-sized.ensures
 
 pub marks-requires : goal.marks-requires
-marks-requires c = let sizes : Clear (row3 size (length c.args.ds.now) ∷ []) = was_clear c.sized.ensures c.in_default.is in record { letters_len = c.requires; ds_in_bounds = at_most (sizes) }
+marks-requires c = let sizes : Clear (row3 size (length c.args.ds.now) ∷ []) = clear_of c.in_ok-sized.ensures in record { letters_len = c.requires; ds_in_bounds = at_most (sizes) }
 
 pub slice_bounds-ms-end : goal.slice_bounds-ms-end
-slice_bounds-ms-end c = let sizes : Clear (row3 size (length c.args.ds.now) ∷ []) = was_clear c.sized.ensures c.in_default.is in
+slice_bounds-ms-end c = let sizes : Clear (row3 size (length c.args.ds.now) ∷ []) = clear_of c.in_ok-sized.ensures in
     let m = at_most (sizes) in search rules
 
 pub slice_bounds-refused-end : goal.slice_bounds-refused-end
@@ -46,10 +45,10 @@ refused-requires c = let front : List ℕ = take (length c.args.ds.now) c.marks.
     let told : (front) ≡ (ms) → c.args.ds.now ≡ digits atoms.arity (front) = λ e. marks-digits c.args.ds.now c.args.letters.now c.requires ∙ ap (digits atoms.arity) (sym e) in
     let are-marks : c.marks.new.out ≡ laid_over (ms) (replicate size 0) → (front) ≡ (ms) = λ w. laid-front _ _ _ _ w (length_marks c.args.ds.now c.args.letters.now c.requires) in
     let crowded : front ≡ ms = are-marks (c.marks.ensures.crowded c.in-Crowded.is).0 in
-    let sizes : Clear (row3 size (length c.args.ds.now) ∷ []) = was_clear c.sized.ensures c.in_default.is in record { ds_value = told (crowded); ds_len_bound = at_most (sizes) }
+    let sizes : Clear (row3 size (length c.args.ds.now) ∷ []) = clear_of c.in_ok-sized.ensures in record { ds_value = told (crowded); ds_len_bound = at_most (sizes) }
 
 pub slice_bounds-ms-end-in-Kept : goal.slice_bounds-ms-end-in-Kept
-slice_bounds-ms-end-in-Kept c = let sizes : Clear (row3 size (length c.args.ds.now) ∷ []) = was_clear c.sized.ensures c.in_default.is in
+slice_bounds-ms-end-in-Kept c = let sizes : Clear (row3 size (length c.args.ds.now) ∷ []) = clear_of c.in_ok-sized.ensures in
     let m = at_most (sizes) in search rules
 
 pub slice_bounds-check_marks-end : goal.slice_bounds-check_marks-end
@@ -61,7 +60,7 @@ slice_bounds-check_marks-end c = let front : List ℕ = take (length c.args.ds.n
     as_many (kept)
 
 pub check_marks-requires : goal.check_marks-requires
-check_marks-requires c = let sizes : Clear (row3 size (length c.args.ds.now) ∷ []) = was_clear c.sized.ensures c.in_default.is in
+check_marks-requires c = let sizes : Clear (row3 size (length c.args.ds.now) ∷ []) = clear_of c.in_ok-sized.ensures in
     let front : List ℕ = take (length c.args.ds.now) c.marks.new.out in
     let ms : List ℕ = marks_of c.args.ds.now c.args.letters.now in
     let told : (front) ≡ (ms) → c.args.ds.now ≡ digits atoms.arity (front) = λ e. marks-digits c.args.ds.now c.args.letters.now c.requires ∙ ap (digits atoms.arity) (sym e) in
@@ -70,11 +69,11 @@ check_marks-requires c = let sizes : Clear (row3 size (length c.args.ds.now) ∷
     let k = sizes in record { ds_value = told (kept); in_bounds = at_least k; ds_len_bound = at_most k; clear = subst (λ (l : List ℕ). Clear (row20 atoms bonds l ∷ [])) (sym (kept)) (c.marks.ensures.kept c.in-Kept.is).1 }
 
 pub returns-in-High : goal.returns-in-High
-returns-in-High c = let behind : (r : Check) → Answers (lettered_rows valence c.args.ds.now c.args.letters.now) r → Answers (row3 size (length c.args.ds.now) ∷ lettered_rows valence c.args.ds.now c.args.letters.now) r = λ r a. goes_on c.sized.ensures c.in_default.is a in
+returns-in-High c = let behind : (r : Check) → Answers (lettered_rows valence c.args.ds.now c.args.letters.now) r → Answers (row3 size (length c.args.ds.now) ∷ lettered_rows valence c.args.ds.now c.args.letters.now) r = λ r a. behind c.in_ok-sized.ensures a in
     behind _ (ends_there _ (c.marks.ensures.high c.in-High.is) c.capped.ensures)
 
 pub returns-in-Crowded : goal.returns-in-Crowded
-returns-in-Crowded c = let behind : (r : Check) → Answers (lettered_rows valence c.args.ds.now c.args.letters.now) r → Answers (row3 size (length c.args.ds.now) ∷ lettered_rows valence c.args.ds.now c.args.letters.now) r = λ r a. goes_on c.sized.ensures c.in_default.is a in
+returns-in-Crowded c = let behind : (r : Check) → Answers (lettered_rows valence c.args.ds.now c.args.letters.now) r → Answers (row3 size (length c.args.ds.now) ∷ lettered_rows valence c.args.ds.now c.args.letters.now) r = λ r a. behind c.in_ok-sized.ensures a in
     let ms : List ℕ = marks_of c.args.ds.now c.args.letters.now in
     let front : List ℕ = take (length c.args.ds.now) c.marks.new.out in
     let are-marks : c.marks.new.out ≡ laid_over (ms) (replicate size 0) → (front) ≡ (ms) = λ w. laid-front _ _ _ _ w (length_marks c.args.ds.now c.args.letters.now c.requires) in
@@ -83,7 +82,7 @@ returns-in-Crowded c = let behind : (r : Check) → Answers (lettered_rows valen
     behind _ (ends_there _ (λ k. n (clear_left (row20 atoms bonds (ms) ∷ []) _ (others k))) (subst (λ (l : List ℕ). Answers (named_digit_rows valence c.args.ds.now l) c.refused.result) (crowded) c.refused.ensures))
 
 pub returns-in-Kept : goal.returns-in-Kept
-returns-in-Kept c = let behind : (r : Check) → Answers (lettered_rows valence c.args.ds.now c.args.letters.now) r → Answers (row3 size (length c.args.ds.now) ∷ lettered_rows valence c.args.ds.now c.args.letters.now) r = λ r a. goes_on c.sized.ensures c.in_default.is a in
+returns-in-Kept c = let behind : (r : Check) → Answers (lettered_rows valence c.args.ds.now c.args.letters.now) r → Answers (row3 size (length c.args.ds.now) ∷ lettered_rows valence c.args.ds.now c.args.letters.now) r = λ r a. behind c.in_ok-sized.ensures a in
     let front : List ℕ = take (length c.args.ds.now) c.marks.new.out in
     let ms : List ℕ = marks_of c.args.ds.now c.args.letters.now in
     let are-marks : c.marks.new.out ≡ laid_over (ms) (replicate size 0) → (front) ≡ (ms) = λ w. laid-front _ _ _ _ w (length_marks c.args.ds.now c.args.letters.now c.requires) in

@@ -1,14 +1,13 @@
 -- `lettered_check::lent` meets its contract: its checks answer for the table's rows in order. Assumes nothing.
-use Rattle.refusal.specs.Laws.{stops}
-use Rattle.refusal.proofs.Laws.{goes_on}
+use Rattle.refusal.proofs.Laws.{behind, exits}
 use Rattle.lettered_check.proofs.lent.Goals as goal
 
-pub returns-in-Refuse : goal.returns-in-Refuse
-returns-in-Refuse c = stops _ c.known.ensures c.in-Refuse.is
+pub returns-in_err-known : goal.returns-in_err-known
+returns-in_err-known c = exits _ c.from_residual.ensures.1 c.in_err-known.ensures
 
-pub returns-in-Refuse-sized : goal.returns-in-Refuse-sized
-returns-in-Refuse-sized c = goes_on c.known.ensures c.in_default.is (stops _ c.sized.ensures c.in-Refuse-sized.is)
+pub returns-in_err-sized : goal.returns-in_err-sized
+returns-in_err-sized c = behind c.in_ok-known.ensures (exits _ c.from_residual-in_err-sized.ensures.1 c.in_err-sized.ensures)
 
 pub returns : goal.returns
-returns c = goes_on c.known.ensures c.in_default.is
-    (goes_on c.sized.ensures c.in_default-sized.is c.as_many.ensures)
+returns c = behind c.in_ok-known.ensures
+    (behind c.in_ok-sized.ensures c.as_many.ensures)

@@ -2,24 +2,22 @@
 use mathlib.Core.Path.{◌≡◌, sym, ap, ◌∙◌, subst}
 use mathlib.Core.Bool.{Bool, true, false, true≢false, false≢true}
 use mathlib.Core.List.{List, [], ◌∷◌, map-id}
-use Prim.Native.Nat.{ℕ, ◌+◌, ◌-◌, ◌*◌, ◌≤◌, ◌<◌}
+use Prim.Native.Nat.{ℕ, ◌+◌, ◌*◌, ◌≤◌, ◌<◌}
 use native.Mathlib.Omega.{arith}
 use borrow.Author.Count.{below_more}
 use lib.ListN.{length, get_or, set}
 use Rattle.laws.specs.document.Laid.{laid_over}
-use Rattle.laws.specs.Each.{each_at}
 use Rattle.laws.specs.Tells.{tells}
 use Rattle.laws.specs.Laying.{Mapped, mapped-none, mapped-more, mapped-all}
 use Rattle.refusal.specs.document.Table.{Clear}
 use Rattle.refusal.specs.Laws.{never, clear_one}
-use Rattle.limits.specs.document.Limits.{valence}
 use Rattle.skeleton.specs.Atoms.{rank-under}
 use Rattle.skeleton.specs.document.Label.{row20}
-use Rattle.skeleton.specs.document.Atom.{bonds, atom_of}
+use Rattle.skeleton.specs.document.Atom.{bonds, rank, atom_of}
 use Rattle.skeleton.specs.document.AtomMarks.{atoms}
 use Rattle.lettered_check.specs.document.Lettered.{marks_of}
 use Rattle.lettered_check.specs.Lettered.{length_marks, mark-at}
-use Rattle.lettered_check.specs.Rows.{Low, above_applies, within_passes}
+use Rattle.lettered_check.specs.Rows.{above_applies, within_passes}
 use Rattle.lettered_check.proofs.mark.Goals.{then-top-k, else-top-k}
 use Rattle.lettered_check.proofs.mark.Goals as goal
 
@@ -27,49 +25,20 @@ use Rattle.lettered_check.proofs.mark.Goals as goal
 abbrev SoFar : List ℕ → Bool → ℕ → Type 0
 SoFar ms kept i = (kept ≡ true → (p : ℕ) → p < i + 1 → (row20 atoms bonds ms).applies p → ⊥) × (kept ≡ false → Clear (row20 atoms bonds ms ∷ []) → ⊥)
 
+-- the rank of an atom is below three
+low : (b : ℕ) {r : ℕ} → r ≡ rank (atom_of b) → r < 3
+low b e = omega (arith, e, rank-under (atom_of b))
+
+-- there is room for the marks
+room_for : (ds ls out : List ℕ) → length ls ≡ length ds → length ds ≤ length out → length (marks_of ds ls) ≤ length out
+room_for ds ls out e h = omega (arith, length_marks ds ls e)
+
 pub loop-i-init : goal.loop-i-init
-loop-i-init c = let long : length (marks_of c.args.ds.now c.args.letters.now) ≡ length c.args.ds.now = length_marks c.args.ds.now c.args.letters.now c.requires.letters_len in
-    let room : length (marks_of c.args.ds.now c.args.letters.now) ≤ length c.args.out.now = omega (arith, long, c.requires.ds_in_bounds) in
-    (mapped-none (λ m. m) _ _ (room), ((λ e p l a. let x : ⊥ = omega (arith, a.0) in x), λ e. absurd (true≢false e)))
-
-pub bounds-ds-i : goal.bounds-ds-i
-bounds-ds-i c = omega arith
-
-pub bounds-letters-i : goal.bounds-letters-i
-bounds-letters-i c = omega (arith, c.requires.letters_len)
-
-pub overflow_add-i : goal.overflow_add-i
-overflow_add-i c = omega arith
-
-pub overflow_sub-r : goal.overflow_sub-r
-overflow_sub-r c = let low : c.ranked-r.result < 3 = omega (arith, c.ranked-r.ensures, rank-under (atom_of (get_or c.args.letters.now c.loop-i.i 0))) in
-    omega (arith, low)
-
-pub top-requires : goal.top-requires
-top-requires c = let low : c.ranked-r.result < 3 = omega (arith, c.ranked-r.ensures, rank-under (atom_of (get_or c.args.letters.now c.loop-i.i 0))) in
-    omega (arith, low)
-
-pub overflow_mul-out : goal.overflow_mul-out
-overflow_mul-out c = let small : get_or c.args.ds.now c.loop-i.i 0 ≤ valence = each_at Low c.args.ds.now c.loop-i.i c.requires.each (omega arith) in
-    omega (arith, small)
-
-pub overflow_add-out : goal.overflow_add-out
-overflow_add-out c = let low : c.ranked-r.result < 3 = omega (arith, c.ranked-r.ensures, rank-under (atom_of (get_or c.args.letters.now c.loop-i.i 0))) in
-    let small : get_or c.args.ds.now c.loop-i.i 0 ≤ valence = each_at Low c.args.ds.now c.loop-i.i c.requires.each (omega arith) in
-    omega (arith, low, small)
-
-pub overflow_sub-out : goal.overflow_sub-out
-overflow_sub-out c = omega arith
-
-pub bounds-out-i : goal.bounds-out-i
-bounds-out-i c = omega (arith, c.loop-i.invariant.0.long, c.requires.ds_in_bounds)
-
-pub loop-i-smaller : goal.loop-i-smaller
-loop-i-smaller c = omega arith
+loop-i-init c =
+    (mapped-none (λ m. m) _ _ (room_for _ _ _ c.requires.letters_len c.requires.ds_in_bounds), ((λ e p l a. let x : ⊥ = omega (arith, a.0) in x), λ e. absurd (true≢false e)))
 
 pub loop-i-preserved : goal.loop-i-preserved
 loop-i-preserved c = let long : length (marks_of c.args.ds.now c.args.letters.now) ≡ length c.args.ds.now = length_marks c.args.ds.now c.args.letters.now c.requires.letters_len in
-    let room : length (marks_of c.args.ds.now c.args.letters.now) ≤ length c.args.out.now = omega (arith, long, c.requires.ds_in_bounds) in
     let ms : List ℕ = marks_of c.args.ds.now c.args.letters.now in
     let above : c.top.result < get_or c.args.ds.now c.loop-i.i 0 → c.if-top-k.kept ≡ false → SoFar (ms) c.if-top-k.kept (c.loop-i.i + 1) = λ t e. (
       λ f. absurd (false≢true (sym e ∙ f)),
@@ -83,18 +52,13 @@ loop-i-preserved c = let long : length (marks_of c.args.ds.now c.args.letters.no
     let ds = c.args.ds.now in
     let ls = c.args.letters.now in
     let e = mark-at ds ls c.loop-i.i c.requires.letters_len (omega arith) in
-    let q : get_or (marks_of ds ls) c.loop-i.i 0 ≡ 3 * get_or ds c.loop-i.i 0 + c.ranked-r.result = omega (arith, e, c.ranked-r.ensures) in
-    let p : c.loop-i.i + 1 - 1 ≡ c.loop-i.i = omega arith in (
-      rw p (subst (λ (m : ℕ). Mapped (λ m. m) (marks_of ds ls) c.args.out.now (set c.loop-i.out c.loop-i.i m) (c.loop-i.i + 1)) q
-          (mapped-more (λ m. m) (marks_of ds ls) c.args.out.now (room) c.loop-i.invariant.0 (omega (arith, long)))),
+    let q : get_or (marks_of ds ls) c.loop-i.i 0 ≡ 3 * get_or ds c.loop-i.i 0 + c.ranked-r.result = omega (arith, e, c.ranked-r.ensures) in (
+      subst (λ (m : ℕ). Mapped (λ m. m) (marks_of ds ls) c.args.out.now (set c.loop-i.out c.loop-i.i m) (c.loop-i.i + 1)) q
+          (mapped-more (λ m. m) (marks_of ds ls) c.args.out.now (room_for _ _ _ c.requires.letters_len c.requires.ds_in_bounds) c.loop-i.invariant.0 (omega (arith, long))),
       sofar,
     )
 
-pub shape_of-out : goal.shape_of-out
-shape_of-out c = c.loop-i.invariant.0.long
-
 pub returns : goal.returns
 returns c = let long : length (marks_of c.args.ds.now c.args.letters.now) ≡ length c.args.ds.now = length_marks c.args.ds.now c.args.letters.now c.requires.letters_len in
-    let room : length (marks_of c.args.ds.now c.args.letters.now) ≤ length c.args.out.now = omega (arith, long, c.requires.ds_in_bounds) in
     let all : c.loop-i.out ≡ laid_over (marks_of c.args.ds.now c.args.letters.now) c.args.out.now = let ms = marks_of c.args.ds.now c.args.letters.now in
-    mapped-all (λ m. m) ms c.args.out.now (room) c.loop-i.invariant.0 (omega (arith, long)) ∙ ap (λ (l : List ℕ). laid_over l c.args.out.now) (map-id ms) in record { out_after = all; tells = tells c.loop-i.kept (λ e. clear_one (λ p a. c.loop-i.invariant.1.0 e p (omega (arith, a.1, long)) a)) c.loop-i.invariant.1.1 }
+    mapped-all (λ m. m) ms c.args.out.now (room_for _ _ _ c.requires.letters_len c.requires.ds_in_bounds) c.loop-i.invariant.0 (omega (arith, long)) ∙ ap (λ (l : List ℕ). laid_over l c.args.out.now) (map-id ms) in record { out_after = all; tells = tells c.loop-i.kept (λ e. clear_one (λ p a. c.loop-i.invariant.1.0 e p (omega (arith, a.1, long)) a)) c.loop-i.invariant.1.1 }

@@ -2,8 +2,7 @@
 use mathlib.Core.Path.{◌≡◌}
 use mathlib.Core.Bool.{Bool, true, false}
 use mathlib.Core.List.{List, [], ◌∷◌}
-use Prim.Native.Nat.{ℕ, ◌+◌, ◌-◌, ◌<◌}
-use lib.ListN.{length}
+use Prim.Native.Nat.{ℕ, ◌+◌, ◌<◌}
 use Rattle.laws.specs.Laying.{Mapped}
 use Rattle.refusal.specs.document.Table.{Clear}
 use Rattle.skeleton.specs.document.Label.{row20}
@@ -18,6 +17,3 @@ SoFar ms kept i = (kept ≡ true → (p : ℕ) → p < i + 1 → (row20 atoms bo
 
 abbrev pub invariant-loop-i : goal.invariant-loop-i
 invariant-loop-i l = Mapped (λ m. m) (marks_of l.ds l.letters) l.initial.out l.out l.i × SoFar (marks_of l.ds l.letters) l.kept l.i
-
-abbrev pub decreases-loop-i : goal.decreases-loop-i
-decreases-loop-i l = length l.ds - l.i

@@ -2,12 +2,8 @@
 use mathlib.Core.Path.{◌≡◌, refl}
 use Prim.Native.Nat.{ℕ, zero, suc}
 use Rattle.skeleton.specs.document.Atom.{named, letter}
-use Rattle.letters.proofs.lettered.Goals as goal
 
 oxygen : (m : ℕ) → (m ≡ 0 → ⊥) → (m ≡ 1 → ⊥) → 79 ≡ letter (named m)
 oxygen zero c n = absurd (c refl)
 oxygen (suc zero) c n = absurd (n refl)
 oxygen (suc (suc m)) c n = refl
-
-pub returns : goal.returns
-returns c = oxygen c.args.rank c.if-rank-eq0.false c.if-rank-eq1.false

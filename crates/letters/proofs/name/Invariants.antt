@@ -1,6 +1,5 @@
 -- `letters::name` meets its contract. Assumes nothing.
-use Prim.Native.Nat.{ℕ, ◌-◌}
-use lib.ListN.{length}
+use Prim.Native.Nat.{ℕ}
 use Rattle.laws.specs.Laying.{Mapped}
 use Rattle.skeleton.specs.document.Atom.{rank, atom_of}
 use Rattle.letters.proofs.name.Given as goal
@@ -10,6 +9,3 @@ told b = rank (atom_of b)
 
 abbrev pub invariant-loop-i : goal.invariant-loop-i
 invariant-loop-i l = Mapped told l.letters l.initial.atoms l.atoms l.i
-
-abbrev pub decreases-loop-i : goal.decreases-loop-i
-decreases-loop-i l = length l.letters - l.i

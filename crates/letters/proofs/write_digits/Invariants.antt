@@ -1,6 +1,5 @@
 -- `letters::write_digits` meets its contract. Assumes nothing.
-use Prim.Native.Nat.{ℕ, ◌-◌, ◌/◌}
-use lib.ListN.{length}
+use Prim.Native.Nat.{ℕ, ◌/◌}
 use Rattle.laws.specs.Laying.{Mapped}
 use Rattle.letters.proofs.write_digits.Given as goal
 
@@ -9,6 +8,3 @@ third m = m / 3
 
 abbrev pub invariant-loop-i : goal.invariant-loop-i
 invariant-loop-i l = Mapped third l.marks l.initial.out l.out l.i
-
-abbrev pub decreases-loop-i : goal.decreases-loop-i
-decreases-loop-i l = length l.marks - l.i

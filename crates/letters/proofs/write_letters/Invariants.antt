@@ -1,6 +1,5 @@
 -- `letters::write_letters` meets its contract. Assumes nothing.
-use Prim.Native.Nat.{ℕ, ◌-◌, ◌%◌}
-use lib.ListN.{length}
+use Prim.Native.Nat.{ℕ, ◌%◌}
 use Rattle.laws.specs.Laying.{Mapped}
 use Rattle.skeleton.specs.document.Atom.{named, letter}
 use Rattle.letters.proofs.write_letters.Given as goal
@@ -11,6 +10,3 @@ told m = letter (named (m % 3))
 
 abbrev pub invariant-loop-i : goal.invariant-loop-i
 invariant-loop-i l = Mapped told l.marks l.initial.out l.out l.i
-
-abbrev pub decreases-loop-i : goal.decreases-loop-i
-decreases-loop-i l = length l.marks - l.i

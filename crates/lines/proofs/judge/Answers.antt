@@ -2,7 +2,6 @@
 use mathlib.Core.Path.{◌≡◌, sym, ap, subst, ◌∙◌}
 use mathlib.Core.List.{List}
 use Prim.Native.Nat.{ℕ}
-use borrow.Author.Rules.{rules}
 use lib.ListN.{length, take}
 use Rattle.laws.specs.Laying.{laid-front}
 use Rattle.refusal.specs.Checks.{Answers}
@@ -11,9 +10,6 @@ use Rattle.form.specs.document.Form.{IsCentred, form_rows}
 use Rattle.lines.specs.Form.{values}
 use Rattle.lines.specs.Taking.{length_values}
 use Rattle.lines.proofs.judge.Goals as goal
-
-pub read_digits-requires : goal.read_digits-requires
-read_digits-requires c = record { figures = search rules; room = search rules }
 
 pub slice_bounds-check-end : goal.slice_bounds-check-end
 slice_bounds-check-end c = let Values : Type 0 = let t = c.args.t.now in

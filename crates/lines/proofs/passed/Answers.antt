@@ -13,37 +13,7 @@ use Rattle.lines.proofs.passed.Goals as goal
 part-more : {P : ℕ → Type 0} {t : List ℕ} {i : ℕ} (n : ℕ) → Passed P t i → i + n ≤ length t → Each P (take n (drop i t)) → Passed P t (i + n)
 part-more {P} {t} {i} n h l f = record { within = l; each = rw (take-add i n t) (each-join P (take i t) (take n (drop i t)) h.each f) }
 
-pub loop-i-init : goal.loop-i-init
-loop-i-init c = c.requires
-
-pub overflow_sub-t : goal.overflow_sub-t
-overflow_sub-t c = c.loop-i.invariant.within
-
-pub overflow_add-i : goal.overflow_add-i
-overflow_add-i c = omega arith
-
-pub slice_bounds-none-count : goal.slice_bounds-none-count
-slice_bounds-none-count c = omega arith
-
-pub slice_bounds-none-start : goal.slice_bounds-none-start
-slice_bounds-none-start c = omega arith
-
-pub slice_bounds-none-end : goal.slice_bounds-none-end
-slice_bounds-none-end c = omega arith
-
-pub returns-then-not-none : goal.returns-then-not-none
-returns-then-not-none c = c.loop-i.invariant
-
-pub overflow_add-i-in-loop-i : goal.overflow_add-i-in-loop-i
-overflow_add-i-in-loop-i c = omega arith
-
-pub loop-i-smaller : goal.loop-i-smaller
-loop-i-smaller c = omega arith
-
 pub loop-i-preserved : goal.loop-i-preserved
 loop-i-preserved c = let f = c.none.ensures c.if-not-none.false in
     let e : c.loop-i.i + 16 - c.loop-i.i ≡ 16 = omega arith in
     part-more 16 c.loop-i.invariant (omega arith) (rw e at f)
-
-pub returns : goal.returns
-returns c = c.loop-i.invariant

@@ -1,11 +1,8 @@
 -- `lines::read_text` meets its contract: the loop keeps what is read so far. Assumes nothing.
-use mathlib.Core.Path.{refl}
-use Prim.Native.Nat.{◌+◌, ◌*◌}
+use mathlib.Core.Path.{◌≡◌, refl}
+use Prim.Native.Nat.{◌*◌}
 use native.Mathlib.Nat.{le-add_right}
 use native.Mathlib.Omega.{arith}
-use mir.Syntax.{w64}
-use mir.Val.{Fits}
-use borrow.Author.Count.{falls}
 use Rattle.limits.specs.document.Limits.{size}
 use Rattle.texts.specs.Turns.{read_none}
 use Rattle.texts.specs.Going.{lengths, room_now, going_more, not_past, at-end, no_room}
@@ -34,19 +31,16 @@ pub slice_bounds-read_line_of-start : goal.slice_bounds-read_line_of-start
 slice_bounds-read_line_of-start c = c.loop-k.invariant.read.within
 
 pub overflow_mul-k : goal.overflow_mul-k
-overflow_mul-k c = let word : Fits w64 (size * c.loop-k.k) × Fits w64 (size * c.loop-k.k + size) × Fits w64 (c.loop-k.k + 1) = let i = c.loop-k.invariant in
-    in_words c.loop-k.k (room_now (spacious _) i c.loop-k-test.true).0.0 (lengths (spacious _) i).0.0 c.well_formed.1.1.0.0 in
-    word.0
+overflow_mul-k c = let i = c.loop-k.invariant in
+    (in_words c.loop-k.k (room_now (spacious _) i c.loop-k-test.true).0.0 (lengths (spacious _) i).0.0 c.well_formed.1.1.0.0).0
 
 pub overflow_mul-k-in-loop-k : goal.overflow_mul-k-in-loop-k
-overflow_mul-k-in-loop-k c = let word : Fits w64 (size * c.loop-k.k) × Fits w64 (size * c.loop-k.k + size) × Fits w64 (c.loop-k.k + 1) = let i = c.loop-k.invariant in
-    in_words c.loop-k.k (room_now (spacious _) i c.loop-k-test.true).0.0 (lengths (spacious _) i).0.0 c.well_formed.1.1.0.0 in
-    word.0
+overflow_mul-k-in-loop-k c = let i = c.loop-k.invariant in
+    (in_words c.loop-k.k (room_now (spacious _) i c.loop-k-test.true).0.0 (lengths (spacious _) i).0.0 c.well_formed.1.1.0.0).0
 
 pub overflow_add-k : goal.overflow_add-k
-overflow_add-k c = let word : Fits w64 (size * c.loop-k.k) × Fits w64 (size * c.loop-k.k + size) × Fits w64 (c.loop-k.k + 1) = let i = c.loop-k.invariant in
-    in_words c.loop-k.k (room_now (spacious _) i c.loop-k-test.true).0.0 (lengths (spacious _) i).0.0 c.well_formed.1.1.0.0 in
-    word.1
+overflow_add-k c = let i = c.loop-k.invariant in
+    (in_words c.loop-k.k (room_now (spacious _) i c.loop-k-test.true).0.0 (lengths (spacious _) i).0.0 c.well_formed.1.1.0.0).1
 
 pub slice_bounds-read_line_of-count-in-loop-k : goal.slice_bounds-read_line_of-count-in-loop-k
 slice_bounds-read_line_of-count-in-loop-k c = le-add_right (size * c.loop-k.k) size
@@ -63,14 +57,6 @@ note-requires c = let r = room_now (spacious _) c.loop-k.invariant c.loop-k-test
 pub behind-at-requires : goal.behind-at-requires
 behind-at-requires c = not_past c.loop-k.invariant c.if-at-text.false
 
-pub overflow_add-k-in-loop-k : goal.overflow_add-k-in-loop-k
-overflow_add-k-in-loop-k c = let word : Fits w64 (size * c.loop-k.k) × Fits w64 (size * c.loop-k.k + size) × Fits w64 (c.loop-k.k + 1) = let i = c.loop-k.invariant in
-    in_words c.loop-k.k (room_now (spacious _) i c.loop-k-test.true).0.0 (lengths (spacious _) i).0.0 c.well_formed.1.1.0.0 in
-    word.2
-
-pub loop-k-smaller : goal.loop-k-smaller
-loop-k-smaller c = falls _ _ c.loop-k-test.true
-
 pub loop-k-preserved : goal.loop-k-preserved
 loop-k-preserved c = let i = c.loop-k.invariant in
     going_more (spacious _) i c.loop-k-test.true (not_past i c.if-at-text.false) c.read_line_of-r.ensures (c.note.ensures.numbers_after, c.note.ensures.places_after) c.behind-at.ensures
@@ -85,4 +71,6 @@ pub shape_of-places : goal.shape_of-places
 shape_of-places c = (lengths (spacious _) c.loop-k.invariant).2
 
 pub returns : goal.returns
-returns c = no_room c.loop-k.invariant c.loop-k-test.false
+returns c =
+    let e : c.loop-k.k ≡ c.room-lines.result = omega arith in
+    let r = no_room c.loop-k.invariant c.loop-k-test.false in rw e at r

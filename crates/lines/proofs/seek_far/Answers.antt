@@ -22,11 +22,5 @@ module _ {k n i : ℕ} {t : List ℕ} (l : n ≤ length t) (u : Until k (take n 
   far : n ≤ i → Passed (Other k) t n
   far h = record { within = l; each = let f = u.free in rw (take_all i (take n t) (rw (length-take-le n t l) h)) at f }
 
-pub slice_bounds-seek-end : goal.slice_bounds-seek-end
-slice_bounds-seek-end c = sym (length-take-le 16 c.args.t.now (omega arith))
-
 pub returns-then-near-lt-BLOCK : goal.returns-then-near-lt-BLOCK
 returns-then-near-lt-BLOCK c = near (omega arith) c.seek-near.ensures c.if-near-lt-BLOCK.true
-
-pub passed-requires : goal.passed-requires
-passed-requires c = far (omega arith) c.seek-near.ensures (omega arith)

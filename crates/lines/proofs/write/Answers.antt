@@ -1,8 +1,6 @@
 -- `lines::write` meets its contract: the count, the space, the digits and the line feed. Assumes nothing.
-use mathlib.Core.Path.{◌≡◌}
-use Prim.Native.Nat.{◌+◌, ◌^◌, ◌≤◌, ◌<◌}
 use native.Mathlib.Omega.{arith}
-use lib.ListN.{length, length-set}
+use lib.ListN.{length-set}
 use Rattle.lines.specs.Plain.{length_line}
 use Rattle.lines.proofs.Writing.{sizes, room-behind, long_joined, long_written, line-written}
 use Rattle.lines.proofs.write.Goals as goal
@@ -11,67 +9,35 @@ pub write_count-at-requires : goal.write_count-at-requires
 write_count-at-requires c = record { few = c.requires.few; room = omega (arith, c.requires.room, length_line c.args.code.now) }
 
 pub bounds-out-at : goal.bounds-out-at
-bounds-out-at c = let Sized : Type 0 = let a = c.args in
-    (c.write_count-at.result + length a.code.now + 2 ≤ length a.out.now) × (length c.write_count-at.new.out ≡ length a.out.now) in
-    let sized : Sized = sizes _ _ c.requires.room c.write_count-at.ensures in
-    let h = sized in omega arith
+bounds-out-at c = let h = sizes c.args.code.now c.args.out.now c.requires.room c.write_count-at.ensures in omega arith
 
 pub overflow_add-at : goal.overflow_add-at
-overflow_add-at c = let Sized : Type 0 = let a = c.args in
-    (c.write_count-at.result + length a.code.now + 2 ≤ length a.out.now) × (length c.write_count-at.new.out ≡ length a.out.now) in
-    let sized : Sized = sizes _ _ c.requires.room c.write_count-at.ensures in
-    let fits : c.write_count-at.result + length c.args.code.now + 2 < 2 ^ 64 = let h = sized in omega (arith, c.well_formed) in
-    let h = fits in omega arith
+overflow_add-at c = let h = sizes c.args.code.now c.args.out.now c.requires.room c.write_count-at.ensures in omega (arith, c.well_formed)
 
 pub slice_bounds-write_digits-count : goal.slice_bounds-write_digits-count
-slice_bounds-write_digits-count c = let Sized : Type 0 = let a = c.args in
-    (c.write_count-at.result + length a.code.now + 2 ≤ length a.out.now) × (length c.write_count-at.new.out ≡ length a.out.now) in
-    let sized : Sized = sizes _ _ c.requires.room c.write_count-at.ensures in
-    let h = sized in simp length-set (omega arith)
+slice_bounds-write_digits-count c = let h = sizes c.args.code.now c.args.out.now c.requires.room c.write_count-at.ensures in simp length-set (omega arith)
 
 pub slice_bounds-write_digits-start : goal.slice_bounds-write_digits-start
-slice_bounds-write_digits-start c = let Sized : Type 0 = let a = c.args in
-    (c.write_count-at.result + length a.code.now + 2 ≤ length a.out.now) × (length c.write_count-at.new.out ≡ length a.out.now) in
-    let sized : Sized = sizes _ _ c.requires.room c.write_count-at.ensures in
-    let h = sized in simp length-set (omega arith)
+slice_bounds-write_digits-start c = let h = sizes c.args.code.now c.args.out.now c.requires.room c.write_count-at.ensures in simp length-set (omega arith)
 
 pub write_digits-requires : goal.write_digits-requires
 write_digits-requires c = record { digits = c.requires.digits; room = room-behind _ _ c.requires.room c.write_count-at.ensures }
 
 pub overflow_add-out : goal.overflow_add-out
-overflow_add-out c = let Sized : Type 0 = let a = c.args in
-    (c.write_count-at.result + length a.code.now + 2 ≤ length a.out.now) × (length c.write_count-at.new.out ≡ length a.out.now) in
-    let sized : Sized = sizes _ _ c.requires.room c.write_count-at.ensures in
-    let fits : c.write_count-at.result + length c.args.code.now + 2 < 2 ^ 64 = let h = sized in omega (arith, c.well_formed) in
-    let h = fits in omega arith
+overflow_add-out c = let h = sizes c.args.code.now c.args.out.now c.requires.room c.write_count-at.ensures in omega (arith, c.well_formed)
 
 pub overflow_add-out-2 : goal.overflow_add-out-2
-overflow_add-out-2 c = let Sized : Type 0 = let a = c.args in
-    (c.write_count-at.result + length a.code.now + 2 ≤ length a.out.now) × (length c.write_count-at.new.out ≡ length a.out.now) in
-    let sized : Sized = sizes _ _ c.requires.room c.write_count-at.ensures in
-    let fits : c.write_count-at.result + length c.args.code.now + 2 < 2 ^ 64 = let h = sized in omega (arith, c.well_formed) in
-    let h = fits in omega arith
+overflow_add-out-2 c = let h = sizes c.args.code.now c.args.out.now c.requires.room c.write_count-at.ensures in omega (arith, c.well_formed)
 
 pub bounds-out-at-2 : goal.bounds-out-at-2
-bounds-out-at-2 c = let Sized : Type 0 = let a = c.args in
-    (c.write_count-at.result + length a.code.now + 2 ≤ length a.out.now) × (length c.write_count-at.new.out ≡ length a.out.now) in
-    let sized : Sized = sizes _ _ c.requires.room c.write_count-at.ensures in
-    let h = sized in
+bounds-out-at-2 c = let h = sizes c.args.code.now c.args.out.now c.requires.room c.write_count-at.ensures in
     omega (arith, long_joined _ _ c.requires.room c.write_count-at.ensures c.write_digits.ensures)
 
 pub overflow_add-result : goal.overflow_add-result
-overflow_add-result c = let Sized : Type 0 = let a = c.args in
-    (c.write_count-at.result + length a.code.now + 2 ≤ length a.out.now) × (length c.write_count-at.new.out ≡ length a.out.now) in
-    let sized : Sized = sizes _ _ c.requires.room c.write_count-at.ensures in
-    let fits : c.write_count-at.result + length c.args.code.now + 2 < 2 ^ 64 = let h = sized in omega (arith, c.well_formed) in
-    let h = fits in omega arith
+overflow_add-result c = let h = sizes c.args.code.now c.args.out.now c.requires.room c.write_count-at.ensures in omega (arith, c.well_formed)
 
 pub overflow_add-result-2 : goal.overflow_add-result-2
-overflow_add-result-2 c = let Sized : Type 0 = let a = c.args in
-    (c.write_count-at.result + length a.code.now + 2 ≤ length a.out.now) × (length c.write_count-at.new.out ≡ length a.out.now) in
-    let sized : Sized = sizes _ _ c.requires.room c.write_count-at.ensures in
-    let fits : c.write_count-at.result + length c.args.code.now + 2 < 2 ^ 64 = let h = sized in omega (arith, c.well_formed) in
-    let h = fits in omega arith
+overflow_add-result-2 c = let h = sizes c.args.code.now c.args.out.now c.requires.room c.write_count-at.ensures in omega (arith, c.well_formed)
 
 pub shape_of-out : goal.shape_of-out
 shape_of-out c = long_written _ _ c.requires.room c.write_count-at.ensures c.write_digits.ensures _ _

@@ -9,4 +9,4 @@ pub returns-then-out-done : goal.returns-then-out-done
 returns-then-out-done c = full _ _ _ _ c.if-n-skip.false c.if-out-done.true
 
 pub returns : goal.returns
-returns c = written _ _ _ _ _ _ c.if-n-skip.false c.if-out-done.false c.least-end.ensures c.copy.ensures.bytes
+returns c = written _ _ _ _ _ _ c.if-n-skip.false c.if-out-done.false c.min-end.ensures c.copy.ensures.bytes

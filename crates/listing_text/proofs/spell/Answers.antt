@@ -3,38 +3,20 @@ use native.Mathlib.Omega.{arith}
 use Rattle.listing_text.proofs.Spelling.{begun, room, digit-more, spelt}
 use Rattle.listing_text.proofs.spell.Goals as goal
 
-pub bounds-out-31 : goal.bounds-out-31
-bounds-out-31 c = omega arith
-
 pub loop-rest-init : goal.loop-rest-init
 loop-rest-init c = begun _ _ c.args.out.now (omega arith) c.requires
 
 pub overflow_sub-at : goal.overflow_sub-at
 overflow_sub-at c = room c.loop-rest.invariant
 
-pub overflow_cast-out : goal.overflow_cast-out
-overflow_cast-out c = omega arith
-
-pub overflow_add-out : goal.overflow_add-out
-overflow_add-out c = omega arith
-
 pub bounds-out-at : goal.bounds-out-at
 bounds-out-at c = omega (arith, c.loop-rest.invariant.within, room c.loop-rest.invariant)
-
-pub loop-rest-smaller : goal.loop-rest-smaller
-loop-rest-smaller c = omega arith
 
 pub loop-rest-preserved : goal.loop-rest-preserved
 loop-rest-preserved c = digit-more c.loop-rest.invariant (omega arith)
 
 pub overflow_sub-at-2 : goal.overflow_sub-at-2
 overflow_sub-at-2 c = room c.loop-rest.invariant
-
-pub overflow_cast-out-2 : goal.overflow_cast-out-2
-overflow_cast-out-2 c = omega arith
-
-pub overflow_add-out-2 : goal.overflow_add-out-2
-overflow_add-out-2 c = omega arith
 
 pub bounds-out-at-2 : goal.bounds-out-at-2
 bounds-out-at-2 c = omega (arith, c.loop-rest.invariant.within, room c.loop-rest.invariant)

@@ -1,7 +1,5 @@
 -- `named_lines::counts` meets its contract: two spaces, three numbers, and their comparison. Assumes nothing.
-use mathlib.Core.Path.{sym}
-use lib.Seq.{length-take-le}
-use Rattle.named_lines.specs.Finding.{no_first, no_second, not_first, not_second, not_third, matched, unmatched}
+use Rattle.named_lines.specs.Finding.{no_first, no_second, not_first, not_second, not_third, matched}
 use Rattle.named_lines.proofs.counts.Goals as goal
 
 pub returns-then-a-t : goal.returns-then-a-t
@@ -10,22 +8,14 @@ returns-then-a-t c = no_first c.until-a.ensures c.if-a-t.true
 pub returns-then-b-t : goal.returns-then-b-t
 returns-then-b-t c = no_second c.until-a.ensures c.if-a-t.false c.until.ensures c.if-b-t.true
 
-pub slice_bounds-number-end : goal.slice_bounds-number-end
-slice_bounds-number-end c = sym (length-take-le c.until-a.result c.args.t.now c.until-a.ensures.within)
+pub returns-in_err-c : goal.returns-in_err-c
+returns-in_err-c c = rw c.from_residual.ensures (not_first c.until-a.ensures c.if-a-t.false c.until.ensures c.if-b-t.false c.in_err-c.ensures)
 
-pub returns-then-c-eq101 : goal.returns-then-c-eq101
-returns-then-c-eq101 c = not_first c.until-a.ensures c.if-a-t.false c.until.ensures c.if-b-t.false c.number-c.ensures c.if-c-eq101.true
+pub returns-in_err-n : goal.returns-in_err-n
+returns-in_err-n c = rw c.from_residual-in_err-n.ensures (not_second c.until-a.ensures c.if-a-t.false c.until.ensures c.if-b-t.false c.in_err-n.ensures)
 
-pub returns-then-n-eq101 : goal.returns-then-n-eq101
-returns-then-n-eq101 c = not_second c.until-a.ensures c.if-a-t.false c.until.ensures c.if-b-t.false c.number-n.ensures c.if-n-eq101.true
-
-pub returns-then-o-eq101 : goal.returns-then-o-eq101
-returns-then-o-eq101 c = not_third c.until-a.ensures c.if-a-t.false c.until.ensures c.if-b-t.false c.number-o.ensures c.if-o-eq101.true
-
-pub returns-then-matching : goal.returns-then-matching
-returns-then-matching c = matched c.until-a.ensures c.if-a-t.false c.until.ensures c.if-b-t.false c.number-c.ensures c.if-c-eq101.false
-    c.number-n.ensures c.if-n-eq101.false c.number-o.ensures c.if-o-eq101.false c.matching.ensures c.if-matching.true
+pub returns-in_err-o : goal.returns-in_err-o
+returns-in_err-o c = rw c.from_residual-in_err-o.ensures (not_third c.until-a.ensures c.if-a-t.false c.until.ensures c.if-b-t.false c.in_err-o.ensures)
 
 pub returns : goal.returns
-returns c = unmatched c.until-a.ensures c.if-a-t.false c.until.ensures c.if-b-t.false c.number-c.ensures c.if-c-eq101.false
-    c.number-n.ensures c.if-n-eq101.false c.number-o.ensures c.if-o-eq101.false c.matching.ensures c.if-matching.false
+returns c = matched c.until-a.ensures c.if-a-t.false c.until.ensures c.if-b-t.false c.in_ok-c.ensures c.in_ok-n.ensures c.in_ok-o.ensures c.matching.ensures

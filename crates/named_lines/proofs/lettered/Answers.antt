@@ -1,30 +1,29 @@
--- `named_lines::lettered` meets its contract: the loop keeps that each byte passed is a letter. Assumes nothing.
+-- `named_lines::lettered` meets its contract: there is a byte, and each is a letter. Assumes nothing.
+use mathlib.Core.Bool.{Bool, true, false}
+use Prim.Native.Nat.{ℕ, ◌≤◌, ◌<◌}
+use mathlib.Core.List.{List}
 use native.Mathlib.Omega.{arith}
-use Rattle.laws.specs.Tells.{holds, denies, was_held, was_denied}
-use Rattle.laws.specs.Each.{passed-more, passed-all, each_at}
+use lib.ListN.{length}
+use Rattle.std.specs.Bool.{MatchBool}
+use Rattle.std.specs.List.{HoldsAt, AllWithin}
+use Rattle.std.proofs.Common.{rules, tests}
+use Rattle.std.proofs.lemmas.Bool.Decides.{nat_tests}
+use Rattle.std.proofs.lemmas.Iterator.{cases_from_all, YieldsList-from_slice}
+use Rattle.laws.specs.document.Each.{Each}
+use Rattle.laws.specs.Each.{each_at, each_of}
+use Rattle.laws.specs.Tells.{Tells, holds, denies, was_held, was_denied}
 use Rattle.skeleton.specs.document.Atom.{Letter}
 use Rattle.named_lines.proofs.lettered.Goals as goal
 
-pub returns-then-t-eq0 : goal.returns-then-t-eq0
-returns-then-t-eq0 c = denies (λ h. omega (arith, h.0))
+-- each byte of t is a letter, or one is none
+lettered_by : (t : List ℕ) {r : Bool} → 1 ≤ length t → MatchBool r (AllWithin Letter t 0 (length t)) ((k : ℕ) × (k < length t) × HoldsAt (λ b. Letter b → ⊥) t k) → Tells ((1 ≤ length t) × Each Letter t) r
+lettered_by t {r = true} l h = holds (l, each_of Letter t (λ i m. h i 0 (omega arith) m))
+lettered_by t {r = false} l h = denies (λ f. h.2 0 (each_at Letter t h.0 f.1 h.1))
 
-pub loop-i-init : goal.loop-i-init
-loop-i-init c = record { within = omega arith; each = tt }
+pub returns-then-not-is_empty : goal.returns-then-not-is_empty
+returns-then-not-is_empty c =
+    lettered_by _ (let n = c.if-not-is_empty.true in grind (arith, nat_tests))
+    (cases_from_all _ _ _ Letter (λ b. Letter b → ⊥) c.all.ensures.ran (YieldsList-from_slice c.args.t.now cc) (λ x q k. search (rules, tests, was_held)) (λ x q k. search (rules, tests, was_denied)))
 
-pub bounds-t-i : goal.bounds-t-i
-bounds-t-i c = omega arith
-
-pub returns-then-not-is_letter : goal.returns-then-not-is_letter
-returns-then-not-is_letter c = denies (λ h. was_denied c.is_letter.ensures c.if-not-is_letter.true (each_at Letter c.args.t.now c.loop-i.i h.1 (omega arith)))
-
-pub overflow_add-i : goal.overflow_add-i
-overflow_add-i c = omega arith
-
-pub loop-i-smaller : goal.loop-i-smaller
-loop-i-smaller c = omega arith
-
-pub loop-i-preserved : goal.loop-i-preserved
-loop-i-preserved c = passed-more c.loop-i.invariant (omega arith) (was_held c.is_letter.ensures c.if-not-is_letter.false)
-
-pub returns : goal.returns
-returns c = holds (omega arith, passed-all c.loop-i.invariant (omega arith))
+pub returns-else-not-is_empty : goal.returns-else-not-is_empty
+returns-else-not-is_empty c = let n = c.if-not-is_empty.false in rw n (denies (λ f. absurd (grind (arith, nat_tests))))

@@ -1,32 +1,23 @@
 -- `named_lines::put_front` meets its contract: the plain line, a space for its line feed, and the letters. Assumes nothing.
-use Prim.Native.Nat.{◌+◌, ◌≤◌}
 use native.Mathlib.Omega.{arith}
-use lib.ListN.{length, length-set, length-take, length-drop}
+use lib.ListN.{length-set, length-take, length-drop}
 use Rattle.named_lines.specs.NamedWriting.{plain-put, front-put, laid_long, opened_long}
 use Rattle.named_lines.proofs.put_front.Goals as goal
 
-pub write-at-requires : goal.write-at-requires
-write-at-requires c = record { few = c.requires.code_len_bound; digits = c.requires.digits; room = omega (arith, c.requires.letters_in_bounds) }
-
 pub overflow_sub-out : goal.overflow_sub-out
-overflow_sub-out c = let room : (1 ≤ c.write-at.result) × (c.write-at.result + length c.args.letters.now ≤ length c.write-at.new.out) = plain-put c.args.code.now c.args.letters.now c.args.out.now c.requires.letters_in_bounds c.write-at.ensures in
-    let h = room in omega arith
+overflow_sub-out c = let h = plain-put c.args.code.now c.args.letters.now c.args.out.now c.requires.letters_in_bounds c.write-at.ensures in omega arith
 
 pub bounds-out-at : goal.bounds-out-at
-bounds-out-at c = let room : (1 ≤ c.write-at.result) × (c.write-at.result + length c.args.letters.now ≤ length c.write-at.new.out) = plain-put c.args.code.now c.args.letters.now c.args.out.now c.requires.letters_in_bounds c.write-at.ensures in
-    let h = room in omega arith
+bounds-out-at c = let h = plain-put c.args.code.now c.args.letters.now c.args.out.now c.requires.letters_in_bounds c.write-at.ensures in omega arith
 
 pub slice_bounds-lay-count : goal.slice_bounds-lay-count
-slice_bounds-lay-count c = let room : (1 ≤ c.write-at.result) × (c.write-at.result + length c.args.letters.now ≤ length c.write-at.new.out) = plain-put c.args.code.now c.args.letters.now c.args.out.now c.requires.letters_in_bounds c.write-at.ensures in
-    let h = room in simp length-set (omega arith)
+slice_bounds-lay-count c = let h = plain-put c.args.code.now c.args.letters.now c.args.out.now c.requires.letters_in_bounds c.write-at.ensures in simp length-set (omega arith)
 
 pub slice_bounds-lay-start : goal.slice_bounds-lay-start
-slice_bounds-lay-start c = let room : (1 ≤ c.write-at.result) × (c.write-at.result + length c.args.letters.now ≤ length c.write-at.new.out) = plain-put c.args.code.now c.args.letters.now c.args.out.now c.requires.letters_in_bounds c.write-at.ensures in
-    let h = room in simp length-set (omega arith)
+slice_bounds-lay-start c = let h = plain-put c.args.code.now c.args.letters.now c.args.out.now c.requires.letters_in_bounds c.write-at.ensures in simp length-set (omega arith)
 
 pub lay-requires : goal.lay-requires
-lay-requires c = let room : (1 ≤ c.write-at.result) × (c.write-at.result + length c.args.letters.now ≤ length c.write-at.new.out) = plain-put c.args.code.now c.args.letters.now c.args.out.now c.requires.letters_in_bounds c.write-at.ensures in
-    let h = room in simp (length-take, length-drop, length-set) (omega arith)
+lay-requires c = let h = plain-put c.args.code.now c.args.letters.now c.args.out.now c.requires.letters_in_bounds c.write-at.ensures in simp (length-take, length-drop, length-set) (omega arith)
 
 pub shape_of-out : goal.shape_of-out
 shape_of-out c = laid_long ((front-put c.args.code.now c.args.letters.now c.args.out.now c.requires.letters_in_bounds c.write-at.ensures c.lay.ensures)) (omega (arith, c.requires.letters_in_bounds, opened_long c.args.code.now c.args.letters.now))

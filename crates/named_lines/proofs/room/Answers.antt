@@ -1,9 +1,15 @@
 -- `named_lines::room` meets its contract: the room of the shorter area. Assumes nothing.
-use Rattle.named_lines.specs.NamedText.{by_records, by_letters}
-use Rattle.named_lines.proofs.room.Goals as goal
+use mathlib.Core.Path.{◌≡◌}
+use Prim.Native.Nat.{ℕ, ◌<◌, min}
+use native.Mathlib.Omega.{arith}
+use Rattle.std.proofs.Math.Decide.{dec_lt}
+use Rattle.limits.specs.document.Limits.{size}
+use Rattle.lines.specs.Form.{Room}
+use Rattle.named_lines.specs.NamedText.{NamedRoom, by_records, by_letters}
 
-pub returns-then-letters-records : goal.returns-then-letters-records
-returns-then-letters-records c = by_letters c.if-letters-records.true c.room.ensures
-
-pub returns : goal.returns
-returns c = by_records c.if-letters-records.false c.room-2.ensures
+shorter : (records letters : ℕ) {numbers places r : ℕ} → Room size (min records letters) numbers places r → NamedRoom records letters numbers places r
+shorter a b {numbers} {places} {r} m = go (dec_lt b a)
+  where
+    go : Dec (b < a) → NamedRoom a b numbers places r
+    go (yes h) = let e : min a b ≡ b = omega arith in by_letters h (rw e at m)
+    go (no h) = let e : min a b ≡ a = omega arith in by_records (omega arith) (rw e at m)

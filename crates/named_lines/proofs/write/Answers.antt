@@ -1,9 +1,7 @@
 -- `named_lines::write` meets its contract: count, digits and letters, the counts, and the line feed. Assumes nothing.
-use mathlib.Core.Path.{◌≡◌}
-use Prim.Native.Nat.{◌+◌, ◌≤◌}
 use native.Mathlib.Omega.{arith}
 use borrow.Author.Rules.{rules}
-use lib.ListN.{length, length-set}
+use lib.ListN.{length-set}
 use Rattle.named_lines.specs.NamedWriting.{line_long, counts-room, feed-room, line-put}
 use Rattle.named_lines.proofs.write.Goals as goal
 
@@ -14,19 +12,13 @@ pub put_counts-end-requires : goal.put_counts-end-requires
 put_counts-end-requires c = let h = counts-room c.args.code.now c.args.letters.now c.args.out.now c.requires.letters_in_bounds c.put_front-at.ensures in record { letters_len_bound = omega (arith, c.requires.code_len_bound, c.requires.letters_len); letters_in_bounds = omega arith }
 
 pub bounds-out-end : goal.bounds-out-end
-bounds-out-end c = let Room : Type 0 = let n = length c.args.out.now in (c.put_counts-end.result + 1 ≤ n) × (length c.put_counts-end.new.out ≡ n) in
-    let room : Room = feed-room c.args.code.now c.args.letters.now c.args.out.now c.requires.letters_in_bounds c.put_front-at.ensures c.put_counts-end.ensures in
-    let h = room in omega arith
+bounds-out-end c = let h = feed-room c.args.code.now c.args.letters.now c.args.out.now c.requires.letters_in_bounds c.put_front-at.ensures c.put_counts-end.ensures in omega arith
 
 pub overflow_add-result : goal.overflow_add-result
-overflow_add-result c = let Room : Type 0 = let n = length c.args.out.now in (c.put_counts-end.result + 1 ≤ n) × (length c.put_counts-end.new.out ≡ n) in
-    let room : Room = feed-room c.args.code.now c.args.letters.now c.args.out.now c.requires.letters_in_bounds c.put_front-at.ensures c.put_counts-end.ensures in
-    let h = room in search rules
+overflow_add-result c = let h = feed-room c.args.code.now c.args.letters.now c.args.out.now c.requires.letters_in_bounds c.put_front-at.ensures c.put_counts-end.ensures in search rules
 
 pub shape_of-out : goal.shape_of-out
-shape_of-out c = let Room : Type 0 = let n = length c.args.out.now in (c.put_counts-end.result + 1 ≤ n) × (length c.put_counts-end.new.out ≡ n) in
-    let room : Room = feed-room c.args.code.now c.args.letters.now c.args.out.now c.requires.letters_in_bounds c.put_front-at.ensures c.put_counts-end.ensures in
-    let h = room in simp length-set h.1
+shape_of-out c = let h = feed-room c.args.code.now c.args.letters.now c.args.out.now c.requires.letters_in_bounds c.put_front-at.ensures c.put_counts-end.ensures in simp length-set h.1
 
 pub returns : goal.returns
 returns c = line-put c.args.code.now c.args.letters.now c.args.out.now c.requires.letters_in_bounds c.put_front-at.ensures c.put_counts-end.ensures

@@ -1,33 +1,32 @@
 -- `renumber::check_marks` meets its contract: a check that refuses answers for the whole table, and behind one that passes the rest does. Assumes nothing.
-use mathlib.Core.Path.{◌≡◌, sym, subst}
-use Prim.Native.Nat.{ℕ}
-use lib.ListN.{length}
-use Rattle.refusal.specs.Laws.{stops, was_clear}
-use Rattle.refusal.proofs.Laws.{goes_on}
-use Rattle.refusal.specs.declared.Check.TheVariants.{Passed}
+use Rattle.std.specs.Prelude.{ℕ, List, [], ◌∷◌}
+use Rattle.std.proofs.Common.{sym, subst}
+use Rattle.refusal.specs.document.Table.{Clear}
+use Rattle.refusal.proofs.Laws.{clear_of, behind, exits}
 use Rattle.skeleton.specs.document.Atom.{Atom}
 use Rattle.letters.specs.Named.{Named}
+use Rattle.renumber.specs.document.Map.{row5_map}
 use Rattle.renumber.specs.Exactly.{map_sizes}
 use Rattle.renumber.specs.Handing.{sent}
 use Rattle.renumber.proofs.check_marks.Goals as goal
 
-pub returns-in-Refuse : goal.returns-in-Refuse
-returns-in-Refuse c l k x y = stops _ c.sizes.ensures c.in-Refuse.is
+-- what is named of as many vertices as the second list has is so of as many as the first has
+carried : {n m : ℕ} (map : List ℕ) (k : ℕ → Atom) {atoms : List ℕ} → Clear (row5_map n m map ∷ []) → Named m k atoms → Named n k atoms
+carried {n} {m} map k {atoms} c y = subst (λ i. Named i k atoms) (sym (map_sizes n m map c).0) y
+
+pub returns-in_err-sizes : goal.returns-in_err-sizes
+returns-in_err-sizes c l k x y = exits _ c.from_residual.ensures.1 c.in_err-sizes.ensures
 
 pub entries-requires : goal.entries-requires
-entries-requires c = let sized : c.sizes.result ≡ Passed → (c.args.n1 ≡ c.args.n2) × (length c.args.map.now ≡ c.args.n1) = λ e. map_sizes c.args.n1 c.args.n2 c.args.map.now (was_clear c.sizes.ensures e) in
-    (c.requires.few, (sized c.in_default.is).1)
+entries-requires c = (c.requires.few, (map_sizes _ _ _ (clear_of c.in_ok-sizes.ensures)).1)
 
-pub returns-in-Refuse-entries : goal.returns-in-Refuse-entries
-returns-in-Refuse-entries c l k x y = let sized : c.sizes.result ≡ Passed → (c.args.n1 ≡ c.args.n2) × (length c.args.map.now ≡ c.args.n1) = λ e. map_sizes c.args.n1 c.args.n2 c.args.map.now (was_clear c.sizes.ensures e) in
-    let carried : c.sizes.result ≡ Passed → (k : ℕ → Atom) → Named c.args.n2 k c.args.atoms2.now → Named c.args.n1 k c.args.atoms2.now = λ e k y. subst (λ n. Named n k c.args.atoms2.now) (sym (sized e).0) y in
-    goes_on c.sizes.ensures c.in_default.is (stops _ (c.entries.ensures l k x (carried c.in_default.is k y)) c.in-Refuse-entries.is)
+pub returns-in_err-entries : goal.returns-in_err-entries
+returns-in_err-entries c l k x y =
+    behind c.in_ok-sizes.ensures (exits _ c.from_residual-in_err-entries.ensures.1 (c.in_err-entries.ensures l k x (carried c.args.map.now k (clear_of c.in_ok-sizes.ensures) y)))
 
 pub edges-requires : goal.edges-requires
-edges-requires c = let sized : c.sizes.result ≡ Passed → (c.args.n1 ≡ c.args.n2) × (length c.args.map.now ≡ c.args.n1) = λ e. map_sizes c.args.n1 c.args.n2 c.args.map.now (was_clear c.sizes.ensures e) in
-    sent c.requires.tree c.args.map.now (sized c.in_default.is).1
+edges-requires c = sent c.requires.tree c.args.map.now (map_sizes _ _ _ (clear_of c.in_ok-sizes.ensures)).1
 
 pub returns : goal.returns
-returns c l k x y = let sized : c.sizes.result ≡ Passed → (c.args.n1 ≡ c.args.n2) × (length c.args.map.now ≡ c.args.n1) = λ e. map_sizes c.args.n1 c.args.n2 c.args.map.now (was_clear c.sizes.ensures e) in
-    let carried : c.sizes.result ≡ Passed → (k : ℕ → Atom) → Named c.args.n2 k c.args.atoms2.now → Named c.args.n1 k c.args.atoms2.now = λ e k y. subst (λ n. Named n k c.args.atoms2.now) (sym (sized e).0) y in
-    goes_on c.sizes.ensures c.in_default.is (goes_on (c.entries.ensures l k x (carried c.in_default.is k y)) c.in_default-entries.is c.edges.ensures)
+returns c l k x y =
+    behind c.in_ok-sizes.ensures (behind (c.in_ok-entries.ensures l k x (carried c.args.map.now k (clear_of c.in_ok-sizes.ensures) y)) c.edges.ensures)

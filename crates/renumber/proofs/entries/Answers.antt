@@ -2,7 +2,7 @@
 use mathlib.Core.Path.{◌≡◌, sym, subst}
 use mathlib.Core.Logic.{◌↔◌, inl, inr, ⊎_elim}
 use mathlib.Core.List.{List}
-use Prim.Native.Nat.{ℕ, ◌≤◌, ◌<◌}
+use Prim.Native.Nat.{ℕ, ◌+◌, ◌≤◌, ◌<◌}
 use native.Mathlib.Omega.{arith}
 use borrow.Author.Count.{below_more}
 use Rattle.laws.specs.Tells.{was_held, was_denied}
@@ -16,6 +16,7 @@ use Rattle.renumber.specs.document.Map.{Entry, image}
 use Rattle.renumber.specs.document.Kept.{row18-kept}
 use Rattle.renumber.proofs.Atoms.{inside, same_ranks}
 use Rattle.renumber.proofs.entries.Goals as goal
+use Rattle.renumber.proofs.entries.Goals.{Else-not-kept, then-outside-via-then-outside, then-outside-via-else-outside+then-repeats, then-outside-via-else-outside+else-repeats+then-not-kept}
 
 -- it applies at none before p, whatever the atoms are
 abbrev None : ℕ → List ℕ → List ℕ → List ℕ → ℕ → Type 0
@@ -25,47 +26,35 @@ None n a b map p = (l k : ℕ → Atom) → Named n l a → Named n k b → (q :
 at_entry : (l k : ℕ → Atom) (n : ℕ) (w : List ℕ) (q : ℕ) → (row18-kept l k n w).applies q → Entry w q
 at_entry l k n w q a = ⊎_elim (λ z. z.0) (λ z. z.0) a
 
-pub loop-p-init : goal.loop-p-init
-loop-p-init c = (omega arith, omega arith, λ l k x y q h a. let n : ⊥ = omega (arith, at_entry l k c.args.n c.args.map.now q a) in n)
+-- two vertices' ranks are equal just where their atoms are
+ranks : {n p x : ℕ} {a b : List ℕ} (w : List ℕ) {l k : ℕ → Atom} → Named n l a → Named n k b → (1 ≤ p) × (p ≤ n) → (Outside n x → ⊥) → x ≡ image w p
+    → (rank_at a p ≡ rank_at b x) ↔ (k (image w p) ≡ l p)
+ranks w y z i f e = rw (← e) (same_ranks y z _ _ i (inside f))
 
-pub entry-x-requires : goal.entry-x-requires
-entry-x-requires c = omega arith
+-- it applies at none up to p
+more : (c : Else-not-kept) → None c.args.n c.args.atoms1.now c.args.atoms2.now c.args.map.now (c.loop-p.p + 1)
+more c l k x y =
+    let within = was_denied c.outside.ensures c.if-outside.false in
+    below_more _ _ (c.loop-p.invariant l k x y) (⊎_elim
+    (λ h. ⊎_elim (λ z. within (subst (Outside _) (sym c.entry-x.ensures) z)) (λ z. was_denied c.repeats.ensures c.if-repeats.false z) h.1)
+    (λ h. h.1 ((ranks c.args.map.now x y (omega arith, omega (arith, c.requires)) within c.entry-x.ensures).0 (was_held c.kept.ensures c.if-not-kept.false))))
 
 pub returns-then-outside : goal.returns-then-outside
-returns-then-outside c l k x y = fails (first-place (inl ((omega arith, omega arith), inl (rw c.entry-x.ensures at (was_held c.outside.ensures c.if-outside.true)))) (c.loop-p.invariant.2 l k x y))
-
-pub repeats-requires : goal.repeats-requires
-repeats-requires c = omega arith
-
-pub returns-then-repeats : goal.returns-then-repeats
-returns-then-repeats c l k x y = fails (first-place (inl ((omega arith, omega arith), inr (was_held c.repeats.ensures c.if-repeats.true))) (c.loop-p.invariant.2 l k x y))
-
-pub kept-requires : goal.kept-requires
-kept-requires c = let vertex : (1 ≤ c.entry-x.result) × (c.entry-x.result ≤ c.args.n) = inside (was_denied c.outside.ensures c.if-outside.false) in
-    let (h, i) = vertex in
-    (omega arith, omega (arith, c.requires), h, omega (arith, c.requires))
-
-pub overflow_add-p : goal.overflow_add-p
-overflow_add-p c = omega arith
-
-pub loop-p-smaller : goal.loop-p-smaller
-loop-p-smaller c = omega arith
+returns-then-outside c l k x y =
+    fails (first-place (elim c.then-outside.branch [
+      | then-outside-via-then-outside w ↦ inl ((omega arith, omega arith), inl (rw c.entry-x.ensures at (was_held c.outside.ensures w.if-outside.true)))
+      | then-outside-via-else-outside+then-repeats w ↦ inl ((omega arith, omega arith), inr (was_held w.repeats.ensures w.if-repeats.true))
+      | then-outside-via-else-outside+else-repeats+then-not-kept w ↦
+          let within = was_denied c.outside.ensures w.if-outside.false in
+          inr ((omega arith, omega arith), λ e. was_denied w.kept.ensures w.if-not-kept.true ((ranks c.args.map.now x y (omega arith, omega (arith, c.requires)) within c.entry-x.ensures).1 e))
+    ]) (c.loop-p.invariant l k x y))
 
 pub loop-p-preserved : goal.loop-p-preserved
-loop-p-preserved c = let vertex : (1 ≤ c.entry-x.result) × (c.entry-x.result ≤ c.args.n) = inside (was_denied c.outside.ensures c.if-outside.false) in
-    let ranks : (l k : ℕ → Atom) → Named c.args.n l c.args.atoms1.now → Named c.args.n k c.args.atoms2.now → (rank_at c.args.atoms1.now c.loop-p.p ≡ rank_at c.args.atoms2.now c.entry-x.result) ↔ (k (image c.args.map.now c.loop-p.p) ≡ l c.loop-p.p) = λ l k x y. rw (← c.entry-x.ensures) (same_ranks x y c.loop-p.p c.entry-x.result (omega arith, omega (arith, c.requires)) (vertex)) in (
-      omega arith,
-      omega arith,
-      λ l k x y.
-          below_more _ _ (c.loop-p.invariant.2 l k x y) (⊎_elim
-          (λ h. ⊎_elim (λ z. was_denied c.outside.ensures c.if-outside.false (subst (Outside _) (sym c.entry-x.ensures) z)) (λ z. was_denied c.repeats.ensures c.if-repeats.false z) h.1)
-          (λ h. h.1 ((ranks l k x y).0 (was_held c.kept.ensures c.if-kept.true)))),
-    )
-
-pub returns-else-kept : goal.returns-else-kept
-returns-else-kept c l k x y = let vertex : (1 ≤ c.entry-x.result) × (c.entry-x.result ≤ c.args.n) = inside (was_denied c.outside.ensures c.if-outside.false) in
-    let ranks : (l k : ℕ → Atom) → Named c.args.n l c.args.atoms1.now → Named c.args.n k c.args.atoms2.now → (rank_at c.args.atoms1.now c.loop-p.p ≡ rank_at c.args.atoms2.now c.entry-x.result) ↔ (k (image c.args.map.now c.loop-p.p) ≡ l c.loop-p.p) = λ l k x y. rw (← c.entry-x.ensures) (same_ranks x y c.loop-p.p c.entry-x.result (omega arith, omega (arith, c.requires)) (vertex)) in
-    fails (first-place (inr ((omega arith, omega arith), λ e. was_denied c.kept.ensures c.if-kept.false ((ranks l k x y).1 e))) (c.loop-p.invariant.2 l k x y))
+loop-p-preserved c = more (goal.at.loop-p-preserved c).Else-not-kept
 
 pub returns : goal.returns
-returns c l k x y = passes (clear_one (λ q a. c.loop-p.invariant.2 l k x y q (omega (arith, at_entry l k c.args.n c.args.map.now q a)) a))
+returns c l k x y = passes (clear_one (λ q a. c.loop-p.invariant l k x y q (omega (arith, at_entry l k c.args.n c.args.map.now q a)) a))
+
+pub returns-else-not-kept : goal.returns-else-not-kept
+returns-else-not-kept c l k x y =
+    passes (clear_one (λ q a. more (goal.at.returns-else-not-kept c).Else-not-kept l k x y q (omega (arith, at_entry l k c.args.n c.args.map.now q a)) a))

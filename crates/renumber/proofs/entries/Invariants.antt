@@ -1,7 +1,6 @@
 -- `renumber::entries` meets its contract. The loop's invariant: 18 applies at no entry before p. Assumes nothing.
 use mathlib.Core.List.{List}
-use Prim.Native.Nat.{ℕ, ◌+◌, ◌-◌, ◌≤◌, ◌<◌}
-use lib.ListN.{length}
+use Prim.Native.Nat.{ℕ, ◌<◌}
 use Rattle.skeleton.specs.document.Atom.{Atom}
 use Rattle.letters.specs.Named.{Named}
 use Rattle.renumber.specs.document.Kept.{row18-kept}
@@ -12,7 +11,4 @@ abbrev None : ℕ → List ℕ → List ℕ → List ℕ → ℕ → Type 0
 None n a b map p = (l k : ℕ → Atom) → Named n l a → Named n k b → (q : ℕ) → q < p → (row18-kept l k n map).applies q → ⊥
 
 abbrev pub invariant-loop-p : goal.invariant-loop-p
-invariant-loop-p l = (1 ≤ l.p) × (l.p ≤ length l.map + 1) × None l.n l.atoms1 l.atoms2 l.map l.p
-
-abbrev pub decreases-loop-p : goal.decreases-loop-p
-decreases-loop-p l = length l.map + 1 - l.p
+invariant-loop-p l = None l.n l.atoms1 l.atoms2 l.map l.p

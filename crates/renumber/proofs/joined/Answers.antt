@@ -11,6 +11,7 @@ use Rattle.edge_list.specs.document.Edges.{Edge, first_end, second_end, before}
 use Rattle.edge_list.specs.Prefix.{arcs-none, arcs-more, arcs-all}
 use Rattle.renumber.specs.Accepted.{edge_arcs}
 use Rattle.renumber.proofs.joined.Goals as goal
+use Rattle.renumber.proofs.joined.Goals.{Else-same-2, then-same-via-then-same, then-same-via-else-same+then-same-2}
 
 -- edge p, from u to v: one more that is passed
 module _ (F : List ℕ) (p : ℕ) (h : Edge F p) {a b u v : ℕ} (i : u ≡ first_end F p) (j : v ≡ second_end F p) where
@@ -25,33 +26,26 @@ module _ (F : List ℕ) (p : ℕ) (h : Edge F p) {a b u v : ℕ} (i : u ≡ firs
   back : ◌≡◌ {A = Arc} (a, b) (v, u) → Memᴰ (a, b) (arcs F)
   back e = Memᴰ.cast (e ∙ ap₂ (λ (x y : ℕ). (x, y)) j i) (edge_arcs F p h).1
 
+-- none up to p does
+more : (c : Else-same-2) → Memᴰ (c.args.a, c.args.b) (arcs (before c.args.edges.now (c.loop-p.p + 1))) → ⊥
+more c =
+    passed _ c.loop-p.p (omega arith, omega arith) c.one-u.ensures.0 c.other-v.ensures.0 c.loop-p.invariant (was_denied c.same.ensures c.if-same.false)
+    (was_denied c.same-else-same.ensures c.if-same-2.false)
+
 pub loop-p-init : goal.loop-p-init
-loop-p-init c = (omega arith, omega arith, λ m. Memᴰ.not-nil (rw (arcs-none _) at m))
-
-pub one-u-requires : goal.one-u-requires
-one-u-requires c = omega arith
-
-pub other-v-requires : goal.other-v-requires
-other-v-requires c = omega arith
+loop-p-init c = λ m. Memᴰ.not-nil (rw (arcs-none _) at m)
 
 pub returns-then-same : goal.returns-then-same
-returns-then-same c = holds (forth _ c.loop-p.p (omega arith, omega arith) c.one-u.ensures.0 c.other-v.ensures.0 (was_held c.same.ensures c.if-same.true))
-
-pub returns-then-same-2 : goal.returns-then-same-2
-returns-then-same-2 c = holds (back _ c.loop-p.p (omega arith, omega arith) c.one-u.ensures.0 c.other-v.ensures.0 (was_held c.same-in-loop-p.ensures c.if-same-2.true))
-
-pub overflow_add-p : goal.overflow_add-p
-overflow_add-p c = omega arith
-
-pub loop-p-smaller : goal.loop-p-smaller
-loop-p-smaller c = omega arith
+returns-then-same c = holds (elim c.then-same.branch [
+  | then-same-via-then-same w ↦ forth _ c.loop-p.p (omega arith, omega arith) c.one-u.ensures.0 c.other-v.ensures.0 (was_held c.same.ensures w.if-same.true)
+  | then-same-via-else-same+then-same-2 w ↦ back _ c.loop-p.p (omega arith, omega arith) c.one-u.ensures.0 c.other-v.ensures.0 (was_held w.same-else-same.ensures w.if-same-2.true)
+])
 
 pub loop-p-preserved : goal.loop-p-preserved
-loop-p-preserved c = (
-  omega arith,
-  omega arith,
-  passed _ c.loop-p.p (omega arith, omega arith) c.one-u.ensures.0 c.other-v.ensures.0 c.loop-p.invariant.2 (was_denied c.same.ensures c.if-same.false) (was_denied c.same-in-loop-p.ensures c.if-same-2.false),
-)
+loop-p-preserved c = more (goal.at.loop-p-preserved c).Else-same-2
 
 pub returns : goal.returns
-returns c = denies (λ m. c.loop-p.invariant.2 (rw (arcs-all c.args.edges.now c.loop-p.p (omega arith)) m))
+returns c = denies (λ m. c.loop-p.invariant (rw (arcs-all c.args.edges.now c.loop-p.p (omega arith)) m))
+
+pub returns-else-same-2 : goal.returns-else-same-2
+returns-else-same-2 c = denies (λ m. more (goal.at.returns-else-same-2 c).Else-same-2 (rw (arcs-all c.args.edges.now (c.loop-p.p + 1) (omega arith)) m))

@@ -15,7 +15,6 @@ use Rattle.rooted_coder.proofs.fill.Goals as goal
 module _ {d a s₀ s : List ℕ} {n i : ℕ} (g : Marking d a s₀ s n i) (fits : n < length s₀) where
   more : (k x : ℕ) → i < n → k ≡ get_or d i 0 - 1 → x ≡ 3 * k + get_or a i 0 → Marking d a s₀ (set s (i + 1) x) n (i + 1)
   more k x h f e = record {
-    within = omega arith;
     long = length-set s (i + 1) x ∙ g.long;
     done = λ v l m. step v l m (ℕ_discrete v (i + 1));
   }
@@ -33,20 +32,20 @@ module _ {d a s₀ s : List ℕ} {n i : ℕ} (g : Marking d a s₀ s n i) (fits 
   )
 
 pub loop-v-init : goal.loop-v-init
-loop-v-init c = record { within = omega arith; long = refl; done = λ v h k. let z : ⊥ = omega arith in absurd z }
+loop-v-init c = record { long = refl; done = λ v h k. let z : ⊥ = omega arith in absurd z }
 
 -- the mark of the next vertex fits
-pub written-m-requires : goal.written-m-requires
-written-m-requires c = let (d, a) = c.requires.4 c.loop-v.v c.loop-v-test.true in
-    (omega (arith, c.less-k.ensures), a)
+pub written-requires : goal.written-requires
+written-requires c = let (d, a) = c.requires.4 c.loop-v.v c.loop-v-test.true in
+    (omega (arith, c.saturating_sub-k.ensures), a)
 
 pub loop-v-preserved : goal.loop-v-preserved
 loop-v-preserved c = let (low, high, few, room, small) = c.requires in
-    more c.loop-v.invariant (omega arith) c.less-k.result c.written-m.result c.loop-v-test.true c.less-k.ensures c.written-m.ensures
+    more c.loop-v.invariant (omega arith) c.saturating_sub-k.result c.written.result c.loop-v-test.true (omega (arith, c.saturating_sub-k.ensures)) c.written.ensures
 
-pub written-requires : goal.written-requires
-written-requires c = c.requires.4 (c.args.root - 1) (omega arith)
+pub written-requires-2 : goal.written-requires-2
+written-requires-2 c = c.requires.4 (c.args.root - 1) (omega arith)
 
 pub returns : goal.returns
 returns c = let (low, high, few, room, small) = c.requires in
-    filled c.loop-v.invariant (omega arith) c.args.root c.written.result low high (omega arith) c.written.ensures
+    filled c.loop-v.invariant (omega arith) c.args.root c.written-2.result low high (omega arith) c.written-2.ensures

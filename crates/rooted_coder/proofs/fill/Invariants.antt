@@ -9,12 +9,8 @@ use Rattle.rooted_coder.proofs.fill.Given as goal
 
 -- the vertices up to i have marks
 pub record Marking (d a s₀ s : List ℕ) (n i : ℕ) : Type 0 where
-  pub within : i ≤ n
   pub long : length s ≡ length s₀
   pub done : (v : ℕ) → 1 ≤ v → v ≤ i → get_or s v 0 ≡ 3 * (deg d v - 1) + rank_at a v
 
 abbrev pub invariant-loop-v : goal.invariant-loop-v
-invariant-loop-v l = Marking l.degs l.atoms l.initial.marks l.marks l.n l.v
-
-abbrev pub decreases-loop-v : goal.decreases-loop-v
-decreases-loop-v l = l.n - l.v
+invariant-loop-v l = Marking l.table.degs l.atoms l.initial.marks l.marks l.n l.v

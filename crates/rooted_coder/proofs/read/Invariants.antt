@@ -1,5 +1,4 @@
 -- `rooted_coder::read` meets its contract. Assumes nothing.
-use Prim.Native.Nat.{◌-◌}
 use lib.ListN.{take}
 use Rattle.laws.specs.Laying.{Mapped}
 use Rattle.rooted_coder.specs.Ordered.{mark_of}
@@ -7,6 +6,3 @@ use Rattle.rooted_coder.proofs.read.Given as goal
 
 abbrev pub invariant-loop-i : goal.invariant-loop-i
 invariant-loop-i l = Mapped (mark_of l.marks) (take l.n l.s) l.initial.out l.out l.i
-
-abbrev pub decreases-loop-i : goal.decreases-loop-i
-decreases-loop-i l = l.n - l.i

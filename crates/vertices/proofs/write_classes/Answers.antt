@@ -1,32 +1,19 @@
 -- `vertices::write_classes` meets its contract: the loop keeps the classes written and the greatest of them. Assumes nothing.
-use mathlib.Core.Path.{◌≡◌, refl, sym}
-use Prim.Native.Nat.{max}
+use mathlib.Core.Path.{refl, subst}
 use native.Mathlib.Omega.{arith}
+use Rattle.laws.specs.document.Laid.{Laid}
 use Rattle.vertices.proofs.Telling.{digits-end, digits_few, ends_known, edges_fit, above-all}
 use Rattle.vertices.proofs.Writing.{writing_none, writing_length, writing_low, writing_next, writing_all}
-use Rattle.vertices.proofs.write_classes.Goals.{else-top-k, then-top-k}
 use Rattle.vertices.proofs.write_classes.Goals as goal
-
-pub slice_bounds-ends_of-end : goal.slice_bounds-ends_of-end
-slice_bounds-ends_of-end c = refl
 
 pub ends_of-requires : goal.ends_of-requires
 ends_of-requires c = record { ends = digits-end c.requires.ds_value c.requires.fact; code_len_bound = digits_few c.requires.ds_value c.requires.fact c.requires.code_len_bound; ends_len = refl }
-
-pub slice_bounds-write_edges-end : goal.slice_bounds-write_edges-end
-slice_bounds-write_edges-end c = refl
 
 pub write_edges-requires : goal.write_edges-requires
 write_edges-requires c = record { ends = digits-end c.requires.ds_value c.requires.fact; code_len_bound = digits_few c.requires.ds_value c.requires.fact c.requires.code_len_bound; code_in_bounds = edges_fit c.requires.ds_value c.requires.fact c.requires.code_len_bound }
 
 pub loop-i-init : goal.loop-i-init
 loop-i-init c = (ends_known c.requires.ds_value c.requires.fact c.ends_of.ensures, (above-all c.requires.ds_value c.requires.fact c.requires.code_len_bound refl c.write_edges.ensures, writing_none c.requires.code_in_bounds))
-
-pub slice_bounds-class_of-end : goal.slice_bounds-class_of-end
-slice_bounds-class_of-end c = sym c.loop-i.invariant.0.long
-
-pub slice_bounds-class_of-end-in-loop-i : goal.slice_bounds-class_of-end-in-loop-i
-slice_bounds-class_of-end-in-loop-i c = sym c.loop-i.invariant.1.0.long
 
 pub overflow_add-top : goal.overflow_add-top
 overflow_add-top c = let l = c.loop-i.invariant in omega (arith, writing_low l.1.1, l.0.few)
@@ -37,18 +24,11 @@ class_of-k-requires c = let l = c.loop-i.invariant in record { known = l.0; abov
 pub bounds-out-i : goal.bounds-out-i
 bounds-out-i c = let l = c.loop-i.invariant in omega (arith, writing_length l.1.1, l.1.1.room)
 
-pub overflow_add-i : goal.overflow_add-i
-overflow_add-i c = omega arith
-
-pub loop-i-smaller : goal.loop-i-smaller
-loop-i-smaller c = omega arith
-
 pub loop-i-preserved : goal.loop-i-preserved
-loop-i-preserved c = let top-next : c.if-top-k.top ≡ max c.loop-i.top c.class_of-k.result = elim c.if-top-k.branch [ then-top-k w ↦ omega arith | else-top-k w ↦ omega arith ] in
-    let l = c.loop-i.invariant in (l.0, (l.1.0, writing_next l.1.1 (omega arith) c.class_of-k.ensures (top-next)))
+loop-i-preserved c = let l = c.loop-i.invariant in (l.0, (l.1.0, writing_next l.1.1 (omega arith) c.class_of-k.ensures c.max-top.ensures))
 
 pub shape_of-out : goal.shape_of-out
 shape_of-out c = writing_length c.loop-i.invariant.1.1
 
 pub returns : goal.returns
-returns c = rw c.requires.ds_value (writing_all c.loop-i.invariant.1.1 (omega arith))
+returns c = rw c.requires.ds_value (subst (Laid _ _ _) (omega arith) (writing_all c.loop-i.invariant.1.1 (omega arith)))

@@ -1,6 +1,4 @@
 -- `vertices::write_classes` meets its contract: the loop keeps the classes written and the greatest of them. Assumes nothing.
-use Prim.Native.Nat.{◌-◌}
-use lib.ListN.{length}
 use Rattle.digit_code.specs.Search.{Known}
 use Rattle.skeleton.specs.document.AtomMarks.{atoms}
 use Rattle.vertices.specs.Search.{Above}
@@ -9,6 +7,3 @@ use Rattle.vertices.proofs.write_classes.Given as goal
 
 abbrev pub invariant-loop-i : goal.invariant-loop-i
 invariant-loop-i l = Known atoms.arity l.code l.ends 0 × (Above l.code l.edges × Writing l.code l.initial.out l.out l.top l.i)
-
-abbrev pub decreases-loop-i : goal.decreases-loop-i
-decreases-loop-i l = length l.code - l.i

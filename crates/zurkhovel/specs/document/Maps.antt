@@ -1,25 +1,18 @@
 -- Document 02, wish 4, "The verdict, in full": "Where the verdict is yes, hand out such a renumbering", and "A partner's own renumbering is accepted exactly if
 -- it carries every edge of the first list to an edge of the second and uses each number once."
 --
--- In order: the answer's cases as an outcome; the map's table behind those of the lists; the two promises. What a map is, its rows, and which one is handed
+-- In order: the answer, as it is told; the map's table behind those of the lists; the two promises. What a map is, its rows, and which one is handed
 -- out is in the crate `renumber`; what "same" means, and that a map that is handed out is accepted, in `Meaning`. Assumes nothing.
 use Rattle.std.specs.Prelude.{◌≡◌, false, List, [], ◌∷◌, ℕ}
-use Rattle.refusal.specs.document.Table.{RowOf, Row, OutcomeOf, gives, refuses, Answered}
+use Rattle.refusal.specs.document.Table.{RowOf, Row, OutcomeOf, Answered}
 use Rattle.refusal.specs.document.Lists.{maps_rows, HandsOut}
 use Rattle.edition.specs.document.Edition.{row22}
 use Rattle.renumber.specs.document.Map.{map_rows, HandedOut}
 use Rattle.zurkhovel.specs.document.Same.{list_rows, EqualCodes}
-use Rattle.zurkhovel.specs.declared.maps.Mapping.{Mapping}
-use Rattle.zurkhovel.specs.declared.maps.Mapping.TheVariants.{Done, Refused}
 
 -- how many bytes are written, or which list is refused, or 3 for the map, with number and place
 abbrev pub MapOutcome : Type 0
 MapOutcome = OutcomeOf (ℕ × ℕ) ℕ
-
--- `Done n`: n bytes are written; `Refused i k p`: list i, or 3 for the map, is refused, number k at place p; i is 0 for 22
-abbrev pub mapped : Mapping → MapOutcome
-mapped (Done n) = gives n
-mapped (Refused i k p) = refuses (i, k) p
 
 -- "Refusals, after both lists' own": those of the map
 abbrev pub three_rows : ℕ → ℕ → List ℕ → ℕ → List ℕ → List Row → List (RowOf (ℕ × ℕ))

@@ -1,28 +1,20 @@
 -- Document 01, "Same skeleton": "Two edge lists are the same when their centred codes are equal. Different sizes are simply "not the
 -- same". A refusal says which list; the first list's comes first."
 --
--- In order: the verdict's cases as an outcome; the two tables, one behind the other; the same by codes and without them; the promise. That the promise
+-- In order: the verdict, as it is told; the two tables, one behind the other; the same by codes and without them; the promise. That the promise
 -- allows one verdict is in `One`, and what the verdict is without codes in `Meaning`. Assumes nothing.
 use Rattle.std.specs.Prelude.{◌≡◌, Bool, true, false, List, [], ◌∷◌, ℕ}
-use Rattle.refusal.specs.document.Table.{RowOf, Row, OutcomeOf, gives, refuses, Answered}
+use Rattle.refusal.specs.document.Table.{RowOf, Row, OutcomeOf, Answered}
 use Rattle.refusal.specs.document.Lists.{lists_rows}
 use Rattle.limits.specs.document.Limits.{size}
 use Rattle.edition.specs.document.Edition.{neighbours_in, row22}
 use Rattle.skeleton.specs.document.Skeleton.{Renumbering}
 use Rattle.edge_list.specs.document.Edges.{edge_rows}
 use Rattle.form.specs.document.Form.{IsCentred}
-use Rattle.zurkhovel.specs.declared.codes.Verdict.{Verdict}
-use Rattle.zurkhovel.specs.declared.codes.Verdict.TheVariants.{Same, Different, Refused}
 
 -- whether the two are the same, or which list is refused, with number and place
 abbrev pub Finding : Type 0
 Finding = OutcomeOf (ℕ × ℕ) Bool
-
--- `Refused i k p`: list i is refused, number k at place p; 22 belongs to neither list, and i is 0
-abbrev pub said : Verdict → Finding
-said Same = gives true
-said Different = gives false
-said (Refused i k p) = refuses (i, k) p
 
 -- what is refused of an edge list where no root is named, in the edition e behind 22
 abbrev pub list_rows : ℕ → ℕ → List ℕ → List Row

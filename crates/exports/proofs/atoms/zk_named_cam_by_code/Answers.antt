@@ -5,4 +5,4 @@ use Rattle.named.specs.Carbon.{of_carbon}
 use Rattle.exports.proofs.atoms.zk_named_cam_by_code.Goals as goal
 
 pub answered-requires : goal.answered-requires
-answered-requires c = let h = places-cam_by_code (of_carbon c.args.letters.now) in search (rules, h)
+answered-requires c = let h = places-cam_by_code (of_carbon c.args.letters.now) in rw c.counted.ensures.0 (search (rules, h))

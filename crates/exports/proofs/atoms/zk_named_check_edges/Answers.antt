@@ -3,5 +3,5 @@ use borrow.Author.Rules.{rules}
 use Rattle.named.specs.Places.{places-named-check-edges}
 use Rattle.exports.proofs.atoms.zk_named_check_edges.Goals as goal
 
-pub answered-requires : goal.answered-requires
-answered-requires c = search (rules, places-named-check-edges)
+pub passed-requires : goal.passed-requires
+passed-requires c = search (rules, places-named-check-edges)

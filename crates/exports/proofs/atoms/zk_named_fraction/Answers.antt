@@ -4,5 +4,5 @@ use Rattle.zurkhovel.specs.PlacesBits.{places-fraction}
 use Rattle.named.specs.Carbon.{of_carbon}
 use Rattle.exports.proofs.atoms.zk_named_fraction.Goals as goal
 
-pub exact-requires : goal.exact-requires
-exact-requires c = let h = places-fraction (of_carbon c.args.letters.now) in search (rules, h)
+pub valued-requires : goal.valued-requires
+valued-requires c = let h = places-fraction (of_carbon c.args.letters.now) in rw c.counted.ensures.0 (search (rules, h))

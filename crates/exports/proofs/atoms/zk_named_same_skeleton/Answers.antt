@@ -1,7 +1,12 @@
 -- `exports::atoms::zk_named_same_skeleton` keeps its promise. Assumes nothing.
-use borrow.Author.Rules.{rules}
+use mathlib.Core.Path.{refl}
+use Rattle.refusal.specs.document.Outcome.{told_of}
+use Rattle.refusal.specs.document.Reported.{answer}
 use Rattle.named.specs.Places.{places-named-same-skeleton}
 use Rattle.exports.proofs.atoms.zk_named_same_skeleton.Goals as goal
 
 pub found-requires : goal.found-requires
-found-requires c = search (rules, places-named-same-skeleton)
+found-requires c = rw c.counted.ensures.0 (places-named-same-skeleton _ _ _ _ _ _ _ c.same_skeleton.ensures.promised)
+
+pub returns : goal.returns
+returns c = (told_of (answer c.same_skeleton.result), rw c.counted.ensures.1 c.same_skeleton.ensures, rw c.found.ensures (rw c.counted.ensures.0 refl))

@@ -4,4 +4,4 @@ use Rattle.named.specs.Places.{places-named-write-line}
 use Rattle.exports.proofs.atoms.zk_named_write_line.Goals as goal
 
 pub answered-requires : goal.answered-requires
-answered-requires c = search (rules, places-named-write-line)
+answered-requires c = rw c.counted.ensures.0 (search (rules, places-named-write-line))

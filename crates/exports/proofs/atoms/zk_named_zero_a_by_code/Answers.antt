@@ -5,4 +5,4 @@ use Rattle.named.specs.Carbon.{of_carbon}
 use Rattle.exports.proofs.atoms.zk_named_zero_a_by_code.Goals as goal
 
 pub valued-requires : goal.valued-requires
-valued-requires c = let h = places_zero_a_by_code (of_carbon c.args.letters.now) in search (rules, h)
+valued-requires c = let h = places_zero_a_by_code (of_carbon c.args.letters.now) in rw c.counted.ensures.0 (search (rules, h))

@@ -1,4 +1,5 @@
 -- `named::alike::classed` meets its contract. Assumes nothing.
+use Rattle.refusal.proofs.Laws.{room_of, short_of}
 use mathlib.Core.Path.{◌≡◌, refl, sym, ap, ◌∙◌, subst}
 use mathlib.Core.List.{List}
 use Prim.Native.Nat.{ℕ}
@@ -19,8 +20,10 @@ use Rattle.named.proofs.alike.classed.Goals as goal
 laid_as : (c : List ℕ) {d e old new : List ℕ} {n : ℕ} → d ≡ e → Laid (classesₗ atoms d c) old new n → Laid (classesₗ atoms e c) old new n
 laid_as c {old = old} {new} {n} p h = subst (λ (x : List ℕ). Laid (classesₗ atoms x c) old new n) p h
 
-pub returns-then-out-n : goal.returns-then-out-n
-returns-then-out-n c = refused-short none (λ l e. ap length e ∙ c.requires.fact.count) refl c.if-out-n.true refl
+pub returns-in_err-fits : goal.returns-in_err-fits
+returns-in_err-fits c =
+    let (e, l) = short_of c.from_residual.result c.from_residual.ensures.1 c.in_err-fits.ensures in
+    rw e (refused-short none (λ l e. ap length e ∙ c.requires.fact.count) refl l refl)
 
 pub write_digits-requires : goal.write_digits-requires
 write_digits-requires c = c.requires.marks_len_bound.0
@@ -32,9 +35,9 @@ slice_bounds-write_classes-end c = let Told : Type 0 = take (length c.args.marks
 
 pub write_classes-requires : goal.write_classes-requires
 write_classes-requires c = let Told : Type 0 = take (length c.args.marks.now) c.write_digits.new.out ≡ digits atoms c.args.marks.now in
-    let are-told : Told = laid-front _ _ _ _ c.write_digits.ensures (digits_many c.args.marks.now) in record { ds_value = are-told; fact = c.requires.marks_len_bound.1; code_len_bound = c.requires.marks_len_bound.0; code_in_bounds = c.if-out-n.false }
+    let are-told : Told = laid-front _ _ _ _ c.write_digits.ensures (digits_many c.args.marks.now) in record { ds_value = are-told; fact = c.requires.marks_len_bound.1; code_len_bound = c.requires.marks_len_bound.0; code_in_bounds = (room_of c.in_ok-fits.ensures) }
 
 pub returns : goal.returns
 returns c = let Told : Type 0 = take (length c.args.marks.now) c.write_digits.new.out ≡ digits atoms c.args.marks.now in
     let are-told : Told = laid-front _ _ _ _ c.write_digits.ensures (digits_many c.args.marks.now) in
-    given-laid none (omega (arith, c.requires.fact.count, c.if-out-n.false)) (laid_as c.args.marks.now (are-told) c.write_classes.ensures)
+    given-laid none (omega (arith, c.requires.fact.count, (room_of c.in_ok-fits.ensures))) (laid_as c.args.marks.now (are-told) c.write_classes.ensures)

@@ -1,16 +1,16 @@
 -- `named::carbon::a_zero` keeps its promise. Assumes nothing.
+use Rattle.refusal.proofs.Laws.{clear_of, refusal_of, is_refusal}
 use mathlib.Core.Path.{refl}
 use mathlib.Core.List.{[]}
 use Rattle.refusal.specs.document.Table.{Clear, left}
-use Rattle.refusal.specs.Laws.{was_clear, was_refused}
 use Rattle.limits.specs.document.Limits.{a_size, valence}
 use Rattle.edge_list.specs.document.Letters.{carbon_rows}
 use Rattle.named.specs.Carbon.{answers-carbon}
 use Rattle.named.proofs.carbon.a_zero.Goals as goal
 
-pub returns-in-Refuse : goal.returns-in-Refuse
-returns-in-Refuse c = left (was_refused c.check_carbon.ensures c.in-Refuse.is) refl
+pub returns-in_err-check_carbon : goal.returns-in_err-check_carbon
+returns-in_err-check_carbon c = rw (is_refusal c.from_residual.result c.from_residual.ensures.1) (left (refusal_of c.in_err-check_carbon.ensures) refl)
 
 pub returns : goal.returns
-returns c = let clear : Clear (carbon_rows a_size valence c.args.n c.args.edges.now 1 c.args.letters.now) = was_clear c.check_carbon.ensures c.in_default.is in
+returns c = let clear : Clear (carbon_rows a_size valence c.args.n c.args.edges.now 1 c.args.letters.now) = clear_of c.in_ok-check_carbon.ensures in
     answers-carbon c.args.n c.args.edges.now 1 c.args.letters.now (clear) [] c.a_zero.ensures

@@ -1,17 +1,18 @@
 -- `named::carbon::pack` keeps its promise. Assumes nothing.
+use Rattle.refusal.proofs.Giving.{reported_exit}
+use Rattle.refusal.proofs.Laws.{clear_of, refusal_of}
 use mathlib.Core.Path.{refl}
 use mathlib.Core.List.{[]}
 use Rattle.refusal.specs.document.Table.{Clear}
-use Rattle.refusal.specs.Laws.{was_clear, was_refused}
 use Rattle.refusal.specs.Giving.{refused-first}
 use Rattle.limits.specs.document.Limits.{size, valence}
 use Rattle.edge_list.specs.document.Letters.{carbon_rows}
 use Rattle.named.specs.Carbon.{gives_carbon}
 use Rattle.named.proofs.carbon.pack.Goals as goal
 
-pub returns-in-Refuse : goal.returns-in-Refuse
-returns-in-Refuse c = record { promised = refused-first (was_refused c.check_carbon.ensures c.in-Refuse.is) refl; reported = refl }
+pub returns-in_err-check_carbon : goal.returns-in_err-check_carbon
+returns-in_err-check_carbon c = reported_exit _ c.from_residual.result c.from_residual.ensures.1 (refused-first (refusal_of c.in_err-check_carbon.ensures) refl)
 
 pub returns : goal.returns
-returns c = let clear : Clear (carbon_rows size valence c.args.n c.args.edges.now c.args.root c.args.letters.now) = was_clear c.check_carbon.ensures c.in_default.is in
+returns c = let clear : Clear (carbon_rows size valence c.args.n c.args.edges.now c.args.root c.args.letters.now) = clear_of c.in_ok-check_carbon.ensures in
     record { promised = gives_carbon c.args.n c.args.edges.now c.args.root c.args.letters.now (clear) [] c.pack.ensures.promised; reported = c.pack.ensures.reported }

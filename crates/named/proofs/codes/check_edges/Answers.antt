@@ -1,6 +1,7 @@
 -- `named::codes::check_edges` keeps its promise. Assumes nothing.
+use Rattle.std.specs.Prelude.{refl}
 use Rattle.refusal.specs.Laws.{check-answered}
 use Rattle.named.proofs.codes.check_edges.Goals as goal
 
 pub returns : goal.returns
-returns c = check-answered c.check_letters.ensures c.handed.ensures
+returns c = check-answered c.check_letters.ensures refl

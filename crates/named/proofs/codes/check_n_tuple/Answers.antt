@@ -6,8 +6,7 @@ use borrow.Author.Rules.{rules}
 use lib.ListN.{length, take}
 use Rattle.refusal.specs.document.Table.{Clear}
 use Rattle.refusal.specs.Checks.{Answers}
-use Rattle.refusal.specs.Laws.{stops, was_clear}
-use Rattle.refusal.proofs.Laws.{goes_on}
+use Rattle.refusal.proofs.Laws.{clear_of, behind, exits}
 use Rattle.limits.specs.document.Limits.{size, valence}
 use Rattle.limits.specs.Width.{width}
 use Rattle.digit_code.specs.document.Code.{decode}
@@ -28,28 +27,28 @@ module _ (ds ls : List ℕ) (k : Clear (lettered_code_rows size valence ds ls)) 
   decodes : IsSkeleton size width (length c) (decode ds)
   decodes = subst (λ (x : List ℕ). IsSkeleton size width (length x) (decode ds)) (sym e) (marks-skeleton ds ls k)
 
-pub returns-in-Refuse : goal.returns-in-Refuse
-returns-in-Refuse c = stops _ c.check_rooted.ensures.answers c.in-Refuse.is
+pub returns-in_err-check_rooted : goal.returns-in_err-check_rooted
+returns-in_err-check_rooted c = exits _ c.from_residual.ensures.1 c.in_err-check_rooted.ensures.answers
 
 pub slice_bounds-marks-end : goal.slice_bounds-marks-end
-slice_bounds-marks-end c = let clear : Clear (lettered_code_rows size valence c.args.code.now c.args.letters.now) = was_clear c.check_rooted.ensures.answers c.in_default.is in
+slice_bounds-marks-end c = let clear : Clear (lettered_code_rows size valence c.args.code.now c.args.letters.now) = clear_of c.in_ok-check_rooted.ensures.answers in
     let h = (whole_of c.args.code.now c.args.letters.now (clear)).1 in search rules
 
 pub slice_bounds-n_tuple_judged-end : goal.slice_bounds-n_tuple_judged-end
 slice_bounds-n_tuple_judged-end c = let Marks : Type 0 = take (length c.args.code.now) c.check_rooted.new.ms ≡ marks_of c.args.code.now c.args.letters.now in
-    let are-marks : Marks = c.check_rooted.ensures.ms_after c.in_default.is in
-    let clear : Clear (lettered_code_rows size valence c.args.code.now c.args.letters.now) = was_clear c.check_rooted.ensures.answers c.in_default.is in
+    let are-marks : Marks = c.in_ok-check_rooted.ensures.ms_after in
+    let clear : Clear (lettered_code_rows size valence c.args.code.now c.args.letters.now) = clear_of c.in_ok-check_rooted.ensures.answers in
     sym (ap length (are-marks) ∙ marks_many c.args.code.now c.args.letters.now (clear))
 
 pub n_tuple_judged-requires : goal.n_tuple_judged-requires
-n_tuple_judged-requires c = let clear : Clear (lettered_code_rows size valence c.args.code.now c.args.letters.now) = was_clear c.check_rooted.ensures.answers c.in_default.is in
+n_tuple_judged-requires c = let clear : Clear (lettered_code_rows size valence c.args.code.now c.args.letters.now) = clear_of c.in_ok-check_rooted.ensures.answers in
     let Marks : Type 0 = take (length c.args.code.now) c.check_rooted.new.ms ≡ marks_of c.args.code.now c.args.letters.now in
-    let are-marks : Marks = c.check_rooted.ensures.ms_after c.in_default.is in
+    let are-marks : Marks = c.in_ok-check_rooted.ensures.ms_after in
     let ds = c.args.code.now in
     let ls = c.args.letters.now in record { ds_value = digits-told ds ls (clear) (are-marks); ends = ((whole_of ds ls (clear)).0, decodes ds ls (clear) (are-marks)) }
 
 pub returns : goal.returns
 returns c = let Marks : Type 0 = take (length c.args.code.now) c.check_rooted.new.ms ≡ marks_of c.args.code.now c.args.letters.now in
-    let are-marks : Marks = c.check_rooted.ensures.ms_after c.in_default.is in
-    goes_on c.check_rooted.ensures.answers c.in_default.is
+    let are-marks : Marks = c.in_ok-check_rooted.ensures.ms_after in
+    behind c.in_ok-check_rooted.ensures.answers
     (subst (λ (x : List ℕ). Answers (row14ₗ atoms (IsNTupleₗ atoms) x ∷ []) c.n_tuple_judged.result) (are-marks) c.n_tuple_judged.ensures)

@@ -1,4 +1,5 @@
 -- `named::text::line` meets its contract. Assumes nothing.
+use Rattle.refusal.proofs.Laws.{room_of, short_of}
 use mathlib.Core.Path.{◌≡◌, refl, sym, ap, ap₂, ◌∙◌, subst}
 use mathlib.Core.List.{List}
 use Prim.Native.Nat.{ℕ}
@@ -45,15 +46,17 @@ extent-need-requires c = let Told : Type 0 = (take (length (c.args.marks.now)) c
     let many : (length (c.args.marks.now) ≡ length (take (length (c.args.marks.now)) c.write_digits.new.out)) × (length (c.args.marks.now) ≡ length (take (length (c.args.marks.now)) c.write_letters.new.out)) = let (d, l) = are-told in (sym (ap length d ∙ digits_many (c.args.marks.now)), sym (ap length l ∙ letters_many (c.args.marks.now))) in
     omega (arith, many.1, c.requires.marks_len_bound)
 
-pub returns-then-out-need : goal.returns-then-out-need
-returns-then-out-need c = let Told : Type 0 = (take (length (c.args.marks.now)) c.write_digits.new.out ≡ digits atoms (c.args.marks.now))
+pub returns-in_err-fits : goal.returns-in_err-fits
+returns-in_err-fits c =
+    let Told : Type 0 = (take (length (c.args.marks.now)) c.write_digits.new.out ≡ digits atoms (c.args.marks.now))
     × (take (length (c.args.marks.now)) c.write_letters.new.out ≡ letters_of (c.args.marks.now)) in
     let are-told : Told = (
       laid-front _ _ _ _ c.write_digits.ensures (digits_many (c.args.marks.now)),
       laid-front _ _ _ _ c.write_letters.ensures (letters_many (c.args.marks.now)),
     ) in
     let n = long (c.args.marks.now) _ are-told.1 c.extent-need.ensures in
-    refused-short none (λ t e. ap length e ∙ n) refl c.if-out-need.true refl
+    let (e, l) = short_of c.from_residual.result c.from_residual.ensures.1 c.in_err-fits.ensures in
+    rw e (refused-short none (λ t e. ap length e ∙ n) refl l refl)
 
 pub slice_bounds-write-end : goal.slice_bounds-write-end
 slice_bounds-write-end c = let Told : Type 0 = (take (length (c.args.marks.now)) c.write_digits.new.out ≡ digits atoms (c.args.marks.now))
@@ -84,7 +87,7 @@ write-requires c = let Told : Type 0 = (take (length (c.args.marks.now)) c.write
     ) in
     let many : (length (c.args.marks.now) ≡ length (take (length (c.args.marks.now)) c.write_digits.new.out)) × (length (c.args.marks.now) ≡ length (take (length (c.args.marks.now)) c.write_letters.new.out)) = let (d, l) = are-told in (sym (ap length d ∙ digits_many (c.args.marks.now)), sym (ap length l ∙ letters_many (c.args.marks.now))) in
     let n = long (c.args.marks.now) _ are-told.1 c.extent-need.ensures in
-    let e = ap₂ (λ (d l : List ℕ). length (named_line d l)) are-told.0 are-told.1 in record { code_len_bound = omega (arith, many.0, c.requires.marks_len_bound); digits = subst Digits (sym are-told.0) c.requires.digits; letters_len = sym many.1 ∙ many.0; letters_in_bounds = omega (arith, e, n, c.if-out-need.false) }
+    let e = ap₂ (λ (d l : List ℕ). length (named_line d l)) are-told.0 are-told.1 in record { code_len_bound = omega (arith, many.0, c.requires.marks_len_bound); digits = subst Digits (sym are-told.0) c.requires.digits; letters_len = sym many.1 ∙ many.0; letters_in_bounds = omega (arith, e, n, (room_of c.in_ok-fits.ensures)) }
 
 pub returns : goal.returns
 returns c = let Told : Type 0 = (take (length (c.args.marks.now)) c.write_digits.new.out ≡ digits atoms (c.args.marks.now))
@@ -94,5 +97,5 @@ returns c = let Told : Type 0 = (take (length (c.args.marks.now)) c.write_digits
       laid-front _ _ _ _ c.write_letters.ensures (letters_many (c.args.marks.now)),
     ) in
     let n = long (c.args.marks.now) _ are-told.1 c.extent-need.ensures in
-    given-laid none (omega (arith, n, c.if-out-need.false))
+    given-laid none (omega (arith, n, (room_of c.in_ok-fits.ensures)))
     (laid_as are-told.0 are-told.1 c.write.ensures)

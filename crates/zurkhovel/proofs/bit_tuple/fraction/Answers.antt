@@ -1,4 +1,5 @@
 -- `zurkhovel::bit_tuple::fraction` keeps its promise. Assumes nothing.
+use Rattle.refusal.proofs.Giving.{reported_exit}
 use mathlib.Core.Path.{refl, sym}
 use native.Mathlib.Omega.{arith}
 use Rattle.refusal.specs.document.Table.{left}
@@ -11,20 +12,20 @@ use Rattle.edition.specs.Laws.{at_most_nine}
 use Rattle.zurkhovel.proofs.bit_tuple.fraction.Goals as goal
 
 pub slice_bounds-code-end : goal.slice_bounds-code-end
-slice_bounds-code-end c = let coded : let a = c.args in Rooted a.edition fraction_size a.n a.edges.now a.root c.rooted.new.code c.in-Pairs.looked = was_coded c.rooted.ensures c.in-Pairs.is in
+slice_bounds-code-end c = let coded : let a = c.args in Rooted a.edition fraction_size a.n a.edges.now a.root c.rooted.new.code c.in_ok-pairs.pairs = was_coded c.in_ok-pairs.ensures in
     omega (arith, digits_within (coded) (omega arith), coded.long)
 
 pub slice_bounds-fraction_of-end : goal.slice_bounds-fraction_of-end
-slice_bounds-fraction_of-end c = let coded : let a = c.args in Rooted a.edition fraction_size a.n a.edges.now a.root c.rooted.new.code c.in-Pairs.looked = was_coded c.rooted.ensures c.in-Pairs.is in
+slice_bounds-fraction_of-end c = let coded : let a = c.args in Rooted a.edition fraction_size a.n a.edges.now a.root c.rooted.new.code c.in_ok-pairs.pairs = was_coded c.in_ok-pairs.ensures in
     sym (digits_length (coded))
 
 pub fraction_of-requires : goal.fraction_of-requires
-fraction_of-requires c = let coded : let a = c.args in Rooted a.edition fraction_size a.n a.edges.now a.root c.rooted.new.code c.in-Pairs.looked = was_coded c.rooted.ensures c.in-Pairs.is in
+fraction_of-requires c = let coded : let a = c.args in Rooted a.edition fraction_size a.n a.edges.now a.root c.rooted.new.code c.in_ok-pairs.pairs = was_coded c.in_ok-pairs.ensures in
     digits-coded (coded) (at_most_nine _)
 
-pub returns-in-Refused : goal.returns-in-Refused
-returns-in-Refused c = record { promised = left (was_refused c.rooted.ensures c.in-Refused.is) refl; reported = refl }
+pub returns-in_err-pairs : goal.returns-in_err-pairs
+returns-in_err-pairs c = reported_exit _ c.from_residual.result c.from_residual.ensures.1 (left (was_refused c.in_err-pairs.ensures) refl)
 
-pub returns-in-Pairs : goal.returns-in-Pairs
-returns-in-Pairs c = let coded : let a = c.args in Rooted a.edition fraction_size a.n a.edges.now a.root c.rooted.new.code c.in-Pairs.looked = was_coded c.rooted.ensures c.in-Pairs.is in
+pub returns : goal.returns
+returns c = let coded : let a = c.args in Rooted a.edition fraction_size a.n a.edges.now a.root c.rooted.new.code c.in_ok-pairs.pairs = was_coded c.in_ok-pairs.ensures in
     value-given IsFraction (coded) c.fraction_of.ensures

@@ -1,7 +1,8 @@
 -- `zurkhovel::codes::centred_code` keeps its promise. Assumes nothing.
+use Rattle.refusal.proofs.Giving.{reported_exit, reported_short}
+use Rattle.refusal.proofs.Laws.{clear_of, refusal_of, room_of}
 use mathlib.Core.Path.{refl}
 use Rattle.refusal.specs.document.Table.{Clear}
-use Rattle.refusal.specs.Laws.{was_clear, was_refused}
 use Rattle.refusal.specs.Giving.{refused-first}
 use Rattle.limits.specs.document.Limits.{size}
 use Rattle.zurkhovel.specs.document.InEdition.{edge_table}
@@ -11,16 +12,16 @@ use Rattle.zurkhovel.specs.Accepted.{table_of}
 use Rattle.zurkhovel.proofs.Coded.{form-short, form-given}
 use Rattle.zurkhovel.proofs.codes.centred_code.Goals as goal
 
-pub returns-in-Refuse : goal.returns-in-Refuse
-returns-in-Refuse c = record { promised = refused-first (was_refused c.edges.ensures c.in-Refuse.is) refl; reported = refl }
+pub returns-in_err-edges : goal.returns-in_err-edges
+returns-in_err-edges c = reported_exit _ c.from_residual.result c.from_residual.ensures.1 (refused-first (refusal_of c.in_err-edges.ensures) refl)
 
-pub returns-then-out-n : goal.returns-then-out-n
-returns-then-out-n c = let clear : Clear (edge_table c.args.edition size c.args.n c.args.edges.now 1) = was_clear c.edges.ensures c.in_default.is in
-    record { promised = form-short c.args.n c.args.edges.now 1 (clear) IsCentred centred-form c.if-out-n.true refl; reported = refl }
+pub returns-in_err-fits : goal.returns-in_err-fits
+returns-in_err-fits c = let clear : Clear (edge_table c.args.edition size c.args.n c.args.edges.now 1) = clear_of c.in_ok-edges.ensures in
+    reported_short c.from_residual-in_err-fits.result c.from_residual-in_err-fits.ensures.1 c.in_err-fits.ensures (λ l. form-short c.args.n c.args.edges.now 1 (clear) IsCentred centred-form l refl)
 
-pub centred-looked-requires : goal.centred-looked-requires
-centred-looked-requires c = let clear : Clear (edge_table c.args.edition size c.args.n c.args.edges.now 1) = was_clear c.edges.ensures c.in_default.is in record { skeleton = table_of (clear); n_in_bounds = c.if-out-n.false }
+pub centred-pairs-requires : goal.centred-pairs-requires
+centred-pairs-requires c = let clear : Clear (edge_table c.args.edition size c.args.n c.args.edges.now 1) = clear_of c.in_ok-edges.ensures in record { skeleton = table_of (clear); n_in_bounds = (room_of c.in_ok-fits.ensures) }
 
 pub returns : goal.returns
-returns c = let clear : Clear (edge_table c.args.edition size c.args.n c.args.edges.now 1) = was_clear c.edges.ensures c.in_default.is in
-    record { promised = form-given c.args.n c.args.edges.now 1 (clear) IsCentred centred-form c.if-out-n.false c.centred-looked.ensures.writes; reported = c.centred-looked.ensures.centred_pairs }
+returns c = let clear : Clear (edge_table c.args.edition size c.args.n c.args.edges.now 1) = clear_of c.in_ok-edges.ensures in
+    record { promised = form-given c.args.n c.args.edges.now 1 (clear) IsCentred centred-form (room_of c.in_ok-fits.ensures) c.centred-pairs.ensures.writes; reported = c.centred-pairs.ensures.centred_pairs }

@@ -1,17 +1,17 @@
 -- `zurkhovel::codes::decode_centred` keeps its promise. Assumes nothing.
+use Rattle.refusal.proofs.Laws.{clear_of, refusal_of, is_refusal}
 use mathlib.Core.Path.{refl}
-use Rattle.refusal.specs.Laws.{was_clear, was_refused}
 use Rattle.refusal.specs.Giving.{refused-first}
 use Rattle.form.specs.document.Form.{IsCentred}
 use Rattle.refusal.proofs.Behind.{behind-same}
 use Rattle.zurkhovel.proofs.Decoded.{right_of}
 use Rattle.zurkhovel.proofs.codes.decode_centred.Goals as goal
 
-pub returns-in-Refuse : goal.returns-in-Refuse
-returns-in-Refuse c = refused-first (was_refused c.centred.ensures c.in-Refuse.is) refl
+pub returns-in_err-centred : goal.returns-in_err-centred
+returns-in_err-centred c = rw (is_refusal c.from_residual.result c.from_residual.ensures.1) (refused-first (refusal_of c.in_err-centred.ensures) refl)
 
 pub lay_edges-requires : goal.lay_edges-requires
-lay_edges-requires c = right_of IsCentred c.args.code.now (was_clear c.centred.ensures c.in_default.is)
+lay_edges-requires c = right_of IsCentred c.args.code.now (clear_of c.in_ok-centred.ensures)
 
 pub returns : goal.returns
-returns c = behind-same (was_clear c.centred.ensures c.in_default.is) c.lay_edges.ensures
+returns c = behind-same (clear_of c.in_ok-centred.ensures) c.lay_edges.ensures

@@ -1,17 +1,17 @@
 -- `zurkhovel::codes::decode_n_tuple` keeps its promise. Assumes nothing.
+use Rattle.refusal.proofs.Laws.{clear_of, refusal_of, is_refusal}
 use mathlib.Core.Path.{refl}
-use Rattle.refusal.specs.Laws.{was_clear, was_refused}
 use Rattle.refusal.specs.Giving.{refused-first}
 use Rattle.form.specs.document.Form.{IsNTuple}
 use Rattle.refusal.proofs.Behind.{behind-same}
 use Rattle.zurkhovel.proofs.Decoded.{right_of}
 use Rattle.zurkhovel.proofs.codes.decode_n_tuple.Goals as goal
 
-pub returns-in-Refuse : goal.returns-in-Refuse
-returns-in-Refuse c = refused-first (was_refused c.n_tuple.ensures c.in-Refuse.is) refl
+pub returns-in_err-n_tuple : goal.returns-in_err-n_tuple
+returns-in_err-n_tuple c = rw (is_refusal c.from_residual.result c.from_residual.ensures.1) (refused-first (refusal_of c.in_err-n_tuple.ensures) refl)
 
 pub lay_edges-requires : goal.lay_edges-requires
-lay_edges-requires c = right_of IsNTuple c.args.code.now (was_clear c.n_tuple.ensures c.in_default.is)
+lay_edges-requires c = right_of IsNTuple c.args.code.now (clear_of c.in_ok-n_tuple.ensures)
 
 pub returns : goal.returns
-returns c = behind-same (was_clear c.n_tuple.ensures c.in_default.is) c.lay_edges.ensures
+returns c = behind-same (clear_of c.in_ok-n_tuple.ensures) c.lay_edges.ensures

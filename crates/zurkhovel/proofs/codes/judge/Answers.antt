@@ -1,19 +1,12 @@
 -- `zurkhovel::codes::judge` keeps its promise. Assumes nothing.
-use mathlib.Core.Path.{◌≡◌, refl, sym, ◌∙◌}
-use mathlib.Core.Bool.{Bool, true, false}
-use Prim.Native.Nat.{◌+◌}
 use native.Mathlib.Omega.{arith}
-use Rattle.laws.specs.Tells.{was_held, was_denied}
-use Rattle.digit_code.specs.declared.Order.{Order}
-use Rattle.digit_code.specs.Compare.{same?, told_same}
-use Rattle.refusal.specs.document.Table.{gives}
 use Rattle.refusal.specs.Giving.{written-room, written_length}
 use Rattle.form_coder.specs.Sums.{centred_few}
-use Rattle.zurkhovel.specs.document.Same.{SameSkeleton}
-use Rattle.refusal.specs.document.Reported.{Reporting}
-use Rattle.zurkhovel.specs.document.Reported.{OfBoth, coded, not_coded}
+use Rattle.zurkhovel.specs.document.Reported.{coded, not_coded}
 use Rattle.zurkhovel.specs.Accepted.{table_of}
-use Rattle.zurkhovel.proofs.Verdicts.{verdict-sizes, verdict-same, verdict_different}
+use Rattle.zurkhovel.proofs.Verdicts.{verdict-sizes, verdict}
+use Rattle.std.proofs.lemmas.Slice.Eq.{slice_eq-Decides}
+use Rattle.std.proofs.lemmas.Bool.Decides.{Decides-eqb}
 use Rattle.zurkhovel.proofs.codes.judge.Goals as goal
 
 pub returns-then-n1-n2 : goal.returns-then-n1-n2
@@ -25,35 +18,25 @@ centred-first-requires c = let t = table_of c.requires.clear in record { skeleto
 pub centred-second-requires : goal.centred-second-requires
 centred-second-requires c = let t = table_of c.requires.clear_2 in record { skeleton = t; n_in_bounds = t.few }
 
-pub overflow_add-looked : goal.overflow_add-looked
-overflow_add-looked c = omega (arith, centred_few (table_of c.requires.clear) c.centred-first.ensures.centred_pairs, centred_few (table_of c.requires.clear_2) c.centred-second.ensures.centred_pairs)
+pub overflow_add-result : goal.overflow_add-result
+overflow_add-result c = omega (arith, centred_few (table_of c.requires.clear) c.centred-first.ensures.centred_pairs, centred_few (table_of c.requires.clear_2) c.centred-second.ensures.centred_pairs)
 
 pub slice_bounds-a-end : goal.slice_bounds-a-end
 slice_bounds-a-end c = written-room c.centred-first.ensures.writes
 
-pub slice_bounds-compare-end : goal.slice_bounds-compare-end
-slice_bounds-compare-end c = written_length c.centred-first.ensures.writes
+pub slice_bounds-eq-end : goal.slice_bounds-eq-end
+slice_bounds-eq-end c = written_length c.centred-first.ensures.writes
 
 pub slice_bounds-b-end : goal.slice_bounds-b-end
 slice_bounds-b-end c = written-room c.centred-second.ensures.writes
 
-pub slice_bounds-compare-end-2 : goal.slice_bounds-compare-end-2
-slice_bounds-compare-end-2 c = written_length c.centred-second.ensures.writes
+pub slice_bounds-eq-end-2 : goal.slice_bounds-eq-end-2
+slice_bounds-eq-end-2 c = written_length c.centred-second.ensures.writes
 
-pub returns-in-Less : goal.returns-in-Less
-returns-in-Less c = let Judges : (o : Order) (q : c.compare.result ≡ o) → Bool → Type 0 = λ o q b. let s = c.args in Reporting (SameSkeleton s.edition s.n1 s.edges1.now s.n2 s.edges2.now) (OfBoth s.n1 s.edges1.now s.n2 s.edges2.now) (gives b) (c.centred-first.result + c.centred-second.result) in
-    let both : (o : Order) (q : c.compare.result ≡ o) → OfBoth c.args.n1 c.args.edges1.now c.args.n2 c.args.edges2.now (c.centred-first.result + c.centred-second.result) = λ o q. coded (c.if-n1-n2.false) c.centred-first.ensures.centred_pairs c.centred-second.ensures.centred_pairs in
-    let different : (o : Order) (q : c.compare.result ≡ o) → same? o ≡ false → (Judges o q) false = λ o q e. record { promised = verdict_different c.requires.clear c.requires.clear_2 c.centred-first.ensures.writes c.centred-second.ensures.writes (was_denied (told_same _ _ (sym c.compare.ensures ∙ q)) e); reported = (both o q) } in
-    different _ c.in-Less.is refl
-
-pub returns-in-Equal : goal.returns-in-Equal
-returns-in-Equal c = let Judges : (o : Order) (q : c.compare.result ≡ o) → Bool → Type 0 = λ o q b. let s = c.args in Reporting (SameSkeleton s.edition s.n1 s.edges1.now s.n2 s.edges2.now) (OfBoth s.n1 s.edges1.now s.n2 s.edges2.now) (gives b) (c.centred-first.result + c.centred-second.result) in
-    let both : (o : Order) (q : c.compare.result ≡ o) → OfBoth c.args.n1 c.args.edges1.now c.args.n2 c.args.edges2.now (c.centred-first.result + c.centred-second.result) = λ o q. coded (c.if-n1-n2.false) c.centred-first.ensures.centred_pairs c.centred-second.ensures.centred_pairs in
-    let same : (o : Order) (q : c.compare.result ≡ o) → same? o ≡ true → (Judges o q) true = λ o q e. record { promised = verdict-same c.requires.clear c.requires.clear_2 c.centred-first.ensures.writes c.centred-second.ensures.writes (was_held (told_same _ _ (sym c.compare.ensures ∙ q)) e); reported = (both o q) } in
-    same _ c.in-Equal.is refl
-
-pub returns-in-Greater : goal.returns-in-Greater
-returns-in-Greater c = let Judges : (o : Order) (q : c.compare.result ≡ o) → Bool → Type 0 = λ o q b. let s = c.args in Reporting (SameSkeleton s.edition s.n1 s.edges1.now s.n2 s.edges2.now) (OfBoth s.n1 s.edges1.now s.n2 s.edges2.now) (gives b) (c.centred-first.result + c.centred-second.result) in
-    let both : (o : Order) (q : c.compare.result ≡ o) → OfBoth c.args.n1 c.args.edges1.now c.args.n2 c.args.edges2.now (c.centred-first.result + c.centred-second.result) = λ o q. coded (c.if-n1-n2.false) c.centred-first.ensures.centred_pairs c.centred-second.ensures.centred_pairs in
-    let different : (o : Order) (q : c.compare.result ≡ o) → same? o ≡ false → (Judges o q) false = λ o q e. record { promised = verdict_different c.requires.clear c.requires.clear_2 c.centred-first.ensures.writes c.centred-second.ensures.writes (was_denied (told_same _ _ (sym c.compare.ensures ∙ q)) e); reported = (both o q) } in
-    different _ c.in-Greater.is refl
+pub returns : goal.returns
+returns c =
+    record {
+      promised = verdict c.requires.clear c.requires.clear_2 c.centred-first.ensures.writes c.centred-second.ensures.writes c.eq.result
+          (slice_eq-Decides Decides-eqb _ _ _ c.eq.ensures);
+      reported = coded c.if-n1-n2.false c.centred-first.ensures.centred_pairs c.centred-second.ensures.centred_pairs;
+    }

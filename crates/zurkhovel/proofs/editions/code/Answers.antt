@@ -4,17 +4,17 @@ use Prim.Native.Nat.{ℕ}
 use Rattle.refusal.specs.document.Table.{Row}
 use Rattle.limits.specs.document.Limits.{size}
 use Rattle.digit_code.specs.document.Code.{code_rows}
-use Rattle.edition.specs.Laws.{no_edition, lawful_limit}
-use Rattle.edition.proofs.Laws.{answers_in}
+use Rattle.edition.specs.Laws.{lawful_limit}
+use Rattle.edition.proofs.Laws.{answers_in, no_edition}
 use Rattle.zurkhovel.proofs.editions.code.Goals as goal
 
-pub returns-then-limit-eq0 : goal.returns-then-limit-eq0
-returns-then-limit-eq0 c = let rows : ℕ → List Row = λ R. let a = c.args in code_rows size R a.code.now in
-    no_edition _ c.limit_of-limit.ensures (rows) c.if-limit-eq0.true
+pub returns-in_err-limit : goal.returns-in_err-limit
+returns-in_err-limit c = let rows : ℕ → List Row = λ R. let a = c.args in code_rows size R a.code.now in
+    no_edition _ rows c.from_residual.ensures.1 c.in_err-limit.ensures.1
 
 pub check-requires : goal.check-requires
-check-requires c = (lawful_limit _ c.limit_of-limit.ensures c.if-limit-eq0.false).0
+check-requires c = (lawful_limit _ c.in_ok-limit.ensures).0
 
 pub returns : goal.returns
 returns c = let rows : ℕ → List Row = λ R. let a = c.args in code_rows size R a.code.now in
-    answers_in _ c.limit_of-limit.ensures c.if-limit-eq0.false (rows) c.check.ensures
+    answers_in _ c.in_ok-limit.ensures (rows) c.check.ensures

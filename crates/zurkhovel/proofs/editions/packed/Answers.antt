@@ -5,17 +5,18 @@ use borrow.Author.Rules.{rules}
 use Rattle.refusal.specs.document.Table.{Row}
 use Rattle.limits.specs.document.Limits.{packed_bytes}
 use Rattle.bits.specs.document.Bits.{packed_rows}
+use Rattle.refusal.proofs.Laws.{is_refusal}
 use Rattle.edition.specs.Laws.{lawful_limit}
 use Rattle.zurkhovel.proofs.Carried.{form-none, form_in}
 use Rattle.zurkhovel.proofs.editions.packed.Goals as goal
 
-pub returns-then-limit-eq0 : goal.returns-then-limit-eq0
-returns-then-limit-eq0 c = let rows : ℕ → List Row = λ R. let a = c.args in packed_rows packed_bytes R a.s.now in
-    form-none _ c.limit_of-limit.ensures (rows) c.if-limit-eq0.true (search rules)
+pub returns-in_err-limit : goal.returns-in_err-limit
+returns-in_err-limit c = let rows : ℕ → List Row = λ R. let a = c.args in packed_rows packed_bytes R a.s.now in
+    rw (is_refusal c.from_residual.result c.from_residual.ensures.1) (form-none _ rows c.in_err-limit.ensures.1 (search rules))
 
 pub packed_code-requires : goal.packed_code-requires
-packed_code-requires c = record { le_limit = lawful_limit _ c.limit_of-limit.ensures c.if-limit-eq0.false; out_len = search rules }
+packed_code-requires c = record { le_limit = lawful_limit _ c.in_ok-limit.ensures; out_len = search rules }
 
 pub returns : goal.returns
 returns c = let rows : ℕ → List Row = λ R. let a = c.args in packed_rows packed_bytes R a.s.now in
-    form_in _ c.limit_of-limit.ensures c.if-limit-eq0.false (rows) c.packed_code.ensures
+    form_in _ c.in_ok-limit.ensures (rows) c.packed_code.ensures

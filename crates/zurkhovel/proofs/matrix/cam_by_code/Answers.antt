@@ -1,4 +1,6 @@
 -- `zurkhovel::matrix::cam_by_code` keeps its promise. Assumes nothing.
+use Rattle.refusal.proofs.Giving.{reported_exit, reported_short}
+use Rattle.refusal.proofs.Laws.{room_of}
 use mathlib.Core.Path.{refl, sym}
 use native.Mathlib.Omega.{arith}
 use Rattle.refusal.specs.Laws.{at_least, at_most, others}
@@ -11,29 +13,29 @@ use Rattle.zurkhovel.proofs.Numbered.{ends_length, ends_skeleton, ends_physical,
 use Rattle.zurkhovel.proofs.matrix.cam_by_code.Goals as goal
 
 pub overflow_sub-need : goal.overflow_sub-need
-overflow_sub-need c = let known : ListedByCode c.args.edition size c.args.n c.args.edges.now c.by_code.new.ends c.in-Pairs.looked = was_coded c.by_code.ensures c.in-Pairs.is in
+overflow_sub-need c = let known : ListedByCode c.args.edition size c.args.n c.args.edges.now c.by_code.new.ends c.in_ok-pairs.pairs = was_coded c.in_ok-pairs.ensures in
     at_least (others known.clear)
 
-pub returns-then-out-need : goal.returns-then-out-need
-returns-then-out-need c = let known : ListedByCode c.args.edition size c.args.n c.args.edges.now c.by_code.new.ends c.in-Pairs.looked = was_coded c.by_code.ensures c.in-Pairs.is in
-    record { promised = cam-short (known) c.if-out-need.true refl; reported = refl }
+pub returns-in_err-fits : goal.returns-in_err-fits
+returns-in_err-fits c = let known : ListedByCode c.args.edition size c.args.n c.args.edges.now c.by_code.new.ends c.in_ok-pairs.pairs = was_coded c.in_ok-pairs.ensures in
+    reported_short c.from_residual-in_err-fits.result c.from_residual-in_err-fits.ensures.1 c.in_err-fits.ensures (λ l. cam-short (known) l refl)
 
 pub slice_bounds-ends-end : goal.slice_bounds-ends-end
-slice_bounds-ends-end c = let known : ListedByCode c.args.edition size c.args.n c.args.edges.now c.by_code.new.ends c.in-Pairs.looked = was_coded c.by_code.ensures c.in-Pairs.is in
+slice_bounds-ends-end c = let known : ListedByCode c.args.edition size c.args.n c.args.edges.now c.by_code.new.ends c.in_ok-pairs.pairs = was_coded c.in_ok-pairs.ensures in
     known.within
 
 pub slice_bounds-write_cam-end : goal.slice_bounds-write_cam-end
-slice_bounds-write_cam-end c = let known : ListedByCode c.args.edition size c.args.n c.args.edges.now c.by_code.new.ends c.in-Pairs.looked = was_coded c.by_code.ensures c.in-Pairs.is in
+slice_bounds-write_cam-end c = let known : ListedByCode c.args.edition size c.args.n c.args.edges.now c.by_code.new.ends c.in_ok-pairs.pairs = was_coded c.in_ok-pairs.ensures in
     sym (ends_length (known))
 
 pub write_cam-requires : goal.write_cam-requires
-write_cam-requires c = let known : ListedByCode c.args.edition size c.args.n c.args.edges.now c.by_code.new.ends c.in-Pairs.looked = was_coded c.by_code.ensures c.in-Pairs.is in
-    let t = known in record { numbered = (numbered (ends_skeleton t), ends_physical t); n_le_size = (at_most (others t.clear), omega (arith, c.if-out-need.false)) }
+write_cam-requires c = let known : ListedByCode c.args.edition size c.args.n c.args.edges.now c.by_code.new.ends c.in_ok-pairs.pairs = was_coded c.in_ok-pairs.ensures in
+    let t = known in record { numbered = (numbered (ends_skeleton t), ends_physical t); n_le_size = (at_most (others t.clear), omega (arith, (room_of c.in_ok-fits.ensures))) }
 
-pub returns-in-Refused : goal.returns-in-Refused
-returns-in-Refused c = record { promised = refused-first (was_refused c.by_code.ensures c.in-Refused.is) refl; reported = refl }
+pub returns-in_err-pairs : goal.returns-in_err-pairs
+returns-in_err-pairs c = reported_exit _ c.from_residual.result c.from_residual.ensures.1 (refused-first (was_refused c.in_err-pairs.ensures) refl)
 
-pub returns-else-out-need : goal.returns-else-out-need
-returns-else-out-need c = let known : ListedByCode c.args.edition size c.args.n c.args.edges.now c.by_code.new.ends c.in-Pairs.looked = was_coded c.by_code.ensures c.in-Pairs.is in
+pub returns : goal.returns
+returns c = let known : ListedByCode c.args.edition size c.args.n c.args.edges.now c.by_code.new.ends c.in_ok-pairs.pairs = was_coded c.in_ok-pairs.ensures in
     let t = known in
-    record { promised = cam-given t c.if-out-need.false c.write_cam.ensures; reported = t.count }
+    record { promised = cam-given t (room_of c.in_ok-fits.ensures) c.write_cam.ensures; reported = t.count }

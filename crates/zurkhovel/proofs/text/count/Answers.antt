@@ -1,34 +1,27 @@
 -- `zurkhovel::text::count` keeps its promise. Assumes nothing.
+use mathlib.Core.Path.{◌≡◌, refl, sym, ap, ◌∙◌}
+use mathlib.Core.List.{List, ◌∷◌}
+use Prim.Native.Nat.{ℕ, zero, suc, ◌+◌}
 use native.Mathlib.Omega.{arith}
-use Rattle.zurkhovel.proofs.Counting.{sofar_none, record_more, refused-more, sofar_all}
+use lib.Seq.{take_all}
+use Rattle.std.proofs.Math.Dec.{eqb-suc-zero}
+use Rattle.std.specs.Prelude.{◌==◌, cond}
+use Rattle.std.specs.List.{count_by}
+use Rattle.std.proofs.lemmas.List.Sums.{count_by-le-length}
+use Rattle.std.proofs.lemmas.List.Recursion.{is_count_by}
+use Rattle.texts.specs.document.Demand.{zeros}
 use Rattle.zurkhovel.proofs.text.count.Goals as goal
 
-pub loop-i-init : goal.loop-i-init
-loop-i-init c = sofar_none _
-
-pub bounds-numbers-i : goal.bounds-numbers-i
-bounds-numbers-i c = omega arith
-
-pub overflow_add-i : goal.overflow_add-i
-overflow_add-i c = omega arith
-
-pub overflow_add-t : goal.overflow_add-t
-overflow_add-t c = omega (arith, c.loop-i.invariant.others)
-
-pub loop-i-smaller-then-k-eq0 : goal.loop-i-smaller-then-k-eq0
-loop-i-smaller-then-k-eq0 c = omega arith
-
-pub loop-i-preserved-then-k-eq0 : goal.loop-i-preserved-then-k-eq0
-loop-i-preserved-then-k-eq0 c = record_more c.loop-i.invariant (omega arith) c.if-k-eq0.true
-
-pub overflow_add-t-else-k-eq0 : goal.overflow_add-t-else-k-eq0
-overflow_add-t-else-k-eq0 c = omega (arith, c.loop-i.invariant.others)
-
-pub loop-i-smaller : goal.loop-i-smaller
-loop-i-smaller c = omega arith
-
-pub loop-i-preserved : goal.loop-i-preserved
-loop-i-preserved c = refused-more c.loop-i.invariant (omega arith) c.if-k-eq0.false
+zeros_counted : (ns : List ℕ) → zeros ns ≡ count_by (λ k. k == 0) ns
+unfolding zeros
+zeros_counted = is_count_by zeros (λ k. k == 0) refl step
+  where
+    step : (k : ℕ) (ns : List ℕ) → zeros (k ∷ ns) ≡ cond (k == 0) (1 + zeros ns) (zeros ns)
+    step zero ns = omega arith
+    step (suc k) ns = rw eqb-suc-zero
 
 pub returns : goal.returns
-returns c = sofar_all c.loop-i.invariant (omega arith)
+returns c =
+    let all = c.args.numbers.now in
+    let counted : c.loop-k.read ≡ count_by (λ k. k == 0) all = c.loop-k.invariant ∙ ap (λ ns. count_by (λ k. k == 0) ns) (take_all c.loop-k.k-index all c.loop-k-test.false) in
+    record { records = counted ∙ sym (zeros_counted all); others = omega (arith, count_by-le-length (λ k. k == 0) all, counted) }

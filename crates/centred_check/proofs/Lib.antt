@@ -1,0 +1,3 @@
+-- What several functions' proofs share. Assumes nothing.
+pub mod Smaller
+pub mod Decided
