@@ -294,7 +294,7 @@ pub fn read_line(limit: u8, text: &[u8], out: &mut [u8]) -> Result<usize, Refusa
 pub fn read_line_of(edition: usize, text: &[u8], out: &mut [u8]) -> Result<usize, Refusal>
     ensures { LineRead size (lines_of edition) text.now out.old out.new (told result) }
 {
-    let limit = edition::limit_of(edition)?;
+    let limit = edition::limit_in(edition)?;
     read_line(limit, text, out)
 }
 

@@ -20,10 +20,11 @@ use Rattle.edge_list.specs.document.Edges.{edge_rows}
 use Rattle.zurkhovel.specs.document.InEdition.{edge_table}
 
 -- what was checked of a list for the limit r of an edition is so of the edition
-module _ (e : ℕ) {r : ℕ} (i : (r ≡ neighbours_in e) × IsEdition e) (N : ℕ) (E : List ℕ) where
+module _ (e : ℕ) {r : ℕ} (is : r ≡ neighbours_in e) (N : ℕ) (E : List ℕ) where
   pub list_refuses : {k p : ℕ} → FirstRefusal (edge_rows size r N E 1) k p → FirstRefusal (list_rows e N E) k p
-  list_refuses {k} {p} l = subst (λ (x : ℕ). FirstRefusal (edge_rows size x N E 1) k p) i.0 l
+  list_refuses {k} {p} l = subst (λ (x : ℕ). FirstRefusal (edge_rows size x N E 1) k p) is l
 
+module _ (e : ℕ) {r : ℕ} (i : (r ≡ neighbours_in e) × IsEdition e) (N : ℕ) (E : List ℕ) where
   pub list_clears : Clear (edge_rows size r N E 1) → Clear (edge_table e size N E 1)
   list_clears c = clear_in e i (λ R. edge_rows size R N E 1) c
 

@@ -10,7 +10,7 @@ ghost use Rattle.fraction.specs.document.Fraction.{bits_of};
 ghost use Rattle.zurkhovel.specs.document.InEdition.{code_table, form_table, edge_table, packed_table, whole_table, fraction_table, cam_table, zero_table, a_table};
 ghost use Rattle.zurkhovel.specs.document.Same.{both_rows};
 
-use edition::limit_of;
+use edition::limit_in;
 use limits::SIZE;
 use refusal::{ListRefusal, Refusal};
 
@@ -18,7 +18,7 @@ use refusal::{ListRefusal, Refusal};
 pub(crate) fn code(edition: usize, code: &[u8]) -> Result<(), Refusal>
     ensures { Answers (code_table edition code.now) result }
 {
-    let limit = limit_of(edition)?;
+    let limit = limit_in(edition)?;
     digit_code::check(limit, code)
 }
 
@@ -26,7 +26,7 @@ pub(crate) fn code(edition: usize, code: &[u8]) -> Result<(), Refusal>
 pub(crate) fn n_tuple(edition: usize, code: &[u8]) -> Result<(), Refusal>
     ensures { Answers (form_table edition IsNTuple code.now) result }
 {
-    let limit = limit_of(edition)?;
+    let limit = limit_in(edition)?;
     form_coder::check_n_tuple(limit, code)
 }
 
@@ -34,7 +34,7 @@ pub(crate) fn n_tuple(edition: usize, code: &[u8]) -> Result<(), Refusal>
 pub(crate) fn centred(edition: usize, code: &[u8]) -> Result<(), Refusal>
     ensures { Answers (form_table edition IsCentred code.now) result }
 {
-    let limit = limit_of(edition)?;
+    let limit = limit_in(edition)?;
     centred_check::check(limit, code)
 }
 
@@ -48,7 +48,7 @@ pub(crate) fn edges(
 ) -> Result<(), Refusal>
     ensures { Answers (edge_table edition most n edges.now root) result }
 {
-    let limit = limit_of(edition)?;
+    let limit = limit_in(edition)?;
     edge_list::check(most, limit, n, edges, root)
 }
 
@@ -62,7 +62,7 @@ pub(crate) fn both(
 ) -> Result<(), ListRefusal>
     ensures { Judges (both_rows edition n1 edges1.now n2 edges2.now) result }
 {
-    let limit = match limit_of(edition) {
+    let limit = match limit_in(edition) {
         Ok(limit) => limit,
         Err(refusal) => return Err(ListRefusal { list: 0, refusal }),
     };
@@ -79,7 +79,7 @@ pub(crate) fn both(
 pub(crate) fn cam(edition: usize, n: usize, cam: &[u8]) -> Result<(), Refusal>
     ensures { Answers (cam_table edition n cam.now) result }
 {
-    let limit = limit_of(edition)?;
+    let limit = limit_in(edition)?;
     adjacency::cam_check(limit, n, cam)
 }
 
@@ -87,7 +87,7 @@ pub(crate) fn cam(edition: usize, n: usize, cam: &[u8]) -> Result<(), Refusal>
 pub(crate) fn zero_a(edition: usize, n: usize, value: u64) -> Result<(), Refusal>
     ensures { Answers (zero_table edition n value) result }
 {
-    let limit = limit_of(edition)?;
+    let limit = limit_in(edition)?;
     adjacency::zero_check(limit, n, value)
 }
 
@@ -95,7 +95,7 @@ pub(crate) fn zero_a(edition: usize, n: usize, value: u64) -> Result<(), Refusal
 pub(crate) fn a_zero(edition: usize, n: usize, value: u64) -> Result<(), Refusal>
     ensures { Answers (a_table edition n value) result }
 {
-    let limit = limit_of(edition)?;
+    let limit = limit_in(edition)?;
     adjacency::a_check(limit, n, value)
 }
 
@@ -104,7 +104,7 @@ pub(crate) fn packed(edition: usize, s: &[u8], out: &mut [u8]) -> Result<usize, 
     requires { length out.old ≡ size }
     ensures { Decision (packed_table edition s.now) (neighbours_in edition) Fill (bit_bytes s.now) out.new result }
 {
-    let limit = limit_of(edition)?;
+    let limit = limit_in(edition)?;
     bits::packed_code(limit, s, out)
 }
 
@@ -113,7 +113,7 @@ pub(crate) fn whole(edition: usize, n: usize, value: u64, out: &mut [u8]) -> Res
     requires { length out.old ≡ size }
     ensures { Decision (whole_table edition n value) (neighbours_in edition) Nothing (word (2 * n - 1) value) out.new result }
 {
-    let limit = limit_of(edition)?;
+    let limit = limit_in(edition)?;
     bits::number_code(limit, n, value, out)
 }
 
@@ -122,6 +122,6 @@ pub(crate) fn fraction(edition: usize, x: f64, out: &mut [u8]) -> Result<usize, 
     requires { length out.old ≡ size }
     ensures { Decision (fraction_table edition x) (neighbours_in edition) Zeros (bits_of x) out.new result }
 {
-    let limit = limit_of(edition)?;
+    let limit = limit_in(edition)?;
     fraction::fraction_code(limit, x, out)
 }

@@ -19,7 +19,7 @@ check-requires c = (lawful_limit _ c.in-Ok.ensures).1
 
 pub returns-in-Err-check : goal.returns-in-Err-check
 returns-in-Err-check c = let s = c.args in
-    one_fails (both_first _ s.n2 s.edges1.now s.edges2.now c.in-Ok.ensures.1 (list_refuses _ c.in-Ok.ensures s.n1 s.edges1.now (refusal_of c.in-Err-check.ensures)))
+    one_fails (both_first _ s.n2 s.edges1.now s.edges2.now c.in-Ok.ensures.1 (list_refuses _ c.in-Ok.ensures.0 s.n1 s.edges1.now (refusal_of c.in-Err-check.ensures)))
 
 pub check-requires-2 : goal.check-requires-2
 check-requires-2 c = (lawful_limit _ c.in-Ok.ensures).1
@@ -27,7 +27,7 @@ check-requires-2 c = (lawful_limit _ c.in-Ok.ensures).1
 pub returns-in-Err-check-2 : goal.returns-in-Err-check-2
 returns-in-Err-check-2 c = let s = c.args in
     let first = list_clears s.edition c.in-Ok.ensures s.n1 s.edges1.now (clear_of c.in_default.ensures) in
-    one_fails (both-second _ _ s.edges1.now s.edges2.now first (list_refuses _ c.in-Ok.ensures s.n2 s.edges2.now (refusal_of c.in-Err-check-2.ensures)))
+    one_fails (both-second _ _ s.edges1.now s.edges2.now first (list_refuses _ c.in-Ok.ensures.0 s.n2 s.edges2.now (refusal_of c.in-Err-check-2.ensures)))
 
 pub returns : goal.returns
 returns c = let s = c.args in
