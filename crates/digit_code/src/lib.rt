@@ -193,14 +193,16 @@ pub fn check(limit: u8, code: &[u8]) -> Result<(), Refusal>
     ordered(code)
 }
 
-// v put k times on top of the open places, of which there are t; how many there are then.
+// v put k times on top of the open places, of which there are t; how many there are then. Of a `for` over the places the compiler makes a call of memset, for nine at most,
+// which costs the deepest of the decoders 64 bytes of stack.
 pub fn push(places: &mut [u8], t: usize, v: u8, k: u8) -> usize
     requires { t + k ≤ length places.old }
     ensures { Pushed places.old places.new t v k result }
 {
-    let r = t + k as usize;
-    for i in t..r {
-        places[i] = v;
+    let mut r = t;
+    for _ in 0..k {
+        places[r] = v;
+        r += 1;
     }
     r
 }

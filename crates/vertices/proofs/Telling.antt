@@ -1,16 +1,17 @@
 -- Whether a vertex before it is like a vertex, by the parents and the ends of the parts that are known, and by the classes that stand.
 --
 -- In order: what the digits tell of the marks; the array of the parents; the root; another vertex. Assumes nothing.
-use mathlib.Core.Path.{◌≡◌, sym, ap, ◌∙◌}
-use mathlib.Core.Bool.{Bool, false}
-use mathlib.Core.List.{List}
+use mathlib.Core.Path.{◌≡◌, sym, ap, ap₂, ◌∙◌}
+use mathlib.Core.Bool.{Bool, true, false}
+use mathlib.Core.List.{List, [], ◌∷◌, head-eq_of_cons-eq, tail-eq_of_cons-eq}
 use Prim.Native.Nat.{ℕ, zero, suc, ◌+◌, ◌-◌, ◌*◌, ◌≤◌, ◌<◌}
+use native.Mathlib.Numerals.{add-one}
 use native.Mathlib.Omega.{arith}
 use lib.ListN.{length, get_or, take, drop, get_or-append}
 use lib.Seq.{get_or-take}
 use Rattle.laws.specs.document.Laid.{laid_over, Laid}
 use Rattle.laws.specs.Laid.{laid_length}
-use Rattle.laws.specs.Part.{part}
+use Rattle.laws.specs.Part.{part, part_none, part_cons}
 use Rattle.laws.specs.Tells.{Tells, holds, denies}
 use Rattle.limits.specs.document.Limits.{size}
 use Rattle.digit_code.specs.document.Code.{plain, decode}
@@ -116,3 +117,24 @@ module _ {c edges : List ℕ} (a : Above c edges) where
     pub codes_decide : {r : Bool} → above u ≡ above v → Tells (part u (get_or ends u 0) c ≡ part v (get_or ends v 0) c) r → Tells (Test c (take v known) (suc u) (suc v)) r
     codes_decide e (holds q) = told_by (holds (e, subtree_part (ending u (omega arith)) ∙ q ∙ sym (subtree_part (ending v l))))
     codes_decide e (denies n) = told_by (denies (λ h. n (sym (subtree_part (ending u (omega arith))) ∙ h.1 ∙ subtree_part (ending v l))))
+
+    -- a code by its first mark and the others
+    cut : (i : ℕ) → i < length c → part i (get_or ends i 0) c ≡ get_or c i 0 ∷ part (i + 1) (get_or ends i 0) c
+    cut i h = part_cons i (get_or ends i 0) c 0 (ending i h).after h ∙ ap (λ (m : ℕ). get_or c i 0 ∷ part m (get_or ends i 0) c) (sym (add-one i))
+
+    pub marks_differ : above u ≡ above v → (get_or c u 0 ≡ get_or c v 0 → ⊥) → Tells (Test c (take v known) (suc u) (suc v)) false
+    marks_differ e n = codes_decide e (denies (λ h. n (head-eq_of_cons-eq (sym (cut u (omega arith)) ∙ h ∙ cut v l))))
+
+    -- where the first marks are equal, the others decide
+    pub others_decide : {r : Bool} → above u ≡ above v → get_or c u 0 ≡ get_or c v 0 → Tells (part (u + 1) (get_or ends u 0) c ≡ part (v + 1) (get_or ends v 0) c) r
+        → Tells (Test c (take v known) (suc u) (suc v)) r
+    others_decide e f (holds q) = codes_decide e (holds (cut u (omega arith) ∙ ap₂ ◌∷◌ f q ∙ sym (cut v l)))
+    others_decide e f (denies n) = codes_decide e (denies (λ h. n (tail-eq_of_cons-eq (sym (cut u (omega arith)) ∙ h ∙ cut v l))))
+
+    -- a leaf has no others
+    none : (i : ℕ) → get_or ends i 0 ≡ i + 1 → part (i + 1) (get_or ends i 0) c ≡ []
+    none i s = ap (λ (e : ℕ). part (i + 1) e c) s ∙ part_none (i + 1) c
+
+    pub leaves_alike : above u ≡ above v → get_or c u 0 ≡ get_or c v 0 → get_or ends u 0 - u ≡ get_or ends v 0 - v → get_or ends u 0 ≡ u + 1
+        → Tells (Test c (take v known) (suc u) (suc v)) true
+    leaves_alike e f n s = others_decide e f (holds (none u s ∙ sym (none v (omega (arith, n, s, (ending v l).after)))))

@@ -49,7 +49,8 @@ fn turns(code: &[u8], ends: &[u8], edges: &[u8], v: usize) -> bool
 }
 
 // Whether the vertex of mark u, which is not the root, is like that of mark v behind it: their parents are of one class, and their subtree codes
-// equal. Codes of different lengths are told apart unread.
+// equal. Codes of different lengths are told apart unread. Of others the first marks are held against one another before a slice is made, since most that
+// come so far are leaves, and `==` of slices is dear.
 fn alike(code: &[u8], ends: &[u8], edges: &[u8], known: &[u8], u: usize, v: usize) -> bool
     requires known { Known atoms.arity code.now ends.now 0 }
     requires above { Above code.now edges.now }
@@ -64,7 +65,10 @@ fn alike(code: &[u8], ends: &[u8], edges: &[u8], known: &[u8], u: usize, v: usiz
     }
     let a = ends[u] as usize;
     let b = ends[v] as usize;
-    a - u == b - v && code[u..a] == code[v..b]
+    if a - u != b - v || code[u] != code[v] {
+        return false;
+    }
+    a == u + 1 || code[u + 1..a] == code[v + 1..b]
 }
 
 // The class of the first vertex before that of mark v which is like it; `new` where there is none.

@@ -1,7 +1,13 @@
 -- `digit_code::push` meets its contract. Assumes nothing.
 use native.Mathlib.Omega.{arith}
-use Rattle.digit_code.specs.Stack.{push-one, push-all}
+use Rattle.digit_code.specs.Stack.{push-none, push-one, push-all}
 use Rattle.digit_code.proofs.push.Goals as goal
 
-pub loop-i-preserved : goal.loop-i-preserved
-loop-i-preserved c = push-all (push-one c.loop-i.invariant (omega (arith, c.loop-i.invariant.long, c.requires))) (omega arith) (omega arith)
+pub loop-init : goal.loop-init
+loop-init c = push-none _ _ _
+
+pub loop-preserved : goal.loop-preserved
+loop-preserved c = push-one c.loop.invariant (omega (arith, c.loop.invariant.long, c.loop.invariant.count, c.requires))
+
+pub returns : goal.returns
+returns c = push-all c.loop.invariant (omega arith) (omega arith)
