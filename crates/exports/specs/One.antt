@@ -88,7 +88,7 @@ one-judged {P} f r s (o, x, e) (q, y, g) =
 
 module _ (e : ℕ) where
   pub one_zk_check_code : (c : List ℕ) (r s : ℕ) → PackedAnswer (CheckCode e c) r → PackedAnswer (CheckCode e c) s → r ≡ s
-  one_zk_check_code c = one-check (codes.one-check-code e c)
+  one_zk_check_code c = one-check codes.one-check
 
   pub one_zk_decode_code :
       (c : List ℕ) (old new new' : List ℕ) (r s : ℕ) → PackedAnswer (DecodeCode e c old new) r → PackedAnswer (DecodeCode e c old new') s
@@ -106,7 +106,7 @@ module _ (e : ℕ) where
   one_zk_decode_centred c old new new' = one_written (codes.one-decode-centred e c old new new')
 
   pub one_zk_check_edges : (N : ℕ) (E : List ℕ) (root : ℕ) (r s : ℕ) → PackedAnswer (CheckEdges e N E root) r → PackedAnswer (CheckEdges e N E root) s → r ≡ s
-  one_zk_check_edges N E root = one-check (codes.one-check-edges e N E root)
+  one_zk_check_edges N E root = one-check codes.one-check
 
   pub one_zk_rooted_code :
       (N : ℕ) (E : List ℕ) (root : ℕ) (old new new' : List ℕ) (r s : ℕ) → PackedAnswer (RootedCode e N E root old new) r → PackedAnswer (RootedCode e N E root old new') s
@@ -141,7 +141,7 @@ module _ (e : ℕ) where
 
   pub one_zk_check_renumbering :
       (N : ℕ) (E : List ℕ) (P : ℕ) (F w : List ℕ) (r s : ℕ) → PackedMapping (CheckRenumbering e N E P F w) r → PackedMapping (CheckRenumbering e N E P F w) s → r ≡ s
-  one_zk_check_renumbering N E P F w = one-judged (carried.one-check-renumbering e N E P F w)
+  one_zk_check_renumbering N E P F w = one-judged carried.one-map-check
 
   pub one_zk_unpack :
       (b : List ℕ) (old new new' : List ℕ) (r s : ℕ) → PackedAnswer (Unpack e b old new) r → PackedAnswer (Unpack e b old new') s

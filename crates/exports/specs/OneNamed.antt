@@ -12,6 +12,8 @@ use Rattle.named.specs.document.Codes.{NamedCheckCode, NamedDecodeCode, NamedDec
 use Rattle.named.specs.document.Same.{NamedSameSkeleton, NamedHandOut, NamedCheckRenumbering, NamedOfBoth}
 use Rattle.named.specs.document.Text.{NamedWriteLine, NamedReadLine}
 use Rattle.named.specs.document.Alike.{NamedEqualVertices}
+use Rattle.zurkhovel.specs.One as codes
+use Rattle.zurkhovel.specs.OneMaps as carried
 use Rattle.named.specs.One as answers
 use Rattle.named.specs.OneReported as calls
 use Rattle.packing.specs.document.Packing.{PackedAnswer, PackedFinding, PackedMapping}
@@ -22,7 +24,7 @@ use Rattle.exports.specs.OneReported as reported
 -- ---- codes and edge lists
 
 pub one_zk_named_check_code : (ds ls : List ℕ) (r q : ℕ) → PackedAnswer (NamedCheckCode ds ls) r → PackedAnswer (NamedCheckCode ds ls) q → r ≡ q
-one_zk_named_check_code ds ls = one-check (answers.one-named-check-code ds ls)
+one_zk_named_check_code ds ls = one-check codes.one-check
 
 pub one_zk_named_decode_code :
     (ds ls : List ℕ) (old new new' : TwoOutputs) (r q : ℕ) → PackedAnswer (NamedDecodeCode ds ls old new) r → PackedAnswer (NamedDecodeCode ds ls old new') q → (r ≡ q) × (new ≡ new')
@@ -38,7 +40,7 @@ one_zk_named_decode_centred ds ls old new new' = plain.one_written (answers.one-
 
 module _ (N : ℕ) (E s : List ℕ) where
   pub one_zk_named_check_edges : (root r q : ℕ) → PackedAnswer (NamedCheckEdges N E s root) r → PackedAnswer (NamedCheckEdges N E s root) q → r ≡ q
-  one_zk_named_check_edges root = one-check (answers.one-named-check-edges N E s root)
+  one_zk_named_check_edges root = one-check codes.one-check
 
   pub one_zk_named_rooted_code :
       (root : ℕ) (old new new' : TwoOutputs) (m m' r q : ℕ) → PackedAnswer (λ o. Reporting (NamedRootedCode N E s root old new) (NamedAtRoot N E s root) o m) r
@@ -90,4 +92,4 @@ module _ (N : ℕ) (E s : List ℕ) (P : ℕ) (F u : List ℕ) where
 
   pub one_zk_named_check_renumbering :
       (w : List ℕ) (r q : ℕ) → PackedMapping (NamedCheckRenumbering N E s P F u w) r → PackedMapping (NamedCheckRenumbering N E s P F u w) q → r ≡ q
-  one_zk_named_check_renumbering w = one-judged (answers.one-named-check-renumbering N E s P F u w)
+  one_zk_named_check_renumbering w = one-judged carried.one-map-check

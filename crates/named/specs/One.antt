@@ -1,5 +1,5 @@
 -- Read from its promise alone, every public call on skeletons with named atoms has one possible result and one possible state of what it is lent, as in `One` of the crate `zurkhovel`. r, s: the call's own results; new, new':
--- what was lent, after it. Of a call that only checks, r and s are `unwritten` of its results. Of a call that also reports how many pairs it looked at, r and s are its answers. Assumes nothing.
+-- what was lent, after it. Of a call that also reports how many pairs it looked at, r and s are its answers. Assumes nothing.
 --
 -- In order: what is right is one; codes; two lists; lines; equal vertices. The forms that take carbon only are in `OneBits`, `OneMatrix` and `OneText` of the crate `zurkhovel`, over any table.
 use Rattle.std.specs.Prelude.{Bool}
@@ -11,7 +11,7 @@ use Rattle.std.specs.Prelude.{◌≡◌, refl, List, [], ◌∷◌, ℕ}
 use Rattle.std.proofs.Common.{sym, ap, ap₂, ◌∙◌, subst}
 use Rattle.refusal.specs.document.Table.{Clear}
 use Rattle.refusal.specs.document.Both.{TwoOutputs}
-use Rattle.refusal.specs.document.Outcome.{told}
+use Rattle.refusal.specs.document.Outcome.{told, unwritten}
 use Rattle.refusal.proofs.Apart.{told-both, told_of_apart}
 use Rattle.refusal.proofs.Laws.{one_result}
 use Rattle.refusal.proofs.Giving.{one_clear}
@@ -33,7 +33,8 @@ use Rattle.lines.specs.declared.Progress.{Progress}
 use Rattle.named_lines.specs.document.Named.{named_table, lines_of_named, named_lent}
 use Rattle.named_lines.specs.NamedSound.{named_once}
 use Rattle.listing_text.specs.Theorems as Listing
-use Rattle.zurkhovel.specs.One.{one-check, one_found}
+use Rattle.zurkhovel.specs.One.{one-passed, one_found}
+use Rattle.zurkhovel.specs.OneMaps.{one-map-passed}
 use Rattle.named.specs.document.Codes.{Spelled, NamedForm, NamedCheckCode, NamedDecodeCode, NamedDecodeForm, NamedCheckEdges, NamedRootedCode, NamedFormCode}
 use Rattle.named.specs.document.Same.{named_list_rows, NamedSameSkeleton, NamedHandOut, NamedCheckRenumbering}
 use Rattle.named.specs.document.Text.{NamedWriteLine, NamedReadLine, NamedReadText, NamedListText}
@@ -59,8 +60,8 @@ both-only e = (cc, cc)
 
 -- ---- codes
 
-pub one-named-check-code : (ds ls : List ℕ) (r s : Result ℕ Refusal) → NamedCheckCode ds ls (told r) → NamedCheckCode ds ls (told s) → r ≡ s
-one-named-check-code ds ls = one-check
+pub one-named-check-code : (ds ls : List ℕ) (r s : Result (Unit {0}) Refusal) → NamedCheckCode ds ls (told (unwritten r)) → NamedCheckCode ds ls (told (unwritten s)) → r ≡ s
+one-named-check-code ds ls = one-passed
 
 pub one-named-decode-code :
     (ds ls : List ℕ) (old new new' : TwoOutputs) (r s : Result ℕ Refusal) → NamedDecodeCode ds ls old new (told r) → NamedDecodeCode ds ls old new' (told s) → (r ≡ s) × (new ≡ new')
@@ -82,8 +83,9 @@ pub one-named-decode-centred :
 one-named-decode-centred = one-decode-form (IsCentredₗ atoms)
 
 module _ (N : ℕ) (E s : List ℕ) where
-  pub one-named-check-edges : (root : ℕ) (r q : Result ℕ Refusal) → NamedCheckEdges N E s root (told r) → NamedCheckEdges N E s root (told q) → r ≡ q
-  one-named-check-edges root = one-check
+  pub one-named-check-edges :
+      (root : ℕ) (r q : Result (Unit {0}) Refusal) → NamedCheckEdges N E s root (told (unwritten r)) → NamedCheckEdges N E s root (told (unwritten q)) → r ≡ q
+  one-named-check-edges root = one-passed
 
   pub one-named-rooted-code :
       (root : ℕ) (old new new' : TwoOutputs) (r q : Result ℕ Refusal) → NamedRootedCode N E s root old new (told r) → NamedRootedCode N E s root old new' (told q) → (r ≡ q) × (new ≡ new')
@@ -119,8 +121,9 @@ module _ (N : ℕ) (E s : List ℕ) where
         (told_of_apart r q e, f)
 
     pub one-named-check-renumbering :
-        (w : List ℕ) (r q : Result ℕ ListRefusal) → NamedCheckRenumbering N E s P F u w (told_of r) → NamedCheckRenumbering N E s P F u w (told_of q) → r ≡ q
-    one-named-check-renumbering w r q x y = told_of_apart r q (one_result (λ a b e f. (e ∙ sym f, refl)) x y).0
+        (w : List ℕ) (r q : Result (Unit {0}) ListRefusal) → NamedCheckRenumbering N E s P F u w (told_of (unwritten r))
+        → NamedCheckRenumbering N E s P F u w (told_of (unwritten q)) → r ≡ q
+    one-named-check-renumbering w = one-map-passed
 
   -- ---- lines and equal vertices
 

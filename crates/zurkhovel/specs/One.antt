@@ -1,8 +1,7 @@
 -- Read from its promise alone, every public call has one possible result and one possible state of its lent output. r, s: the call's own
 -- results; new, new': the output after it. Each is a case of one law, `one_result`, by way of `one-given` where the call writes; the law is
--- about what is told of a result, which tells two different ones apart (`Apart` of the crate `refusal`). Of a call that only checks, r and s
--- are `unwritten` of its results, and the results are one by `one-passed`. Of a call that also reports how many pairs it looked at, r and s are
--- its answers; with the number it is said in `OneReported`. Assumes nothing.
+-- about what is told of a result, which tells two different ones apart (`Apart` of the crate `refusal`). Of a call that also reports how many pairs it
+-- looked at, r and s are its answers; with the number it is said in `OneReported`. Assumes nothing.
 use Rattle.refusal.specs.declared.ListRefusal.{ListRefusal}
 use Rattle.refusal.specs.document.Outcome.{told_of}
 use Rattle.std.specs.Prelude.{Result}
@@ -24,10 +23,11 @@ use Rattle.zurkhovel.specs.Accepted.{tree_of}
 pub equal : (x c d : List ℕ) → c ≡ x → d ≡ x → c ≡ d
 equal x c d p q = p ∙ sym q
 
--- a call that only checks
+-- what a call that only checks is told as
 pub one-check : {rs : List Row} (r s : Result ℕ Refusal) → Answered rs (λ n. n ≡ 0) (told r) → Answered rs (λ n. n ≡ 0) (told s) → r ≡ s
 one-check r s a b = told_apart r s (one_result (λ n m p q. (p ∙ sym q, refl)) a b).0
 
+-- a call that only checks
 pub one-passed :
     {rs : List Row} (r s : Result (Unit {0}) Refusal) → Answered rs (λ n. n ≡ 0) (told (unwritten r)) → Answered rs (λ n. n ≡ 0) (told (unwritten s)) → r ≡ s
 one-passed r s a b = unwritten_apart r s (one-check (unwritten r) (unwritten s) a b)
@@ -42,15 +42,16 @@ one_found C D false false x y = refl
 -- ---- the calls, in the edition e
 
 module _ (e : ℕ) where
-  pub one-check-code : (c : List ℕ) (r s : Result ℕ Refusal) → CheckCode e c (told r) → CheckCode e c (told s) → r ≡ s
-  one-check-code c = one-check
+  pub one-check-code : (c : List ℕ) (r s : Result (Unit {0}) Refusal) → CheckCode e c (told (unwritten r)) → CheckCode e c (told (unwritten s)) → r ≡ s
+  one-check-code c = one-passed
 
   pub one-decode-code :
       (c old new new' : List ℕ) (r s : Result ℕ Refusal) → DecodeCode e c old new (told r) → DecodeCode e c old new' (told s) → (r ≡ s) × (new ≡ new')
   one-decode-code c old new new' r s a b = told-both r s (one-given (equal _) a b)
 
-  pub one-check-edges : (N : ℕ) (E : List ℕ) (root : ℕ) (r s : Result ℕ Refusal) → CheckEdges e N E root (told r) → CheckEdges e N E root (told s) → r ≡ s
-  one-check-edges N E root = one-check
+  pub one-check-edges :
+      (N : ℕ) (E : List ℕ) (root : ℕ) (r s : Result (Unit {0}) Refusal) → CheckEdges e N E root (told (unwritten r)) → CheckEdges e N E root (told (unwritten s)) → r ≡ s
+  one-check-edges N E root = one-passed
 
   pub one-rooted-code :
       (N : ℕ) (E : List ℕ) (root : ℕ) (old new new' : List ℕ) (r s : Result ℕ Refusal) → RootedCode e N E root old new (told r) → RootedCode e N E root old new' (told s)
