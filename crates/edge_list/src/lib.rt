@@ -258,7 +258,9 @@ pub struct Table {
 
 impl Table {
     // A table of no neighbours.
-    pub fn new() -> Table {
+    pub fn new() -> Table
+        ensures { (result.rows ≡ replicate size (replicate width 0)) × (result.degs ≡ replicate size 0) }
+    {
         Table {
             rows: [[0u8; WIDTH]; SIZE],
             degs: [0u8; SIZE],

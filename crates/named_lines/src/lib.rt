@@ -29,23 +29,23 @@ use refusal::Refusal;
 
 // What stands behind the digits of a named line.
 #[derive(Clone, Copy)]
-struct Lettering {
+pub struct Lettering {
     // how many letters there are
-    letters: usize,
+    pub letters: usize,
     // whether the counts behind them are theirs
-    matching: bool,
+    pub matching: bool,
 }
 
 // The form of a named line.
 #[derive(Clone, Copy)]
-struct Layout {
+pub struct Layout {
     // what its count says
-    count: usize,
+    pub count: usize,
     // where its digits begin, and where they end
-    start: usize,
-    end: usize,
+    pub start: usize,
+    pub end: usize,
     // and what stands behind them
-    tail: Lettering,
+    pub tail: Lettering,
 }
 
 // The number that `t` is, and 100 where it is above 99; none where it is none.

@@ -38,7 +38,7 @@ pub fn passed(check: Result<(), Refusal>) -> u32
     ensures { result ≡ packed (λ k. k) (λ n. n) (told (unwritten check)) }
 {
     match check {
-        Ok(()) => 0,
+        Ok(()) => 0, // nothing is written
         Err(refusal) => refused(refusal),
     }
 }
@@ -79,7 +79,7 @@ pub fn judged(check: Result<(), ListRefusal>) -> u32
     ensures { result ≡ packed with_list (λ n. n) (told_of (unwritten check)) }
 {
     match check {
-        Ok(()) => 0,
+        Ok(()) => 0, // no map is written
         Err(refusal) => refused_of(refusal),
     }
 }

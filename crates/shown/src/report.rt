@@ -12,7 +12,7 @@ fn pairs<T, E>(call: &Result<Reported<T>, E>) -> usize {
     }
 }
 
-fn looked(rt: &impl Print, name: &[u8], pairs: usize) -> io::Result<()> {
+pub fn looked(rt: &impl Print, name: &[u8], pairs: usize) -> io::Result<()> {
     text(rt, name)?;
     println!(rt; " looked at {pairs}")
 }
