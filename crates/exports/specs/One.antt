@@ -1,5 +1,6 @@
 -- Read from its promise alone, every C function has one possible answer and one possible state of what was lent to it. r, s: two answers to the
--- same input; new, new': the lent output after each. Each is the call's own theorem (`One` of the crate `zurkhovel`) through the packing.
+-- same input; new, new': the lent output after each. Each is the call's own theorem (`One` of the crate `zurkhovel`) through the packing; of a call that only checks, the law
+-- that its theorem stands on (`one-check`, `one-map-check`), since C is told what `unwritten` makes of its result.
 -- `zk_read_text`, `zk_count` and `zk_list` promise word for word what their calls do.
 --
 -- In order: the law for each kind of answer; the functions. Assumes nothing.

@@ -1,6 +1,6 @@
 -- Read from its promise alone, every C function on skeletons with named atoms has one possible whole number, one possible state of what was lent to it, and, where it hands over how many pairs
 -- were looked at, one number of them. r, q: two answers to the same input; new, new' and spelled, spelled': the lent outputs, or the place of a value, after each; m, m': the number. Each is the
--- call's own theorem (`One` and `OneReported` of the crate `named`) through the packing. `zk_named_read_text` and `zk_named_list` promise word for word what their calls do.
+-- call's own theorem (`One` and `OneReported` of the crate `named`) through the packing, or of a call that only checks the law that its theorem stands on, as in `One`. `zk_named_read_text` and `zk_named_list` promise word for word what their calls do.
 --
 -- In order: codes and edge lists; a line, and equal vertices; two lists. Those of the forms that take carbon only are in `One` and `OneReported`, over any table. Assumes nothing.
 use Rattle.std.specs.Prelude.{◌≡◌, List, ℕ}
